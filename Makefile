@@ -14,7 +14,8 @@
 # make in-turn: refuses everything that can be refused, one after another, and asserts what must hold each time (it needs cc; README.md has its
 # time). `tools/in-turn --wrong` plays wrong programs in the same way, each of which must fail.
 # make bench: measures the proved program, and the writing and reading of states (um_bench); the figures that a document calls
-# measured come from it. It ends with an error where a wanted ratio isn't met, that of queries while services run (docs/DECISIONS.md, "Serving").
+# measured come from it. It ends with an error where a wanted ratio isn't met, that of queries while services run, or a step costs more than it may
+# (docs/DECISIONS.md, "Serving").
 .PHONY: run umd unproved test edits bench runner-rows serve-rows ctl-rows memory-rows mutated in-turn
 run:
 	@sh tools/show
@@ -50,6 +51,7 @@ bench: umd
 	@bench/bytes crates/um_bench/out/um_bench
 	@bench/serve crates/umd/out/umd
 	@bench/sync crates/umd/out/umd
+	@bench/steps crates/umd/out/umd
 
 runner-rows: umd
 	@tools/runner-rows crates/umd/out/umd

@@ -1,22 +1,28 @@
 -- What is known for a state, by what the tests of it tell.
-use Rattle.std.proofs.Common.{◌≡◌, ◌⊎◌, ◌↔◌, ◌∙◌, ◌<◌, ◌≤◌, ℕ, List, Contains, Option, Some, None, Result, Ok, Err, is_some, Bool, true, true≢false, refl, sym, ap, subst, inl, inr, arith}
+use Rattle.std.proofs.Common.{◌≡◌, ◌⊎◌, ◌↔◌, ◌∙◌, ◌<◌, ◌≤◌, ℕ, List, [], Contains, Option, Some, None, Result, Ok, Err, is_some, Bool, true, true≢false, refl, sym, ap, subst, inl, inr, arith}
 use Rattle.std.specs.Prelude.{IfOk, MatchOption, slice_get, unwrap_or}
+use Rattle.std.proofs.lemmas.List.{get_or_default}
 use Rattle.std.proofs.lemmas.Option.{get_or_from_slice_get, none-some}
 use Rattle.um_graph.proofs.NamedLaws.{got_within}
 use Rattle.um_model.specs.Dependencies.{CountsFor, IsKnown, KnowsTooMany, extra}
 use Rattle.um_model.specs.Servable.{IsFew}
-use Rattle.um_model.specs.Machine.{State, IsHeld, IsHeldOr, IsTooHeavy, booted, PutFile, PutLink, Remove, Cancel, Changes, puts, links, removes, cancels, unit_asked}
+use Rattle.um_model.specs.Machine.{State, IsHeld, IsHeldOr, IsTooHeavy, Settles, booted, PutFile, PutLink, Remove, Cancel, Changes, puts, links, removes, cancels, unit_asked}
 use Rattle.um_model.specs.Reached.{first}
 use Rattle.um_model.specs.Tree.{Tree, without_run}
 use Rattle.um_model.specs.Weight.{weight_of}
 use Rattle.um_model.proofs.FewLaws.{booted_none, cancel_no_more}
 use Rattle.um_model.specs.Live.{HoldsNoMore}
+use Rattle.um_model.proofs.KeepsLaws.{settles_keeps}
 use Rattle.um_model.proofs.KnownLaws.{more_known}
 use Rattle.um_model.proofs.SceneLaws.{one_count}
 use Rattle.um_model.proofs.TreeLaws.{without_run_twice}
+use Rattle.um_name.specs.Names.{IsApart}
 use Rattle.um_graph.specs.Graph.{GraphView, IsGraphOf}
-use Rattle.um_engine.specs.Known.{AreLasting, IsHeldWith, IsGraphFor, KnownView, KnowsFor}
+use Rattle.um_state.specs.View.{state_of}
 use Rattle.um_falling.specs.Over.{Serves}
+use Rattle.um_falling.specs.Work.{Goes, Keeps, WorkView}
+use Rattle.um_engine.specs.Known.{AreLasting, IsHeldWith, IsGraphFor, KnownView, KnowsFor}
+use Rattle.um_engine.specs.Served.{ServedView, WorksOn, begun_at, standing_of}
 use Rattle.um_engine.proofs.SameUnitsLaws.{KnowsSame, count_by, graph_same, graph_too}
 
 module _ (s : State) (k : KnownView) (named : Option (List ℕ)) (knows : KnowsFor k s) (made : (x : List ℕ) → Contains k.extra x → IsHeldWith s named x)
@@ -48,6 +54,12 @@ exact_for s k knows made =
 -- what is known for a state serves for it
 pub serves_for : (k : KnownView) (s : State) → KnowsFor k s → Serves k.graph s
 serves_for k s h = record { extra = k.extra; graph = h.made.graph; of = h.made.of; held = h.held }
+
+-- no name that has no number in the graph is held
+pub none_apart : (k : KnownView) (s : State) → KnowsFor k s → (names : List (List ℕ)) → names ≡ k.graph.names → (x : List ℕ) → IsApart names x → IsHeld s x → ⊥
+none_apart k s h names same x apart held =
+    let there = h.held x held in
+    subst (λ ns. IsApart ns x) same apart there.0 there.1 (get_or_default k.graph.names there.0 [] x there.1 ∙ there.2)
 
 -- and stays so where the graph serves and the same tree is loaded
 pub knows_still : (k : KnownView) (s u : State) → KnowsFor k s → u.loaded ≡ s.loaded → ((unit : List ℕ) → IsHeld u unit → Contains k.graph.names unit) → KnowsFor k u
@@ -115,9 +127,6 @@ link_holds_no_more s _ path target (links e) = record { loaded = refl; held = λ
 pub remove_holds_no_more : (s u : State) (path : List ℕ) → Changes s (Remove path) u → HoldsNoMore s u
 remove_holds_no_more s _ path (removes e) = record { loaded = refl; held = λ x h. h }
 
-pub waiting_holds_no_more : (s : State) (asked : List ℕ) (u : State) → Changes s (Cancel asked) u → HoldsNoMore s u
-waiting_holds_no_more s asked _ cancels = cancel_no_more s (unit_asked s asked)
-
 -- the count for the list of what is held
 pub count_found : {E : Type 0} (s : State) (tree : Tree) (names : List (List ℕ)) → tree ≡ s.loaded → ((x : List ℕ) → Contains names x ↔ IsHeld s x)
     → (result : Result ℕ E) → IfOk result (λ units. CountsFor tree (Contains names) units) → IfOk result (λ units. CountsFor s.loaded (IsHeld s) units)
@@ -137,3 +146,27 @@ pub lasting_known : (tree : Tree) (others : List (List ℕ)) (g : GraphView) (o 
     → (unit : List ℕ) → Contains (unwrap_or o g.names) unit ↔ IsKnown (without_run tree) (Contains others) unit
 lasting_known tree others g None of same unit = subst (λ t. Contains g.names unit ↔ IsKnown t (Contains others) unit) (sym same) (of.known unit)
 lasting_known tree others g (Some names) of each unit = each unit
+
+-- ---- a step in work over what is served
+
+pub works_begun : (v : ServedView) (t : ℕ) → WorksOn v (begun_at (standing_of v) v.known.graph t)
+works_begun v t = record { graph = refl; base = refl; tree = refl; loaded = refl }
+
+-- it does so still where the trees stay
+pub works_still : (v : ServedView) (w x : WorkView) → WorksOn v w → Keeps w x → (state_of x.now).tree ≡ (state_of w.now).tree → (state_of x.now).loaded ≡ (state_of w.now).loaded → WorksOn v x
+works_still v w x works keeps tree loaded = record {
+  graph = keeps.graph ∙ works.graph;
+  base = keeps.base ∙ works.base;
+  tree = tree ∙ works.tree;
+  loaded = loaded ∙ works.loaded;
+}
+
+pub works_settled : (v : ServedView) (w x : WorkView) (t : ℕ) → WorksOn v w → Keeps w x → Goes (Settles t (state_of w.now)) w x → WorksOn v x
+works_settled v w x t works keeps (new, settles, is) =
+    let kept = settles_keeps t (state_of w.now) new (state_of x.now) settles in
+    works_still v w x works keeps kept.tree kept.loaded
+
+-- what is known for the one is known for where the work has come
+pub works_knows : (v : ServedView) (w : WorkView) → KnowsFor v.known v.state → WorksOn v w → Serves w.graph (state_of w.now) → KnowsFor v.known (state_of w.now)
+works_knows v w knows works serves =
+    knows_still v.known v.state (state_of w.now) knows works.loaded (λ x held. subst (λ (g : GraphView). Contains g.names x) works.graph (serves.held x held))

@@ -1,12 +1,10 @@
 -- What is found of a state by the numbers of a graph's units, and the plan that comes of it.
-use Rattle.std.proofs.Common.{◌≡◌, ◌≢◌, ◌⊎◌, ◌↔◌, ◌∙◌, ◌+◌, ◌<◌, ℕ, suc, List, [], ◌∷◌, ◌++◌, length, drop, get_or, Contains, Option, Some, None, Result, Ok, Err, unwrap_or, refl, sym, ap, subst, inl, inr, arith}
+use Rattle.std.proofs.Common.{◌≡◌, ◌≢◌, ◌⊎◌, ◌↔◌, ◌∙◌, ◌+◌, ◌<◌, ℕ, List, [], ◌∷◌, ◌++◌, length, get_or, Contains, Option, Some, None, Result, Ok, Err, unwrap_or, refl, sym, ap, subst, inl, inr, arith}
 use Rattle.std.specs.FinMap as map
-use Rattle.std.proofs.Math.Seq.{drop-cons}
 use Rattle.std.proofs.lemmas.Bool.{cases_lt}
 use Rattle.std.proofs.lemmas.List.{get_or_append_left, get_or_push}
 use Rattle.std.proofs.lemmas.List.Elements.{Contains-append_left, Contains-push, Contains-push_cases}
-use Rattle.std.proofs.lemmas.Option.{none-some, get_or_from_slice_get, slice_get-get_or}
-use Rattle.std.specs.List.{slice_get}
+use Rattle.std.proofs.lemmas.Option.{none-some, slice_get-get_or}
 use Rattle.std.specs.Result.{IfOk}
 use Rattle.um_model.specs.Dependencies.{IsKnown, extra, loadable_in}
 use Rattle.um_model.specs.Jobs.{jobs_of_unit, no_jobs, with_jobs}
@@ -21,8 +19,12 @@ use Rattle.um_model.specs.declared.service.ActiveState.{ActiveState}
 use Rattle.um_model.specs.Refusals.{Refused}
 use Rattle.um_model.specs.Plan.{IsPlan, CausesOfPlan}
 use Rattle.um_model.proofs.PlanLaws.{AreAlike, alike_back, causes_same, plan_same}
-use Rattle.um_graph.specs.Graph.{GraphView, IsNumberOf}
-use Rattle.um_jobs.specs.Named.{jobs_at, jobs_by}
+use Rattle.um_graph.specs.Graph.{GraphView, IsGraph, IsNumberOf}
+use Rattle.um_graph.specs.Named.{name_at}
+use Rattle.um_graph.proofs.NamedLaws.{got_within, name_is, names_once}
+use Rattle.um_jobs.specs.Named.{jobs_by}
+use Rattle.um_jobs.proofs.NamedLaws.{jobs_by_at}
+use Rattle.um_state.specs.Tables.{jobs_by as state_jobs_by}
 use Rattle.um_transact.specs.Scene.{scene_of}
 use Rattle.um_transact.specs.Transaction as transactions
 use Rattle.um_transact.specs.Transaction.{TransactionView}
@@ -58,12 +60,17 @@ with_named Has names more named is each x = (
   ]),
 )
 
--- the jobs of the units from a number on
-pub jobs_from : (names : List (List ℕ)) (plan : List UnitJobs) (i : ℕ) (x : List ℕ) → length plan ≡ length names → i < length names → slice_get names i ≡ Some x
-    → jobs_by (drop i names) (drop i plan) ≡ with_jobs (jobs_by (drop (suc i) names) (drop (suc i) plan)) x (jobs_at plan i)
-jobs_from names plan i x len h at =
-    ap (λ l. jobs_by l (drop i plan)) (drop-cons names i x h ∙ ap (λ n. n ∷ drop (suc i) names) (get_or_from_slice_get names i x x at))
-    ∙ ap (λ l. jobs_by (x ∷ drop (suc i) names) l) (drop-cons plan i no_jobs (omega (arith, len, h)))
+-- the jobs of rows under names are those of the units with these names
+pub named_by : (names : List (List ℕ)) (jobs : List UnitJobs) → state_jobs_by names jobs ≡ jobs_by names jobs
+named_by [] jobs = refl
+named_by (n ∷ ns) [] = refl
+named_by (n ∷ ns) (j ∷ jobs) = ap (λ m. with_jobs m n j) (named_by ns jobs)
+
+-- and by their numbers the rows are these
+pub pends_by : (g : GraphView) (s : State) (jobs : List UnitJobs) → IsGraph g → state_jobs_by g.names jobs ≡ s.pending → ArePending g s jobs
+pends_by g s jobs graph is i x number =
+    sym (jobs_by_at g.names jobs (names_once g.names graph.sorted) i (got_within g.names i x number))
+    ∙ (ap (λ m. jobs_of_unit m (name_at g.names i)) (sym (named_by g.names jobs) ∙ is) ∙ ap (jobs_of_unit s.pending) (name_is g.names i x number))
 
 -- ---- the scene of a graph that is exactly that of the units that count
 

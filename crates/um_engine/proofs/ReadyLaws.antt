@@ -248,20 +248,6 @@ begun_drops g s b u j w known is none =
           omega (arith, e, none n)
     ]
 
--- the graph serves where a job of one of its units has begun
-pub serves_begun : (g : GraphView) (s b : State) (j : Job) → Serves g s → Contains g.names j.unit → b ≡ begun s j → Serves g b
-serves_begun g s b j serves known is = subst (Serves g) (sym is) (record { extra = serves.extra; graph = serves.graph; of = serves.of; held = held_now })
-  where
-    held_now : (x : List ℕ) → IsHeld (begun s j) x → Contains g.names x
-    held_now x h = elim (same_name x j.unit) as (λ _. Contains g.names x) [
-      | inl same ↦ subst (Contains g.names) (sym same) known
-      | inr apart ↦ serves.held x (before h apart)
-    ]
-      where
-        before : IsHeld (begun s j) x → x ≢ j.unit → IsHeld s x
-        before (inl h) apart = inl h
-        before (inr h) apart = inr (λ e. h (pending_apart s.pending j.unit (with_running j.kind (jobs_of_unit s.pending j.unit)) x apart ∙ e))
-
 -- where a job of a unit is in another state by its number and its name, it is so in the state, which is told by number
 module _ (to : JobState) (g : GraphView) (s b : State) (v w : JobsView) (n : ℕ) (name : List ℕ) (kind : JobKind) (tells : Tells g s v) (number : IsNumberOf g n name)
     (by_number : w ≡ with_jobs_at v n (with_job kind to (jobs_at v.units n))) (by_name : b ≡ record s { pending = with_jobs s.pending name (jobs_at w.units n) }) where
@@ -339,33 +325,3 @@ told_anew g s t v w n name tells number keeps is = subst (Tells g t) (sym is) (r
           get_or-set_other v.held n i (deactivates t name) false (λ e. elsewhere i unit m apart (omega (arith, e)))
           ∙ (tells.held i unit below m ∙ ap (λ u. is_deactivating (active_state_of u.sub)) (sym (keeps.states unit apart)))
     ]
-
--- ---- what is told of one unit, known or not
-
-module _ (g : GraphView) (s : State) (v : JobsView) (tells : Tells g s v) where
-  -- a unit that isn't one of the graph's has no job, and a number past the last is that of a unit without jobs
-  pub told_by : (unit : List ℕ) → ((x : List ℕ) → IsHeld s x → Contains g.names x) → (o : Option ℕ) (n : ℕ) → MatchOption o (¬ Contains g.names unit) (λ i. IsNumberOf g i unit)
-      → n ≡ unwrap_or o (length g.names) → jobs_at v.units n ≡ jobs_of_unit s.pending unit
-  told_by unit held (Some i) n number is = ap (jobs_at v.units) is ∙ tells.jobs i unit number
-  told_by unit held None n apart is =
-      get_or_past v.units n no_jobs (omega (arith, is, tells.long)) ∙ sym (none_held (map.get s.pending unit) refl)
-    where
-      none_held : (o : Option UnitJobs) → map.get s.pending unit ≡ o → jobs_of_unit s.pending unit ≡ no_jobs
-      none_held None e = ap (λ o. unwrap_or o no_jobs) e
-      none_held (Some j) e = absurd (apart (held unit (inr (λ n. none-some j (sym n ∙ e)))))
-
--- where one of the jobs of a unit waits, those that a cancel leaves of it are told by its number
-pub left_told : (v w : JobsView) (n : ℕ) → has_waiting (jobs_at v.units n) ≡ true → w ≡ with_jobs_at v n (cancelled (jobs_at v.units n))
-    → jobs_at w.units n ≡ cancelled (jobs_at v.units n)
-left_told v w n waits is = ap (λ (x : JobsView). jobs_at x.units n) is ∙ elim (cases_lt n (length v.units)) as (λ _. jobs_at (set v.units n (cancelled (jobs_at v.units n))) n ≡ cancelled (jobs_at v.units n)) [
-  | inl within ↦ get_or-set_at v.units n n (cancelled (jobs_at v.units n)) no_jobs refl within
-  | inr past ↦ absurd (true≢false (sym waits ∙ ap has_waiting (get_or_past v.units n no_jobs (omega (arith, past)))))
-]
-
--- a cancel that isn't refused finds a job that waits, and one that is refused none
-pub some_waits_told : {X E : Type 0} (waits : Bool) (result : Result X E) (x : X) → result ≡ Ok x → (IsOk result ↔ (waits ≡ true)) → waits ≡ true
-some_waits_told waits result x is iff = (subst (λ r. IsOk r ↔ (waits ≡ true)) is iff).0 refl
-
-pub none_waits_told : {X E : Type 0} (waits : Bool) (result : Result X E) (e : E) → result ≡ Err e → (IsOk result ↔ (waits ≡ true)) → waits ≡ false
-none_waits_told true result e is iff = absurd (true≢false (sym ((subst (λ r. IsOk r ↔ (true ≡ true)) is iff).1 refl)))
-none_waits_told false result e is iff = refl

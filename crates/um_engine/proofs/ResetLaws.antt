@@ -13,14 +13,13 @@ use Rattle.um_model.specs.declared.service.UnitState.{UnitState}
 use Rattle.um_model.specs.declared.transition.Around.{Around}
 use Rattle.um_model.specs.declared.transition.StartJob.TheVariants.{Stays}
 use Rattle.um_model.specs.declared.transition.UnitEvent.TheVariants.{Reset}
-use Rattle.um_model.proofs.FewLaws.{none_there, resets_no_more}
-use Rattle.um_model.specs.Live.{HoldsNoMore}
+use Rattle.um_model.proofs.FewLaws.{none_there}
+use Rattle.um_model.proofs.KeepsLaws.{resets_keep}
 use Rattle.um_model.proofs.TimersLaws.{same_name}
 use Rattle.um_model.proofs.UnitLaws.{unlike}
-use Rattle.um_graph.specs.Graph.{GraphView}
-use Rattle.um_engine.specs.Known.{KnownView, KnowsFor}
-use Rattle.um_falling.specs.Over.{Serves}
-use Rattle.um_engine.proofs.KnownLaws.{knows_less, serves_for}
+use Rattle.um_state.specs.View.{state_of}
+use Rattle.um_falling.specs.Work.{Goes, Keeps, WorkView}
+use Rattle.um_engine.specs.Served.{ServedView, WorksOn, begun_at, standing_of}
 
 -- ---- a unit of which nothing is held
 
@@ -110,22 +109,28 @@ resets_more t xs ys all s u v before between after e (a, h, is) (b, k, so) = (
 pub resets_no_unit : (t : ℕ) (s : State) (before : List Action) → Adds (AreReset t [] s) before s before
 resets_no_unit t s before = ([], all_reset, sym (append-nil before))
 
--- ---- over what is known for the state
+-- ---- in a work that begins in what is served
 
-module _ (k : KnownView) (g : GraphView) (t : ℕ) (units : List (List ℕ)) (s copy u : State) (none all : List Action) (knows : KnowsFor k s) (same : copy ≡ s) (shown : g ≡ k.graph) (e : none ≡ [])
-    (told : Serves g copy → Adds (AreReset t units copy) none u all × Serves g u) where
-  pub reset_here : AreReset t units s all u
-  reset_here =
-      let (new, h, is) = subst (λ x. Adds (AreReset t units x) none u all) same (told (subst (λ x. Serves x copy) (sym shown) (subst (Serves k.graph) (sym same) (serves_for k s knows)))).0 in
-      subst (λ l. AreReset t units s l u) (sym (is ∙ ap (λ l. l ++ new) e)) h
+module _ (v : ServedView) (t : ℕ) (asked : Option (List ℕ)) (units : List (List ℕ)) (u w : WorkView) (begun : u ≡ begun_at (standing_of v) v.known.graph t) (is : units ≡ units_reset v.state asked)
+    (keeps : Keeps u w) (goes : Goes (AreReset u.moment units (state_of u.now)) u w) where
+  reset_here : Adds (AreReset t units v.state) [] (state_of w.now) w.actions
+  reset_here = subst (λ (x : WorkView). Adds (AreReset x.moment units (state_of x.now)) x.actions (state_of w.now) w.actions) begun goes
 
-  less : HoldsNoMore s u
-  less = resets_no_more t units s all u reset_here
+  pub does_reset : Does t v.state (ResetFailed asked) w.actions (state_of w.now)
+  does_reset =
+      let (new, h, same) = reset_here in
+      subst (λ l. Does t v.state (ResetFailed asked) l (state_of w.now)) (sym same) (resets (subst (λ l. AreReset t l v.state new (state_of w.now)) is h))
 
-  pub known_reset : KnowsFor k u
-  known_reset = knows_less k s u knows less
+  pub works_reset : WorksOn v w
+  works_reset =
+      let (new, h, same) = reset_here in
+      let kept = resets_keep t units v.state new (state_of w.now) h in
+      record {
+        graph = keeps.graph ∙ ap (λ (x : WorkView). x.graph) begun;
+        base = keeps.base ∙ ap (λ (x : WorkView). x.base) begun;
+        tree = kept.tree;
+        loaded = kept.loaded;
+      }
 
-pub does_reset : (t : ℕ) (s u v : State) (asked : Option (List ℕ)) (units : List (List ℕ)) (all : List Action) → units ≡ units_reset s asked → v ≡ u → AreReset t units s all u
-    → Does t s (ResetFailed asked) all v
-does_reset t s u v asked units all is same h =
-    subst (Does t s (ResetFailed asked) all) (sym same) (resets (subst (λ l. AreReset t l s all u) is h))
+  pub moment_reset : w.moment ≡ t
+  moment_reset = keeps.moment ∙ ap (λ (x : WorkView). x.moment) begun

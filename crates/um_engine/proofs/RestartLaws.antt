@@ -52,11 +52,8 @@ module _ (g : GraphView) (s : State) (unit : List ℕ) (j : UnitJobs) (is : jobs
     pends_alone = (subst (λ x. Tells g x w) alone (made_told Waiting g s (with_plan s unit (jobs_at w.units n)) v w n unit Start tells number put refl)).jobs
 
     -- the start is put into the state
-    pub restarts_so : AreFree (IsBefore (with_start_alone s unit).loaded) (with_start_alone s unit).pending → (u : State) → u ≡ with_plan s unit (jobs_at w.units n)
-        → Restarts s unit u × Serves g u
-    restarts_so free u so =
-        let same : u ≡ with_start_alone s unit = so ∙ alone in
-        (subst (Restarts s unit) (sym same) (puts none_there free), subst (Serves g) (sym same) serves_alone)
+    pub restarts_so : AreFree (IsBefore (with_start_alone s unit).loaded) (with_start_alone s unit).pending → (u : State) → u ≡ with_plan s unit (jobs_at w.units n) → Restarts s unit u
+    restarts_so free u so = subst (Restarts s unit) (sym (so ∙ alone)) (puts none_there free)
 
     -- it would close a circle
     pub restarts_none : ¬ AreFree (IsBefore (with_start_alone s unit).loaded) (with_start_alone s unit).pending → Restarts s unit s

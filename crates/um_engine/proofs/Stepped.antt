@@ -1,28 +1,25 @@
 -- A step, by what is planned of it.
 use Rattle.um_falling.specs.Carrying.{Adds}
-use Rattle.std.proofs.Common.{◌≡◌, ◌≢◌, ◌∙◌, ◌↔◌, ℕ, Bool, true, false, true≢false, List, [], Option, Some, None, is_some, refl, sym, ap, subst, inl}
-use Rattle.std.specs.Prelude.{IfErr, IfSome, IsErrAnd, Result, Ok, Err, option_map}
-use Rattle.std.proofs.lemmas.Option.{none-some, same_Some}
+use Rattle.std.proofs.Common.{◌≡◌, ◌≢◌, ◌∙◌, ◌↔◌, ℕ, Bool, true, false, true≢false, List, [], refl, sym, ap, subst}
+use Rattle.std.specs.Prelude.{IfErr, IfOk, IfSome, IsErrAnd, Result, Ok, Err}
 use Rattle.um_model.specs.Machine as model
-use Rattle.um_model.specs.Machine.{State, Command, Happening, Booted, Event, Commanded, Happened, Follows, ends, reports, ticks, boots, end_of, obeys, Changes, Does, changes, Input, Reply, Done, Refuses, HasNoEffect, IsTooHeavy, TakesEffect, meets, Step, refused, crowded_out, HasNoRoom, idle, taken, reply_after, moment_of}
+use Rattle.um_model.specs.Machine.{State, Command, Happening, Event, Commanded, Happened, Follows, obeys, Changes, Does, changes, Input, Reply, Done, Refuses, HasNoEffect, IsTooHeavy, TakesEffect, meets, Step, refused, crowded_out, HasNoRoom, idle, taken, reply_after, moment_of}
 use Rattle.um_model.specs.Refusals.{Refused, no_room}
 use Rattle.um_model.specs.Standing.{Standing}
-use Rattle.um_model.specs.Service.{Action, state_of_unit}
-use Rattle.um_model.specs.declared.transition.UnitEvent.TheVariants.{Executed}
+use Rattle.um_model.specs.Service.{Action}
 use Rattle.um_model.proofs.KeepsLaws.{settles_keeps}
-use Rattle.um_model.proofs.FewLaws.{fires_no_more, happened_no_more, number_held, settles_no_more}
-use Rattle.um_model.specs.Live.{HoldsNoMore}
-use Rattle.um_graph.specs.Graph.{GraphView}
 use Rattle.um_state.specs.View.{state_of}
 use Rattle.um_wire.specs.Refusal.{refused_of}
 use Rattle.um_wire.specs.declared.refusal.Refusal.{Refusal}
 use Rattle.um_wire.specs.declared.refusal.Refusal.TheVariants.{NoMemory}
-use Rattle.um_engine.specs.Engine.{LacksEffect, Met, MetBy, state_at}
-use Rattle.um_engine.specs.Known.{KnownView, KnowsFor}
-use Rattle.um_falling.specs.Over.{Serves}
+use Rattle.um_engine.specs.Engine.{DiffersInRows, LacksEffect, LeadsTo, MetBy, Obeys, Settled, SettlesTooHeavy, actions_in, changed, is_change, reply_in, rows_of, state_after}
+use Rattle.um_engine.specs.Outcomes.{actions_by, reply_by, state_by}
 use Rattle.um_engine.specs.Planned.{Declines, for_cause, for_room}
-use Rattle.um_engine.specs.Served.{ServedView}
-use Rattle.um_engine.proofs.KnownLaws.{knows_less, serves_for}
+use Rattle.um_engine.specs.declared.commands.Outcome.{Outcome}
+use Rattle.um_engine.specs.declared.engine.Change.{Change}
+use Rattle.um_engine.specs.declared.engine.Change.TheVariants.{Nothing, Rows, Tables}
+use Rattle.um_engine.specs.declared.engine.Next.{Next}
+use Rattle.um_engine.proofs.DoneLaws.{none_differ}
 
 -- for the input itself, by its event
 of_input : (size : ℕ) (s : State) (i : Input) (event : Event) (reply : Reply) (actions : List Action) (v : State) → i.event ≡ event
@@ -65,82 +62,49 @@ idle_lacks t s event happening e none = subst (LacksEffect t s) (sym e) none
 pub idle_done : (size : ℕ) (s : State) (i : Input) (happening : Happening) → i.event ≡ Happened happening → HasNoEffect (moment_of s i.moment) s happening → Step size s i Done [] s
 idle_done size s i happening e none = idle_step size s i (moment_of s i.moment) happening Done [] s e refl none refl refl refl
 
+-- what has an effect is one
+acts_so : (t t' : ℕ) (s : State) (event : Event) (happening : Happening) (b : Bool) → event ≡ Happened happening → t ≡ t' → b ≡ true → ¬ HasNoEffect t s happening
+    → (b ≡ false) ↔ LacksEffect t' s event
+acts_so t t' s event happening b e f g effect =
+    (λ h. absurd (true≢false (sym g ∙ h)), λ h. absurd (effect (subst (λ n. HasNoEffect n s happening) (sym f) (subst (λ x. LacksEffect t' s x) e h))))
+
+-- what leads to what follows is the step
+leads_step : (size : ℕ) (s : State) (i : Input) (t : ℕ) (happening : Happening) (reply : Reply) (all actions : List Action) (v : State) → i.event ≡ Happened happening
+    → t ≡ moment_of s i.moment → ¬ HasNoEffect t s happening → LeadsTo (Follows t s happening) t actions v → reply ≡ Done → all ≡ actions → Step size s i reply all v
+leads_step size s i t happening reply all actions v e f effect leads g h =
+    taken_step size s i t (Happened happening) reply all actions leads.state v e f (meets effect leads.leads) (λ none. none) g h leads.is
+
 -- what comes of a happening is the step
-pub met_step : (size : ℕ) (s : State) (i : Input) (t : ℕ) (happening : Happening) (reply : Reply) (all actions : List Action) (after : Option ServedView) (v : State)
-    → i.event ≡ Happened happening → t ≡ moment_of s i.moment → MetBy t s happening after actions → reply ≡ Done → all ≡ actions → v ≡ state_at t after s → Step size s i reply all v
-met_step size s i t happening reply all actions None v e f met g h k = idle_step size s i t happening reply all v e f met.0 g (h ∙ met.1) k
-met_step size s i t happening reply all actions (Some after) v e f met g h k =
-    taken_step size s i t (Happened happening) reply all actions after.state v e f (meets met.0 met.1) (λ none. none) g h k
+pub met_step : (size : ℕ) (s : Standing) (i : Input) (t : ℕ) (happening : Happening) (reply : Reply) (all actions : List Action) (change : Change)
+    → i.event ≡ Happened happening → t ≡ moment_of (state_of s) i.moment → MetBy t s happening change actions → reply ≡ Done → all ≡ actions
+    → Step size (state_of s) i reply all (state_of (changed change s))
+met_step size s i t happening reply all actions Nothing e f met g h = idle_step size (state_of s) i t happening reply all (state_of s) e f met.0 g (h ∙ met.1) refl
+met_step size s i t happening reply all actions (Rows delta) e f met g h =
+    leads_step size (state_of s) i t happening reply all actions (state_of (changed (Rows delta) s)) e f met.0 met.1.leads g h
+met_step size s i t happening reply all actions (Tables given) e f met g h = leads_step size (state_of s) i t happening reply all actions given.state e f met.0 met.1 g h
 
-pub met_effect : (t t' : ℕ) (s : State) (event : Event) (happening : Happening) (after : Option ServedView) (actions : List Action) (b : Bool)
-    → event ≡ Happened happening → t ≡ t' → b ≡ is_some after → MetBy t s happening after actions → (b ≡ false) ↔ LacksEffect t' s event
-met_effect t t' s event happening None actions b e f g met =
-    (λ _. subst (λ x. LacksEffect t' s x) (sym e) (subst (λ n. HasNoEffect n s happening) f met.0), λ _. g)
-met_effect t t' s event happening (Some after) actions b e f g met =
-    (λ h. absurd (true≢false (sym g ∙ h)), λ h. absurd (met.0 (subst (λ n. HasNoEffect n s happening) (sym f) (subst (λ x. LacksEffect t' s x) e h))))
+pub met_effect : (t t' : ℕ) (s : Standing) (event : Event) (happening : Happening) (change : Change) (actions : List Action) (b : Bool)
+    → event ≡ Happened happening → t ≡ t' → b ≡ is_change change → MetBy t s happening change actions → (b ≡ false) ↔ LacksEffect t' (state_of s) event
+met_effect t t' s event happening Nothing actions b e f g met =
+    (λ _. subst (λ x. LacksEffect t' (state_of s) x) (sym e) (subst (λ n. HasNoEffect n (state_of s) happening) f met.0), λ _. g)
+met_effect t t' s event happening (Rows delta) actions b e f g met = acts_so t t' (state_of s) event happening b e f g met.0
+met_effect t t' s event happening (Tables given) actions b e f g met = acts_so t t' (state_of s) event happening b e f g met.0
 
-pub met_nothing : (t : ℕ) (s : State) (happening : Happening) (after : Option ServedView) (all actions : List Action) (b : Bool) (v : State)
-    → b ≡ is_some after → MetBy t s happening after actions → all ≡ actions → v ≡ state_at t after s → b ≡ false → (v ≡ s) × (all ≡ [])
-met_nothing t s happening None all actions b v g met h k none = (k, h ∙ met.1)
-met_nothing t s happening (Some after) all actions b v g met h k none = absurd (true≢false (sym g ∙ none))
+pub met_nothing : (t : ℕ) (s : Standing) (happening : Happening) (change : Change) (all actions : List Action) → MetBy t s happening change actions → all ≡ actions
+    → is_change change ≡ false → (state_of (changed change s) ≡ state_of s) × (all ≡ [])
+met_nothing t s happening Nothing all actions met h none = (refl, h ∙ met.1)
+met_nothing t s happening (Rows delta) all actions met h none = absurd (true≢false none)
+met_nothing t s happening (Tables given) all actions met h none = absurd (true≢false none)
+
+-- and it tells how many rows it changes
+pub met_rows : (t : ℕ) (s : Standing) (happening : Happening) (change : Change) (actions : List Action) → MetBy t s happening change actions
+    → IfSome (rows_of change) (DiffersInRows (state_of s) (state_of (changed change s)))
+met_rows t s happening Nothing actions met = none_differ (state_of s)
+met_rows t s happening (Rows delta) actions met = met.1.rows
+met_rows t s happening (Tables given) actions met = tt
 
 pub command_effect : (t : ℕ) (s : State) (event : Event) (command : Command) (b : Bool) → event ≡ Commanded command → b ≡ true → (b ≡ false) ↔ LacksEffect t s event
 command_effect t s event command b e f = (λ h. absurd (true≢false (sym f ∙ h)), λ h. absurd (subst (λ x. LacksEffect t s x) e h))
-
--- ---- what is known stays so
-
--- what happens in the time of one boot makes the state hold nothing new
-follows_less : (t : ℕ) (s v : State) (happening : Happening) (actions : List Action) → ((boot : List ℕ) → ¬ (happening ≡ Booted boot)) → Follows t s happening actions v → HoldsNoMore s v
-follows_less t s v _ _ isnt (ends {number = number} {end = end} {first = x} {more = y} {u = u} unit is h k) =
-    happened_no_more t unit (end_of (state_of_unit s.units unit) number end) s x y u v (inl (number_held s number unit is)) h k
-follows_less t s v _ _ isnt (reports {number = number} {first = x} {more = y} {u = u} unit is awaits h k) =
-    happened_no_more t unit Executed s x y u v (inl (number_held s number unit is)) h k
-follows_less t s v _ actions isnt (ticks timers are h) = fires_no_more t timers s actions v h
-follows_less t s _ _ _ isnt (boots {boot = boot}) = absurd (isnt boot refl)
-
--- jobs begin in a state, over what is known for it
-module _ (k here : KnownView) (g : GraphView) (t : ℕ) (s old v : State) (before all : List Action) (knows : KnowsFor k s) (same : old ≡ s) (is : here ≡ k) (shown : g ≡ here.graph)
-    (settles : Serves g old → Adds (model.Settles t old) before v all × Serves g v) where
-  graph_is : g ≡ k.graph
-  graph_is = shown ∙ ap (λ (x : KnownView). x.graph) is
-
-  settles_here : Adds (model.Settles t old) before v all × Serves g v
-  settles_here = settles (subst (λ x. Serves x old) (sym graph_is) (subst (Serves k.graph) (sym same) (serves_for k s knows)))
-
-  pub settles_all : Adds (model.Settles t s) before v all
-  settles_all = subst (λ x. Adds (model.Settles t x) before v all) same settles_here.0
-
-  less : HoldsNoMore s v
-  less = let (new, goes, whole) = settles_all in settles_no_more t s new v goes
-
-  pub known_settled : KnowsFor here v
-  known_settled = subst (λ x. KnowsFor x v) (sym is) (knows_less k s v knows less)
-
--- something happens in a state in the time of one boot, over what is known for it
-module _ (k : KnownView) (g : GraphView) (t : ℕ) (s old : State) (happening : Happening) (o : Option Standing) (actions : List Action) (knows : KnowsFor k s) (same : old ≡ s) (shown : g ≡ k.graph)
-    (isnt : (boot : List ℕ) → ¬ (happening ≡ Booted boot)) (met : Serves g old → Met t old happening o actions) where
-  met_here : Met t s happening o actions
-  met_here = subst (λ x. Met t x happening o actions) same (met (subst (λ x. Serves x old) (sym shown) (subst (Serves k.graph) (sym same) (serves_for k s knows))))
-
-  less_met : (p : Option Standing) → Met t s happening p actions → IfSome p (λ after. HoldsNoMore s (state_of after))
-  less_met None h = tt
-  less_met (Some after) h = follows_less t s (state_of after) happening actions isnt h.1
-
-  known_of : (p : Option Standing) → IfSome p (λ after. HoldsNoMore s (state_of after)) → IfSome p (λ after. KnowsFor k (state_of after))
-  known_of None h = tt
-  known_of (Some after) h = knows_less k s (state_of after) knows h
-
-  pub known_met : IfSome o (λ after. KnowsFor k (state_of after))
-  known_met = known_of o (less_met o met_here)
-
-  by_state : (p : Option Standing) (w : Option ServedView) → option_map (λ (x : ServedView). x.state) w ≡ option_map state_of p → Met t s happening p actions → MetBy t s happening w actions
-  by_state None None e h = h
-  by_state None (Some w) e h = absurd (none-some w.state (sym e))
-  by_state (Some after) None e h = absurd (none-some (state_of after) e)
-  by_state (Some after) (Some w) e h = (h.0, subst (Follows t s happening actions) (sym (same_Some w.state (state_of after) e)) h.1)
-
-  pub met_by : (w : Option ServedView) → option_map (λ (x : ServedView). x.state) w ≡ option_map state_of o → MetBy t s happening w actions
-  met_by w e = by_state o w e met_here
 
 -- ---- a command
 
@@ -172,3 +136,43 @@ declined_is size t s command (Err f) e h step = subst (λ g. g ≢ NoMemory → 
 pub same_answer : (t : ℕ) (event : Event) (s u v : State) (first all : List Action) (reply : Reply) → reply ≡ reply_after event s.tree u.tree
     → Adds (model.Settles t u) first v all → reply ≡ reply_after event s.tree v.tree
 same_answer t event s u v first all reply is (more, settles, whole) = is ∙ ap (reply_after event s.tree) (sym (settles_keeps t u more v settles).tree)
+
+-- ---- a command, and the jobs that begin then
+
+module _ (size t : ℕ) (s : Standing) (command : Command) (o : Outcome) (free : (r : Refused) → ¬ Refuses (state_of s) command r)
+    (does : Does t (state_of s) command (actions_by o) (state_by o)) where
+  pub obeys_so : (n : Next) → reply_by o ≡ reply_after (Commanded command) (state_of s).tree (state_by o).tree → Settled size t s (state_by o) (actions_by o) n
+      → reply_in n ≡ reply_by o → Obeys size t s command n
+  obeys_so n answer settled reply =
+      let goes : Adds (model.Settles t (state_by o)) (actions_by o) settled.leads.state (actions_in n) = settled.leads.leads.0 in
+      record {
+        state = settled.leads.state;
+        takes = obeyed_so t (state_of s) (state_by o) settled.leads.state command (actions_by o) (actions_in n) free does goes;
+        is = settled.leads.is;
+        reply = same_answer t (Commanded command) (state_of s) (state_by o) settled.leads.state (actions_by o) (actions_in n) (reply_in n) (reply ∙ answer) goes;
+        room = settled.leads.leads.1;
+        effect = settled.effect;
+        rows = settled.rows;
+      }
+
+  pub declines_so : (r : Refused) → SettlesTooHeavy size t (state_by o) (actions_by o) r → Declines size t (state_of s) command r
+  declines_so r h =
+      subst (Declines size t (state_of s) command) (sym h.refusal)
+      (for_room (obeyed_so t (state_of s) (state_by o) h.state command (actions_by o) h.actions free does h.settles) h.heavy)
+
+  -- what the call that lets jobs begin tells is told of the command
+  pub obeys_by : (result : Result Next Refusal) → reply_by o ≡ reply_after (Commanded command) (state_of s).tree (state_by o).tree
+      → IfOk result (λ n. Settled size t s (state_by o) (actions_by o) n) → IfOk result (λ n. reply_in n ≡ reply_by o) → IfOk result (λ n. Obeys size t s command n)
+  obeys_by (Ok n) answer settled reply = obeys_so n answer settled reply
+  obeys_by (Err e) answer settled reply = settled
+
+  pub declines_by : (result : Result Next Refusal) → IfErr result (λ e. ¬ (e ≡ NoMemory) → SettlesTooHeavy size t (state_by o) (actions_by o) (refused_of e))
+      → IfErr result (λ e. ¬ (e ≡ NoMemory) → Declines size t (state_of s) command (refused_of e))
+  declines_by (Ok n) h = h
+  declines_by (Err e) h = λ differs. declines_so (refused_of e) (h differs)
+
+-- a command that is obeyed is a step
+pub obeyed_step : (size t : ℕ) (s : Standing) (i : Input) (command : Command) (n : Next) → i.event ≡ Commanded command → t ≡ moment_of (state_of s) i.moment
+    → Obeys size t s command n → Step size (state_of s) i (reply_in n) (actions_in n) (state_of (state_after n s))
+obeyed_step size t s i command n e f done =
+    taken_step size (state_of s) i t (Commanded command) (reply_in n) (actions_in n) (actions_in n) done.state (state_of (state_after n s)) e f done.takes done.room done.reply refl done.is

@@ -19,10 +19,11 @@ use Rattle.um_state.specs.Due.{NoneDue}
 use Rattle.um_model.specs.declared.service.End.{End}
 use Rattle.um_model.specs.declared.transition.UnitEvent.{UnitEvent}
 use Rattle.um_model.specs.declared.transition.UnitEvent.TheVariants.{Executed}
-use Rattle.um_graph.specs.Graph.{GraphView}
+use Rattle.um_model.specs.Standing.{Standing}
+use Rattle.um_state.specs.View.{state_of}
 use Rattle.um_engine.specs.Engine.{FollowsUpon, MetBy, IsSame}
-use Rattle.um_falling.specs.Over.{Serves}
 use Rattle.um_engine.specs.Served.{ServedView}
+use Rattle.um_engine.specs.declared.engine.Change.TheVariants.{Nothing, Tables}
 
 -- a tick that leaves units, jobs and the next number leaves the state
 same_after : (t : ℕ) (s v : State) (new : List Action) → Follows t s Tick new v → IsSame s v → v ≡ s
@@ -102,10 +103,6 @@ tick_follows t s copy v none all same e fires =
     let (new, follows, is) = subst (λ x. Adds (Follows t x Tick) none v all) same fires in
     subst (λ l. Follows t s Tick l v) (sym (is ∙ ap (λ l. l ++ new) e)) follows
 
--- a tick that asked for nothing and left units, jobs and the next number has no effect
-pub tick_idle : (t : ℕ) (s copy v : State) (none all : List Action) → copy ≡ s → none ≡ [] → Adds (Follows t copy Tick) none v all → all ≡ [] → IsSame s v → HasNoEffect t s Tick
-tick_idle t s copy v none all same e fires nothing stays = tick_is_idle t s v all (tick_follows t s copy v none all same e fires) nothing stays
-
 -- a tick at which no deadline is due has no effect
 pub none_due_idle : (t : ℕ) (s : State) → NoneDue t s.units → HasNoEffect t s Tick
 none_due_idle t s none = by (a_deadline_map s.units)
@@ -113,17 +110,15 @@ none_due_idle t s none = by (a_deadline_map s.units)
     by : (timers : Timers) × AreDeadlines s.units timers → HasNoEffect t s Tick
     by (timers, are) = is_idle (ticks timers are (none_due (λ deadline unit is. none unit deadline (sym (are unit) ∙ is))))
 
--- a graph that serves for a state serves for its copy
-pub serves_copy : (g : GraphView) (s copy : State) → copy ≡ s → Serves g s → Serves g copy
-serves_copy g s copy same serves = subst (Serves g) (sym same) serves
-
 -- the boot that is known has no effect
-pub boot_is_known : (t : ℕ) (s : State) (boot : List ℕ) → boot ≡ s.boot → MetBy t s (Booted boot) None []
+pub boot_is_known : (t : ℕ) (s : Standing) (boot : List ℕ) → boot ≡ (state_of s).boot → MetBy t s (Booted boot) Nothing []
 boot_is_known t s boot is = (is_known is, refl)
 
 -- another one has
-pub boot_follows : (t : ℕ) (s : State) (boot : List ℕ) (after : ServedView) → ¬ (boot ≡ s.boot) → after.state ≡ booted boot s → MetBy t s (Booted boot) (Some after) []
-boot_follows t s boot after other is = (boot_has_effect t s boot other, subst (Follows t s (Booted boot) []) (sym is) boots)
+pub boot_follows : (t : ℕ) (s : Standing) (boot : List ℕ) (after : ServedView) (u : State) → ¬ (boot ≡ (state_of s).boot) → u ≡ booted boot (state_of s)
+    → after.state ≡ record u { clock = t } → MetBy t s (Booted boot) (Tables after) []
+boot_follows t s boot after u other is so =
+    (boot_has_effect t (state_of s) boot other, record { state = u; leads = subst (Follows t (state_of s) (Booted boot) []) (sym is) boots; is = so })
 
 -- texts are tested byte by byte
 pub same_boot : (xs ys : List ℕ) (b : Bool) → b ≡ pointwise nat_eq xs ys → b ≡ true → xs ≡ ys

@@ -1,7 +1,13 @@
--- Which commands for a unit are refused where it is missing.
+-- Which commands for a unit are refused where it is missing, and what they demand.
 -- Follows the definitions of commands: it says them as tests.
 -- Commands for units stand on this file.
-use Rattle.std.specs.Prelude.{Bool, true, false}
+use Rattle.std.specs.Prelude.{◌≡◌, ℕ, Bool, true, false, List, Some}
+use Rattle.um_answer.specs.Loaded.{is_found}
+use Rattle.um_model.specs.Machine.{State, IsCrowded, IsHeldOr, demand_of, unit_asked}
+use Rattle.um_model.specs.Refusals.{Refused}
+use Rattle.um_model.specs.Service.{active_state_of, state_of_unit}
+use Rattle.um_model.specs.Units.{load}
+use Rattle.um_model.specs.declared.dependencies.Demand.{Demand}
 use Rattle.um_model.specs.declared.commands.UnitVerb.{UnitVerb}
 use Rattle.um_model.specs.declared.commands.UnitVerb.TheVariants.{Stop, TryRestart}
 
@@ -10,3 +16,10 @@ abbrev pub wants_it_there : UnitVerb → Bool
 wants_it_there Stop = true
 wants_it_there TryRestart = true
 wants_it_there other = false
+
+-- the command for what was asked demands this of the unit, which may be known beside all that is held
+pub record Demands (s : State) (verb : UnitVerb) (asked : List ℕ) (found : Bool) (demand : Demand) (unit : List ℕ) : Type 0 where
+  pub same : unit ≡ unit_asked s asked
+  pub demanded : Some demand ≡ demand_of verb (active_state_of (state_of_unit s.units unit).sub)
+  pub few : (r : Refused) → ¬ IsCrowded s.loaded (IsHeldOr s unit) r
+  pub finds : found ≡ is_found (load s.loaded asked)

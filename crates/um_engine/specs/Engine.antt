@@ -1,17 +1,22 @@
 -- What an engine stands on, what a planned step and the way back make of that; and what the engine's helpers do, with the actions before and after.
-use Rattle.std.specs.Prelude.{◌≡◌, ℕ, ◌<◌, ◌≤◌, Bool, true, false, List, [], ◌++◌, Option, Some, None, map}
+use Rattle.std.specs.Prelude.{◌≡◌, ℕ, ◌<◌, ◌≤◌, Bool, true, false, List, [], ◌++◌, Option, Some, None, IfSome, map, vec_len}
 use Rattle.std.specs.FinMap as finite
+use Rattle.um_falling.specs.Carrying.{Adds}
 use Rattle.um_model.specs.Machine as model
+use Rattle.um_model.specs.Refusals.{Refused, no_room}
 use Rattle.um_model.specs.Service.{Action}
 use Rattle.um_model.specs.Standing.{Standing}
 use Rattle.um_model.specs.Timers.{Timers, IsDueFirst}
 use Rattle.um_model.specs.declared.service.SubState.{SubState}
 use Rattle.um_model.specs.declared.service.SubState.TheVariants.{AutoRestart}
 use Rattle.um_model.specs.declared.transition.UnitEvent.{UnitEvent}
+use Rattle.um_state.specs.Deltas.{delta_after, delta_before}
 use Rattle.um_state.specs.View.{state_of, reply_of, action_of}
-use Rattle.um_engine.specs.Served.{ServedView, standing_of}
+use Rattle.um_state.specs.Working.{CountsDiffering}
+use Rattle.um_state.specs.declared.delta.Delta.{Delta}
+use Rattle.um_engine.specs.Served.{standing_of}
 use Rattle.um_engine.specs.declared.engine.Change.{Change}
-use Rattle.um_engine.specs.declared.engine.Change.TheVariants.{Nothing, Tables}
+use Rattle.um_engine.specs.declared.engine.Change.TheVariants.{Nothing, Rows, Tables}
 use Rattle.um_engine.specs.declared.engine.Engine.{Engine}
 use Rattle.um_engine.specs.declared.engine.Next.{Next}
 use Rattle.um_engine.specs.declared.engine.Back.{Back}
@@ -28,20 +33,29 @@ standing_in e = standing_of e.served
 abbrev pub size_in : Engine → ℕ
 size_in e = e.size
 
--- the state that is given, at the moment, or else this one
-abbrev pub state_at : ℕ → Option ServedView → model.State → model.State
-state_at t None s = s
-state_at t (Some given) s = record given.state { clock = t }
-
 -- what a change makes of a standing
 abbrev pub changed : Change → Standing → Standing
 changed Nothing s = s
+changed (Rows delta) s = delta_after delta s
 changed (Tables given) s = standing_of given
+
+-- what a change that leads back makes of a standing
+abbrev pub unchanged : Change → Standing → Standing
+unchanged Nothing s = s
+unchanged (Rows delta) s = delta_before delta s
+unchanged (Tables given) s = standing_of given
 
 -- it changes something
 abbrev pub is_change : Change → Bool
 is_change Nothing = false
+is_change (Rows delta) = true
 is_change (Tables given) = true
+
+-- how many rows it changes; none is told where it changes tables
+abbrev pub rows_of : Change → Option ℕ
+rows_of Nothing = Some 0
+rows_of (Rows delta) = Some (vec_len delta.rows)
+rows_of (Tables given) = None
 
 -- the standing after a planned step that is taken
 abbrev pub state_after : Next → Standing → Standing
@@ -61,7 +75,15 @@ has_effect_in n = is_change n.change
 
 -- the standing before a step that was taken
 abbrev pub state_before : Back → Standing → Standing
-state_before b s = changed b.change s
+state_before b s = unchanged b.change s
+
+-- of how many units a planned step changes how they stand or their pending jobs; none where it changes tables
+abbrev pub rows_in : Next → Option ℕ
+rows_in n = rows_of n.change
+
+-- the trees stay, and so many are the units of which the states hold different things
+abbrev pub DiffersInRows : model.State → model.State → ℕ → Type 0
+DiffersInRows s t n = (t.tree ≡ s.tree) × (t.loaded ≡ s.loaded) × CountsDiffering s t n
 
 -- an event without effect: a command that isn't refused has one always
 abbrev pub LacksEffect : ℕ → model.State → model.Event → Type 0
@@ -95,12 +117,45 @@ pub record IsSame (s v : model.State) : Type 0 where
   pub pending : s.pending ≡ v.pending
   pub next : s.next ≡ v.next
 
--- what comes of a happening: nothing, where it has no effect; else the state after it, with its clock still to be set
-abbrev pub Met : ℕ → model.State → model.Happening → Option Standing → List Action → Type 0
-Met t s happening None actions = model.HasNoEffect t s happening × (actions ≡ [])
-Met t s happening (Some v) actions = (¬ model.HasNoEffect t s happening) × model.Follows t s happening actions (state_of v)
+-- the relation leads to a state, and this is it at the moment
+pub record LeadsTo (Relation : List Action → model.State → Type 0) (t : ℕ) (actions : List Action) (v : model.State) : Type 0 where
+  pub state : model.State
+  pub leads : Relation actions state
+  pub is : v ≡ record state { clock = t }
 
--- the same of a state with what is known for it
-abbrev pub MetBy : ℕ → model.State → model.Happening → Option ServedView → List Action → Type 0
-MetBy t s happening None actions = model.HasNoEffect t s happening × (actions ≡ [])
-MetBy t s happening (Some v) actions = (¬ model.HasNoEffect t s happening) × model.Follows t s happening actions v.state
+-- the rows of a delta lead there, and it has just the rows that differ
+pub record DoesRows (Relation : List Action → model.State → Type 0) (t : ℕ) (s : Standing) (delta : Delta) (actions : List Action) : Type 0 where
+  pub leads : LeadsTo Relation t actions (state_of (delta_after delta s))
+  pub rows : DiffersInRows (state_of s) (state_of (delta_after delta s)) (vec_len delta.rows)
+
+-- a step with the state that jobs lead to that begin after these actions, at the moment
+pub record Settled (size t : ℕ) (s : Standing) (u : model.State) (before : List Action) (n : Next) : Type 0 where
+  pub leads : LeadsTo (λ actions v. Adds (model.Settles t u) before v actions × (¬ model.IsTooHeavy size v)) t (actions_in n) (state_of (state_after n s))
+  pub effect : has_effect_in n ≡ true
+  pub rows : IfSome (rows_in n) (DiffersInRows (state_of s) (state_of (state_after n s)))
+
+-- what jobs lead to that begin after these actions is too heavy
+pub record SettlesTooHeavy (size t : ℕ) (u : model.State) (before : List Action) (r : Refused) : Type 0 where
+  pub actions : List Action
+  pub state : model.State
+  pub settles : Adds (model.Settles t u) before state actions
+  pub heavy : model.IsTooHeavy size state
+  pub refusal : r ≡ no_room
+
+-- a step that obeys a command
+pub record Obeys (size t : ℕ) (s : Standing) (command : model.Command) (n : Next) : Type 0 where
+  pub state : model.State
+  pub takes : model.TakesEffect t (state_of s) (model.Commanded command) (actions_in n) state
+  pub is : state_of (state_after n s) ≡ record state { clock = t }
+  pub reply : reply_in n ≡ model.reply_after (model.Commanded command) (state_of s).tree state.tree
+  pub room : ¬ model.IsTooHeavy size state
+  pub effect : has_effect_in n ≡ true
+  pub rows : IfSome (rows_in n) (DiffersInRows (state_of s) (state_of (state_after n s)))
+
+-- what changes by a happening: nothing, where it has no effect; else it leads to what follows, at the moment
+abbrev pub MetBy : ℕ → Standing → model.Happening → Change → List Action → Type 0
+MetBy t s happening Nothing actions = model.HasNoEffect t (state_of s) happening × (actions ≡ [])
+MetBy t s happening (Rows delta) actions =
+    (¬ model.HasNoEffect t (state_of s) happening) × DoesRows (model.Follows t (state_of s) happening) t s delta actions
+MetBy t s happening (Tables given) actions =
+    (¬ model.HasNoEffect t (state_of s) happening) × LeadsTo (model.Follows t (state_of s) happening) t actions given.state

@@ -1,9 +1,9 @@
 -- When the pending jobs by number are those of the state, and what the state's units tell of deactivating.
 -- Follows no manual page: it turns names into numbers.
 -- Settling stands on this file.
-use Rattle.std.specs.Prelude.{◌≡◌, ℕ, ◌<◌, Bool, true, false, List, length}
+use Rattle.std.specs.Prelude.{◌≡◌, ◌⊎◌, ◌↔◌, ℕ, ◌<◌, Bool, true, false, List, Contains, length}
 use Rattle.um_model.specs.Jobs.{jobs_of_unit}
-use Rattle.um_model.specs.Machine.{State}
+use Rattle.um_model.specs.Machine.{State, IsHeld}
 use Rattle.um_model.specs.Service.{active_state_of, state_of_unit}
 use Rattle.um_model.specs.declared.service.ActiveState.{ActiveState}
 use Rattle.um_model.specs.declared.service.ActiveState.TheVariants.{Deactivating}
@@ -41,3 +41,7 @@ pub record TellsBelow (g : GraphView) (s : State) (n : ℕ) (v : JobsView) : Typ
 -- so it is of all of them
 abbrev pub Tells : GraphView → State → JobsView → Type 0
 Tells g s v = TellsBelow g s (length g.names) v
+
+-- the names are those that were there, and that of the unit where the state holds anything of it
+abbrev pub AddsHeld : State → List ℕ → List (List ℕ) → List (List ℕ) → Type 0
+AddsHeld s name before after = (x : List ℕ) → Contains after x ↔ (Contains before x ⊎ ((x ≡ name) × IsHeld s name))

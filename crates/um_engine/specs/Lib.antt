@@ -3,5 +3,6 @@ pub mod Engine
 pub mod Filled
 pub mod Known
 pub mod OfStore
+pub mod Outcomes
 pub mod Planned
 pub mod Served

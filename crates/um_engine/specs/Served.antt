@@ -1,8 +1,12 @@
 -- A state with what is known of its units, and the standing that both make.
 -- Follows no manual page: it is how the engine keeps what it knows of units.
 -- The engine, its steps and the ways back stand on this file.
+use Rattle.std.specs.Prelude.{◌≡◌, ℕ, []}
 use Rattle.um_model.specs.Machine.{State}
 use Rattle.um_model.specs.Standing.{Standing}
+use Rattle.um_falling.specs.Work.{WorkView}
+use Rattle.um_graph.specs.Graph.{GraphView}
+use Rattle.um_state.specs.View.{state_of}
 use Rattle.um_engine.specs.Known.{KnownView}
 
 pub record ServedView : Type 0 where
@@ -12,3 +16,14 @@ pub record ServedView : Type 0 where
 -- the names that have a number are those of the graph
 abbrev pub standing_of : ServedView → Standing
 standing_of v = record { state = v.state; names = v.known.graph.names }
+
+-- a step in work that begins in this standing, at the moment
+abbrev pub begun_at : Standing → GraphView → ℕ → WorkView
+begun_at s g moment = record { graph = g; base = s; now = s; moment = moment; actions = [] }
+
+-- the step in work goes over what is known and began in what is served, whose trees it leaves as they are
+pub record WorksOn (v : ServedView) (w : WorkView) : Type 0 where
+  pub graph : w.graph ≡ v.known.graph
+  pub base : w.base ≡ standing_of v
+  pub tree : (state_of w.now).tree ≡ v.state.tree
+  pub loaded : (state_of w.now).loaded ≡ v.state.loaded

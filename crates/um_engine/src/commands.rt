@@ -1,17 +1,18 @@
 //! What a command does, and why it is refused.
 
-ghost use Rattle.std.specs.Prelude.{◌≡◌, Err, ℕ, List, [], false, map, Contains, IfOk, IfErr};
-ghost use Rattle.um_model.specs.Live.{HoldsNoMore};
-ghost use Rattle.um_answer.specs.Loaded.{is_found as finds};
+ghost use Rattle.std.specs.Prelude.{◌≡◌, [], false, Err, IfOk, IfErr, OnOk};
 ghost use Rattle.um_engine.specs.Known.{KnowsFor};
-ghost use Rattle.um_model.specs.Waiting.{has_waiting};
+ghost use Rattle.um_engine.specs.Outcomes.{IsBasedOn, actions_by, reply_by, state_by};
+ghost use Rattle.um_engine.specs.Served.{WorksOn};
+ghost use Rattle.um_falling.specs.Work.{Keeps};
 ghost use Rattle.um_model.specs.Install.{paths_beyond};
 ghost use Rattle.um_model.specs.Jobs.{cancelled, jobs_of_unit};
+ghost use Rattle.um_model.specs.Live.{HoldsNoMore};
 ghost use Rattle.um_model.specs.Machine as model;
 ghost use Rattle.um_model.specs.Refusals as told;
 ghost use Rattle.um_model.specs.Tree.{put_file, put_link, remove_at};
-ghost use Rattle.um_model.specs.Units as units;
-ghost use Rattle.um_state.specs.View.{state_of, command_of, reply_of, action_of};
+ghost use Rattle.um_model.specs.Waiting.{has_waiting};
+ghost use Rattle.um_state.specs.View.{state_of, command_of, reply_of};
 ghost use Rattle.um_wire.specs.Gives.{RefusesBy};
 ghost use Rattle.um_wire.specs.Refusal.{refused_of};
 ghost use Rattle.um_wire.specs.declared.refusal.Refusal.TheVariants.{NoMemory};
@@ -25,61 +26,51 @@ use crate::served::Served;
 use std::alloc::{AllocError, Global};
 use std::rc::Rc;
 use um_answer::{Asked, check_missing};
-use um_graph::Graph;
+use um_falling::Work;
 use um_install::{Installed, check_units, relink};
-use um_model::{InstallVerb, Moment, UnitJobs};
+use um_model::{InstallVerb, Moment};
 use um_name::UnitName;
-use um_state::{Action, Command, Reply, State};
+use um_state::{Command, Reply, State};
 use um_tree::Tree;
-use um_wire::Refusal;
+use um_wire::{Refusal, no_such_job};
 
-/// The jobs that a cancel leaves of the unit. Where none of them waits it is refused (E21).
-fn left_by_cancel(
-    alloc: Global,
-    graph: &Graph,
-    state: &State,
-    unit: &UnitName,
-) -> Result<UnitJobs, Refusal>
-    requires held { (x : List ℕ) → model.IsHeld (state_of state.now) x → Contains graph.now.names x }
-    ensures left { IfOk result (λ left. left ≡ cancelled (jobs_of_unit (state_of state.now).pending unit.now)) }
-    ensures refused { RefusesBy (λ r. (has_waiting (jobs_of_unit (state_of state.now).pending unit.now) ≡ false) × (r ≡ told.no_such_job unit.now)) result }
+/// Takes out the jobs of the unit that wait. Where none of them waits it is refused (E21).
+fn cancel_waiting(work: &mut Work<'_>, unit: &UnitName) -> Result<(), Refusal>
+    ensures state { OnOk result (state_of work.new.now
+        ≡ model.with_plan (state_of work.old.now) unit.now (cancelled (jobs_of_unit (state_of work.old.now).pending unit.now))) }
+    ensures keeps { OnOk result (Keeps work.old work.new) }
+    ensures actions { OnOk result (work.new.actions ≡ work.old.actions) }
+    ensures refused { RefusesBy (λ r. (has_waiting (jobs_of_unit (state_of work.old.now).pending unit.now) ≡ false) × (r ≡ told.no_such_job unit.now)) result }
 {
-    let number = graph.number(unit).unwrap_or(graph.len());
-    let mut jobs = jobs_in(alloc, graph, state)?;
-    jobs.cancel(alloc, number, unit)?;
-    Ok(jobs.get(number))
+    let graph = work.graph();
+    let Some(number) = graph.number(unit) else {
+        return Err(no_such_job(work.alloc(), unit.as_str())?);
+    };
+    let mut jobs = jobs_in(work)?;
+    jobs.cancel(work.alloc(), number, unit)?;
+    work.set_jobs(number, jobs.get(number));
+    Ok(())
 }
 
-/// The jobs that a cancel leaves of the unit, or the refusal for the first of E7 and E21 that holds.
-fn cancelled_jobs(
+/// The work without the waiting jobs of a unit. Refused is one that is neither found nor held (E7), and one of which no job waits (E21).
+fn without_waiting<'s>(
     alloc: Global,
-    graph: &Graph,
-    state: &State,
+    served: &'s Served,
+    moment: Moment,
     asked: &UnitName,
-    leads: &Asked,
-) -> Result<UnitJobs, Refusal>
-    requires held { (x : List ℕ) → model.IsHeld (state_of state.now) x → Contains graph.now.names x }
-    requires unit { leads.now.unit ≡ model.unit_asked (state_of state.now) asked.now }
-    requires found { leads.now.is_found ≡ finds (units.load (state_of state.now).loaded asked.now) }
-    ensures left { IfOk result (λ left. left ≡ cancelled (jobs_of_unit (state_of state.now).pending leads.now.unit)) }
-    ensures refused { RefusesBy (model.Refuses (state_of state.now) (model.Cancel asked.now)) result }
-{
-    check_missing(alloc, state, asked, leads.is_found)?;
-    left_by_cancel(alloc, graph, state, &leads.unit)
-}
-
-/// The state without the waiting jobs of a unit.
-fn without_waiting(alloc: Global, served: &Served, asked: &UnitName) -> Result<State, Refusal>
-    ensures changed { IfOk result (λ u. model.Changes served.now.state (model.Cancel asked.now) (state_of u)) }
+) -> Result<Work<'s>, Refusal>
+    ensures changed { IfOk result (λ work. model.Changes served.now.state (model.Cancel asked.now) (state_of work.now)) }
+    ensures actions { IfOk result (λ work. work.actions ≡ []) }
+    ensures works { IfOk result (λ work. WorksOn served.now work) }
+    ensures moment { IfOk result (λ work. work.moment ≡ moment) }
     ensures refused { RefusesBy (model.Refuses served.now.state (model.Cancel asked.now)) result }
 {
     let state = served.state();
-    let graph = served.known().graph();
-    let leads = Asked::of(alloc, graph, state.loaded(), asked)?;
-    let left = cancelled_jobs(alloc, graph, state, asked, &leads)?;
-    let mut changed = state.copy()?;
-    changed.set_jobs(&leads.unit, left)?;
-    Ok(changed)
+    let leads = Asked::of(alloc, served.known().graph(), state.loaded(), asked)?;
+    check_missing(alloc, state, asked, leads.is_found)?;
+    let mut work = served.work(alloc, moment)?;
+    cancel_waiting(&mut work, &leads.unit)?;
+    Ok(work)
 }
 
 /// Refuses a file with the text at the path for the first cause there is, before anything is copied.
@@ -145,35 +136,21 @@ fn without_path(alloc: Global, state: &State, path: &str) -> Result<State, Refus
     Ok(changed)
 }
 
-/// A state as a command left it, before any job begins, what is answered, and what is asked of processes.
+/// What a command leads to, before any job begins, and what is answered.
 #[derive(Drop)]
-pub struct Outcome {
-    pub served: Served,
-    pub reply: Reply,
-    pub actions: Vec<Action>,
+pub enum Outcome<'s> {
+    /// Units and pending jobs alone change, and nothing is answered.
+    Rows(Work<'s>),
+    /// A tree changes, or what is known of units.
+    Tables(Served, Reply),
 }
 
-/// Nothing is answered.
-fn silent(served: Served, actions: Vec<Action>) -> Outcome
-    ensures state { result.served.state ≡ served.state }
-    ensures reply { reply_of result.reply ≡ model.Done }
-    ensures actions { result.actions.items ≡ actions.items }
-{
-    Outcome {
-        served,
-        reply: Reply::Done,
-        actions,
-    }
-}
-
-/// The state as a command left its loaded tree, with nothing new that it holds: what is known stays, and nothing is answered.
-fn kept(alloc: Global, served: &Served, state: State) -> Result<Outcome, AllocError>
+/// The state as a command left its trees, with nothing new that it holds: what is known stays.
+fn kept(served: &Served, state: State) -> Result<Served, AllocError>
     requires { HoldsNoMore served.now.state (state_of state) }
-    ensures state { IfOk result (λ o. o.served.state ≡ state_of state) }
-    ensures reply { IfOk result (λ o. reply_of o.reply ≡ model.Done) }
-    ensures actions { IfOk result (λ o. o.actions.items ≡ []) }
+    ensures { IfOk result (λ u. u.state ≡ state_of state) }
 {
-    Ok(silent(Served::with(state, served.share_known()?), Vec::new(alloc)))
+    Served::numbered(state, served.share_known()?)
 }
 
 /// The state with its tree in hand loaded. Refused are too many known units (E13), and pending jobs in a circle (E9).
@@ -185,7 +162,7 @@ fn reloaded(alloc: Global, state: &State) -> Result<Served, Refusal>
     let known = Rc::new(alloc, known)?;
     let mut changed = state.copy()?;
     changed.reload()?;
-    Ok(Served::with(changed, known))
+    Ok(Served::numbered(changed, known)?)
 }
 
 /// The state with that tree, loaded, of whose units that is known.
@@ -196,7 +173,7 @@ fn with_tree(alloc: Global, state: &State, tree: Tree, known: Known) -> Result<S
     let known = Rc::new(alloc, known)?;
     let mut changed = state.copy()?;
     changed.load_tree(tree)?;
-    Ok(Served::with(changed, known))
+    Served::numbered(changed, known)
 }
 
 /// The state with the tree that comes of enabling the unit or its kin, loaded. Refused are, in this order, links that can't be made
@@ -207,11 +184,10 @@ fn installed(
     state: &State,
     verb: InstallVerb,
     unit: &UnitName,
-) -> Result<Outcome, Refusal>
-    ensures changed { IfOk result (λ o. model.Changes (state_of state.now) (model.Install verb unit.now) o.served.state) }
-    ensures reply { IfOk result (λ o. reply_of o.reply
-        ≡ model.Relinked (paths_beyond (state_of state.now).tree o.served.state.tree) (paths_beyond o.served.state.tree (state_of state.now).tree)) }
-    ensures actions { IfOk result (λ o. o.actions.items ≡ []) }
+) -> Result<(Served, Reply), Refusal>
+    ensures changed { IfOk result (λ o. model.Changes (state_of state.now) (model.Install verb unit.now) o.0.state) }
+    ensures reply { IfOk result (λ o. reply_of o.1
+        ≡ model.Relinked (paths_beyond (state_of state.now).tree o.0.state.tree) (paths_beyond o.0.state.tree (state_of state.now).tree)) }
     ensures refused { RefusesBy (model.Refuses (state_of state.now) (model.Install verb unit.now)) result }
 {
     let Installed {
@@ -222,52 +198,50 @@ fn installed(
     let known = Known::of(alloc, &tree, state, None)?;
     check_units(alloc, state.tree(), verb, unit)?;
     check_order(alloc, &known, state)?;
-    Ok(Outcome {
-        served: with_tree(alloc, state, tree, known)?,
-        reply: Reply::Relinked { made, removed },
-        actions: Vec::new(alloc),
-    })
+    let served = with_tree(alloc, state, tree, known)?;
+    Ok((served, Reply::Relinked { made, removed }))
 }
 
-/// The state as a command leaves it at the moment, before any job begins; or the command is refused.
-pub fn done(
+/// What a command leads to at the moment, before any job begins; or it is refused.
+pub fn done<'s>(
     alloc: Global,
-    served: &Served,
+    served: &'s Served,
     moment: Moment,
     command: &Command,
-) -> Result<Outcome, Refusal>
-    ensures does { IfOk result (λ o. model.Does moment served.now.state (command_of command.now) (map action_of o.actions.items) o.served.state) }
-    ensures reply { IfOk result (λ o. reply_of o.reply
-        ≡ model.reply_after (model.Commanded (command_of command.now)) served.now.state.tree o.served.state.tree) }
+) -> Result<Outcome<'s>, Refusal>
+    ensures does { IfOk result (λ o. model.Does moment served.now.state (command_of command.now) (actions_by o) (state_by o)) }
+    ensures reply { IfOk result (λ o. reply_by o ≡ model.reply_after (model.Commanded (command_of command.now)) served.now.state.tree (state_by o).tree) }
     ensures refused { RefusesBy (model.Refuses served.now.state (command_of command.now)) result }
+    ensures based { IfOk result (λ o. IsBasedOn served.now moment o) }
 {
     let state = served.state();
     match command {
         Command::PutFile { path, text } => {
             let changed = with_file(alloc, state, path.as_str(), text.as_str())?;
-            Ok(kept(alloc, served, changed)?)
+            Ok(Outcome::Tables(kept(served, changed)?, Reply::Done))
         }
         Command::PutLink { path, target } => {
             let changed = with_link(alloc, state, path.as_str(), target.as_str())?;
-            Ok(kept(alloc, served, changed)?)
+            Ok(Outcome::Tables(kept(served, changed)?, Reply::Done))
         }
         Command::Remove { path } => {
             let changed = without_path(alloc, state, path.as_str())?;
-            Ok(kept(alloc, served, changed)?)
+            Ok(Outcome::Tables(kept(served, changed)?, Reply::Done))
         }
-        Command::DaemonReload => Ok(silent(reloaded(alloc, state)?, Vec::new(alloc))),
+        Command::DaemonReload => Ok(Outcome::Tables(reloaded(alloc, state)?, Reply::Done)),
         Command::ForUnit { verb, unit, mode } => {
-            let planned = planned(alloc, served, *verb, unit, *mode)?;
-            Ok(silent(planned, Vec::new(alloc)))
+            let outcome = planned(alloc, served, moment, *verb, unit, *mode)?;
+            Ok(outcome)
         }
-        Command::Cancel { unit } => {
-            let changed = without_waiting(alloc, served, unit)?;
-            Ok(kept(alloc, served, changed)?)
-        }
+        Command::Cancel { unit } => Ok(Outcome::Rows(without_waiting(
+            alloc, served, moment, unit,
+        )?)),
         Command::ResetFailed { unit } => {
-            let (reset, actions) = without_failures(alloc, served, moment, unit)?;
-            Ok(silent(reset, actions))
+            Ok(Outcome::Rows(without_failures(alloc, served, moment, unit)?))
         }
-        Command::Install { verb, unit } => installed(alloc, state, *verb, unit),
+        Command::Install { verb, unit } => {
+            let (served, reply) = installed(alloc, state, *verb, unit)?;
+            Ok(Outcome::Tables(served, reply))
+        }
     }
 }

@@ -1,13 +1,13 @@
 ghost use Rattle.um_falling.specs.Carrying.{Adds};
 ghost use Rattle.std.specs.Prelude.{◌≡◌, ◌≢◌, ◌↔◌, [], true, false, is_some, map, IfOk, IfErr, IfSome, IsTrue};
-ghost use Rattle.um_engine.specs.Engine.{LacksEffect, standing_in, state_in, size_in, has_effect_in, state_at, state_after, reply_in, actions_in, state_before};
+ghost use Rattle.um_engine.specs.Engine.{DiffersInRows, LacksEffect, LeadsTo, Obeys, Settled, SettlesTooHeavy, standing_in, state_in, size_in, has_effect_in, rows_in, state_after, reply_in, actions_in, state_before};
 ghost use Rattle.um_engine.specs.OfStore.{is_of_store};
 ghost use Rattle.um_engine.specs.Planned.{Declines};
+ghost use Rattle.um_engine.specs.Served.{WorksOn};
 ghost use Rattle.um_model.specs.Machine as model;
-ghost use Rattle.um_model.specs.Machine.{Step, TakesEffect, moment_of, IsTooHeavy};
+ghost use Rattle.um_model.specs.Machine.{Step, moment_of};
 ghost use Rattle.um_model.specs.Refusals.{Refused};
 ghost use Rattle.um_model.specs.Servable.{IsServable};
-ghost use Rattle.um_model.specs.Standing.{Standing};
 ghost use Rattle.um_state.specs.View.{state_of, input_of, query_of, reply_of, action_of, command_of};
 ghost use Rattle.um_wire.specs.Refusal.{refused_of};
 ghost use Rattle.um_wire.specs.declared.refusal.Refusal.TheVariants.{NoMemory};
@@ -15,15 +15,16 @@ ghost use Rattle.um_wire.specs.declared.refusal.Refusal.TheVariants.{NoMemory};
 use crate::commands::{Outcome, done};
 use crate::happenings::{is_unawaited, met};
 use crate::loading::known_of_loaded;
-use crate::room::check_room;
+use crate::room::{check_room, check_room_in};
 use crate::served::Served;
 use crate::settling::settle;
 use std::alloc::{AllocError, Global};
 use std::mem;
 use std::rc::Rc;
 use um_answer::{list_known, reply_to};
+use um_falling::Work;
 use um_model::Moment;
-use um_state::{Action, Command, Event, Input, Query, Reply, State};
+use um_state::{Action, Command, Delta, Event, Input, Query, Reply, State};
 use um_wire::Refusal;
 
 /// The manager's state, what is known of its units, and the size of its store.
@@ -34,18 +35,12 @@ pub struct Engine {
     size: u64,
 }
 
-/// What comes of a command: the state after it, what is answered, and what is asked of processes.
-#[derive(Drop)]
-struct Settled {
-    served: Served,
-    reply: Reply,
-    actions: Vec<Action>,
-}
-
 /// What a step changes.
 #[derive(Drop)]
 pub(crate) enum Change {
     Nothing,
+    /// The rows of some units, the moment and the next process number; trees and known units stay.
+    Rows(Delta),
     /// All: the state, and what is known of its units.
     Tables(Served),
 }
@@ -59,21 +54,15 @@ pub struct Next {
 }
 
 impl Next {
-    /// The step to this state, but for its clock, at the moment; none without effect.
-    fn at(moment: Moment, served: Option<Served>, reply: Reply, actions: Vec<Action>) -> Next
-        ensures state { (s : Standing) → (state_after result s).state ≡ state_at moment served s.state }
-        ensures effect { has_effect_in result ≡ is_some served }
-        ensures reply { reply_in result ≡ reply_of reply }
-        ensures actions { actions_in result ≡ map action_of actions.items }
+    /// Of how many units the fields or pending jobs differ after the step. None where it changes a tree or what is known of units. It takes no
+    /// memory.
+    pub fn rows(&self) -> Option<usize>
+        ensures { result ≡ rows_in self.now }
     {
-        let change = match served {
-            Some(served) => Change::Tables(served.at(moment)),
-            None => Change::Nothing,
-        };
-        Next {
-            change,
-            reply,
-            actions,
+        match &self.change {
+            Change::Nothing => Some(0),
+            Change::Rows(delta) => Some(delta.len()),
+            Change::Tables(_) => None,
         }
     }
 
@@ -84,7 +73,7 @@ impl Next {
     {
         match self.change {
             Change::Nothing => false,
-            Change::Tables(_) => true,
+            Change::Rows(_) | Change::Tables(_) => true,
         }
     }
 }
@@ -128,25 +117,47 @@ impl Engine {
         self.served.state().clock()
     }
 
-    /// What comes of a command at the moment: the state after it, but for its clock.
-    fn obeyed(&self, moment: Moment, command: &Command) -> Result<Settled, Refusal>
-        ensures taken { IfOk result (λ o.
-            TakesEffect moment (state_in self.now) (model.Commanded (command_of command.now)) (map action_of o.actions.items) o.served.state) }
-        ensures reply { IfOk result (λ o. reply_of o.reply
-            ≡ model.reply_after (model.Commanded (command_of command.now)) (state_in self.now).tree o.served.state.tree) }
-        ensures room { IfOk result (λ o. ¬ IsTooHeavy (size_in self.now) o.served.state) }
+    /// The step that a command is at the moment.
+    fn obeyed(&self, moment: Moment, command: &Command) -> Result<Next, Refusal>
+        ensures obeys { IfOk result (λ next. Obeys (size_in self.now) moment (standing_in self.now) (command_of command.now) next) }
         ensures refused { IfErr result (λ e. ¬ (e ≡ NoMemory) → Declines (size_in self.now) moment (state_in self.now) (command_of command.now) (refused_of e)) }
     {
         let outcome = done(self.alloc, &self.served, moment, command)?;
-        let Outcome {
-            served,
-            reply,
+        match outcome {
+            Outcome::Rows(work) => self.with_rows(work),
+            Outcome::Tables(served, reply) => self.with_tables(served, reply, moment),
+        }
+    }
+
+    /// The step to where the work comes once jobs have begun.
+    fn with_rows(&self, mut work: Work<'_>) -> Result<Next, Refusal>
+        requires { WorksOn self.now.served work }
+        ensures settled { IfOk result (λ next.
+            Settled (size_in self.now) work.entry.moment (standing_in self.now) (state_of work.entry.now) work.entry.actions next) }
+        ensures reply { IfOk result (λ next. reply_in next ≡ model.Done) }
+        ensures refused { IfErr result (λ e. ¬ (e ≡ NoMemory)
+            → SettlesTooHeavy (size_in self.now) work.entry.moment (state_of work.entry.now) work.entry.actions (refused_of e)) }
+    {
+        settle(&mut work)?;
+        check_room_in(self.alloc, &self.served, &work, self.size)?;
+        let (delta, actions) = work.done()?;
+        Ok(Next {
+            change: Change::Rows(delta),
+            reply: Reply::Done,
             actions,
-        } = outcome;
-        let (served, actions) = settle_all(self.alloc, served, actions, moment)?;
+        })
+    }
+
+    /// The step to these tables once jobs have begun at the moment.
+    fn with_tables(&self, served: Served, reply: Reply, moment: Moment) -> Result<Next, Refusal>
+        ensures settled { IfOk result (λ next. Settled (size_in self.now) moment (standing_in self.now) served.state [] next) }
+        ensures reply { IfOk result (λ next. reply_in next ≡ reply_of reply) }
+        ensures refused { IfErr result (λ e. ¬ (e ≡ NoMemory) → SettlesTooHeavy (size_in self.now) moment served.state [] (refused_of e)) }
+    {
+        let (served, actions) = settled(self.alloc, served, moment)?;
         check_room(self.alloc, &served, self.size)?;
-        Ok(Settled {
-            served,
+        Ok(Next {
+            change: Change::Tables(served),
             reply,
             actions,
         })
@@ -165,21 +176,22 @@ impl Engine {
         ensures refused { IfErr result (λ e. ¬ (e ≡ NoMemory)
             → Step (size_in self.now) (state_in self.now) (input_of input.now) (model.Refusal (refused_of e)) [] (state_in self.now)) }
         ensures only { IfErr result (λ e. is_of_store e ≡ false) }
+        ensures rows { IfOk result (λ next.
+            IfSome (rows_in next) (DiffersInRows (state_in self.now) (state_after next (standing_in self.now)).state)) }
     {
         let moment = self.served.state().clock().or_later(input.moment());
         match input.event() {
             Event::Commanded(command) => {
-                let settled = self.obeyed(moment, command)?;
-                let Settled {
-                    served,
-                    reply,
-                    actions,
-                } = settled;
-                Ok(Next::at(moment, Some(served), reply, actions))
+                let next = self.obeyed(moment, command)?;
+                Ok(next)
             }
             Event::Happened(happening) => {
-                let (served, actions) = met(self.alloc, &self.served, moment, happening)?;
-                Ok(Next::at(moment, served, Reply::Done, actions))
+                let (change, actions) = met(self.alloc, &self.served, moment, happening)?;
+                Ok(Next {
+                    change,
+                    reply: Reply::Done,
+                    actions,
+                })
             }
         }
     }
@@ -212,6 +224,10 @@ impl Engine {
         } = next;
         let change = match change {
             Change::Nothing => Change::Nothing,
+            Change::Rows(mut delta) => {
+                self.served.swap(&mut delta);
+                Change::Rows(delta)
+            }
             Change::Tables(served) => Change::Tables(mem::replace(&mut self.served, served)),
         };
         (reply, actions, Back { change })
@@ -225,6 +241,7 @@ impl Engine {
         let Back { change } = back;
         match change {
             Change::Nothing => {}
+            Change::Rows(delta) => self.served.undo(delta),
             Change::Tables(served) => self.served = served,
         }
     }
@@ -253,21 +270,23 @@ fn servable(alloc: Global, state: State, size: u64) -> Result<Served, Refusal>
 {
     let known = known_of_loaded(alloc, &state, state.loaded())?;
     let known = Rc::new(alloc, known)?;
-    let served = Served::with(state, known);
+    let served = Served::numbered(state, known)?;
     check_room(alloc, &served, size)?;
     Ok(served)
 }
 
-/// The state in which jobs begin at the moment until none is ready, and what is asked of processes, behind the other actions.
-fn settle_all(
+/// The state in which jobs begin at the moment until none is ready, and what is asked of processes.
+fn settled(
     alloc: Global,
     served: Served,
-    mut actions: Vec<Action>,
     moment: Moment,
 ) -> Result<(Served, Vec<Action>), AllocError>
-    ensures { IfOk result (λ r. Adds (model.Settles moment served.state) (map action_of actions.items) r.0.state (map action_of r.1.items)) }
+    ensures { IfOk result (λ r. LeadsTo (model.Settles moment served.state) moment (map action_of r.1.items) r.0.state) }
 {
-    let (mut state, known) = served.into_parts();
-    settle(alloc, known.graph(), &mut state, &mut actions, moment)?;
-    Ok((Served::with(state, known), actions))
+    let mut served = served;
+    let mut work = served.work(alloc, moment)?;
+    settle(&mut work)?;
+    let (mut delta, actions) = work.done()?;
+    served.swap(&mut delta);
+    Ok((served, actions))
 }

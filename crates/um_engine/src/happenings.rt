@@ -1,25 +1,27 @@
 //! What follows from what happens.
 
 ghost use Rattle.std.specs.Bool.{Decides};
-ghost use Rattle.std.specs.Prelude.{◌≡◌, ◌↔◌, ◌&&◌, ℕ, true, List, [], Contains, map, option_map, IsTrue, IfOk, IfSome};
-ghost use Rattle.um_engine.specs.Engine.{FollowsUpon, Met, MetBy, IsSame};
-ghost use Rattle.um_engine.specs.Known.{KnowsFor};
+ghost use Rattle.std.specs.Prelude.{◌≡◌, ◌↔◌, ◌&&◌, ℕ, true, [], Contains, map, vec_len, IfOk, IsTrue};
+ghost use Rattle.um_engine.specs.Engine.{DoesRows, FollowsUpon, MetBy};
+ghost use Rattle.um_engine.specs.Served.{standing_of};
 ghost use Rattle.um_falling.specs.Over.{Serves};
-ghost use Rattle.um_model.specs.Ends.{waits_for_report, has_one_command};
+ghost use Rattle.um_model.specs.Ends.{waits_for_report};
 ghost use Rattle.um_model.specs.Machine as model;
-ghost use Rattle.um_model.specs.Service.{is_number};
+ghost use Rattle.um_model.specs.Service.{is_number, state_of_unit};
 ghost use Rattle.um_state.specs.View.{state_of, happening_of, action_of};
 ghost use Rattle.um_wire.specs.declared.refusal.Refusal.TheVariants.{NoMemory};
 
+use crate::engine::Change;
+use crate::numbered::number_of;
 use crate::served::Served;
 use crate::settling::{fire, settle};
 use std::alloc::{AllocError, Global};
-use um_falling::{happen, kind_in};
+use um_falling::{Work, happen, kind_in};
 use um_graph::Graph;
 use um_model::{End, Moment, ProcessNumber, UnitEvent, UnitState};
 use um_name::UnitName;
 use um_service::has_one_command;
-use um_state::{Action, BootId, Happening, State};
+use um_state::{Action, BootId, Delta, Happening, State};
 use um_wire::Refusal;
 
 /// What the end of a process is for its unit.
@@ -32,60 +34,44 @@ fn end_of(state: UnitState, number: u64, end: End) -> UnitEvent
     }
 }
 
-/// Whether both have the same units, jobs and next number.
-fn is_same(state: &State, other: &State) -> bool
-    ensures { IsTrue result ↔ IsSame (state_of state.now) (state_of other.now) }
-{
-    state.next().get() == other.next().get()
-        && state.units().is_same(other.units())
-        && state.pending().is_same(other.pending())
-}
-
-/// Whether a tick asked for nothing and changed nothing.
-fn is_idle(state: &State, after: &State, actions: &[Action]) -> bool
-    ensures { IsTrue result ↔ ((map action_of actions.now ≡ []) × IsSame (state_of state.now) (state_of after.now)) }
-{
-    actions.is_empty() && is_same(state, after)
-}
-
-/// The state after something happened to a unit of the graph, and jobs began where that made them ready; and what is asked of processes.
+/// What changes where something happens to a unit of the graph, and jobs begin where that makes them ready; and what is asked of
+/// processes.
 fn after_happening(
     alloc: Global,
-    graph: &Graph,
-    state: &State,
+    served: &Served,
     moment: Moment,
     unit: &UnitName,
     event: UnitEvent,
-) -> Result<(State, Vec<Action>), AllocError>
-    ensures { IfOk result (λ r. Serves graph.now (state_of state.now) → Contains graph.now.names unit.now
-        → FollowsUpon moment (state_of state.now) unit.now event (map action_of r.1.items) (state_of r.0) × Serves graph.now (state_of r.0)) }
+) -> Result<(Delta, Vec<Action>), AllocError>
+    requires { Contains served.now.known.graph.names unit.now }
+    ensures { IfOk result (λ r. DoesRows (FollowsUpon moment served.now.state unit.now event) moment (standing_of served.now) r.0 (map action_of r.1.items)) }
 {
-    let mut actions = Vec::new(alloc);
-    let mut after = state.copy()?;
-    happen(alloc, graph, &mut after, &mut actions, moment, unit, event)?;
-    settle(alloc, graph, &mut after, &mut actions, moment)?;
-    Ok((after, actions))
+    let mut work = served.work(alloc, moment)?;
+    let number = number_of(work.graph(), unit);
+    happen(&mut work, number, event)?;
+    settle(&mut work)?;
+    let (delta, actions) = work.done()?;
+    Ok((delta, actions))
 }
 
-/// The state after the end of a process; none where no live process has the number.
+/// What changes by the end of a process; nothing where no live process has the number.
 fn after_end(
     alloc: Global,
-    graph: &Graph,
-    state: &State,
+    served: &Served,
     moment: Moment,
     number: u64,
     end: End,
-) -> Result<(Option<State>, Vec<Action>), AllocError>
-    ensures met { IfOk result (λ met. Serves graph.now (state_of state.now) → Met moment (state_of state.now) (model.ProcessEnded number end) met.0 (map action_of met.1.items)) }
-    ensures serves { IfOk result (λ met. Serves graph.now (state_of state.now) → IfSome met.0 (λ after. Serves graph.now (state_of after))) }
+) -> Result<(Change, Vec<Action>), AllocError>
+    ensures { IfOk result (λ met. MetBy moment (standing_of served.now) (model.ProcessEnded number end) met.0 (map action_of met.1.items)) }
 {
-    let unit = match state.units().process(number) {
+    let units = served.state().units();
+    let unit = match units.process(number) {
         Some(unit) => unit,
-        None => return Ok((None, Vec::new(alloc))),
+        None => return Ok((Change::Nothing, Vec::new(alloc))),
     };
-    let event = end_of(state.units().get(unit), number, end);
-    let (after, actions) = after_happening(alloc, graph, state, moment, unit, event)?;
-    Ok((Some(after), actions))
+    let event = end_of(units.get(unit), number, end);
+    let (delta, actions) = after_happening(alloc, served, moment, unit, event)?;
+    Ok((Change::Rows(delta), actions))
 }
 
 /// Whether the process is there and has the number.
@@ -105,16 +91,19 @@ fn may_await(stands: UnitState, number: u64) -> bool
     stands.sub.waits_for_report() && is_number(number, stands.main)
 }
 
-/// Whether the unit, one of the graph, waits for the report that the program of its main process runs, and that process has the
-/// number. The graph is asked only where the unit stands so.
-fn awaits_report(graph: &Graph, state: &State, number: u64, unit: &UnitName) -> bool
-    ensures { Serves graph.now (state_of state.now) → Contains graph.now.names unit.now → Decides result (model.AwaitsReport (state_of state.now) number unit.now) }
+/// Whether the unit waits for the report that the program of its main process runs, and that process has the number. The graph is asked
+/// only where the unit stands so.
+fn awaits_report(graph: &Graph, stands: UnitState, number: u64, unit: &UnitName) -> bool
+    ensures { (s : model.State) → Serves graph.now s → Contains graph.now.names unit.now → stands ≡ state_of_unit s.units unit.now
+        → Decides result (model.AwaitsReport s number unit.now) }
 {
-    let stands = state.units().get(unit);
     if !may_await(stands, number) {
         return false;
     }
-    has_one_command(kind_in(graph, unit))
+    match graph.number(unit) {
+        Some(unit) => has_one_command(kind_in(graph, unit)),
+        None => false,
+    }
 }
 
 /// Whether what happens is a report for which no unit waits, as it is known without a look at any unit. Of anything else nothing is told.
@@ -127,50 +116,64 @@ pub fn is_unawaited(state: &State, happening: &Happening) -> bool
     }
 }
 
-/// The state after the report that the program of a process runs; none where no unit waits for it.
+/// What changes by the report that the program of a process runs; nothing where no unit waits for it.
 fn after_report(
     alloc: Global,
-    graph: &Graph,
-    state: &State,
+    served: &Served,
     moment: Moment,
     number: u64,
-) -> Result<(Option<State>, Vec<Action>), AllocError>
-    ensures met { IfOk result (λ met. Serves graph.now (state_of state.now) → Met moment (state_of state.now) (model.ProcessExecuted number) met.0 (map action_of met.1.items)) }
-    ensures serves { IfOk result (λ met. Serves graph.now (state_of state.now) → IfSome met.0 (λ after. Serves graph.now (state_of after))) }
+) -> Result<(Change, Vec<Action>), AllocError>
+    ensures { IfOk result (λ met. MetBy moment (standing_of served.now) (model.ProcessExecuted number) met.0 (map action_of met.1.items)) }
 {
-    let unit = match state.units().process(number) {
+    let units = served.state().units();
+    let unit = match units.process(number) {
         Some(unit) => unit,
-        None => return Ok((None, Vec::new(alloc))),
+        None => return Ok((Change::Nothing, Vec::new(alloc))),
     };
-    if !awaits_report(graph, state, number, unit) {
-        return Ok((None, Vec::new(alloc)));
+    if !awaits_report(served.known().graph(), units.get(unit), number, unit) {
+        return Ok((Change::Nothing, Vec::new(alloc)));
     }
     let event = UnitEvent::Executed;
-    let (after, actions) = after_happening(alloc, graph, state, moment, unit, event)?;
-    Ok((Some(after), actions))
+    let (delta, actions) = after_happening(alloc, served, moment, unit, event)?;
+    Ok((Change::Rows(delta), actions))
 }
 
-/// The state after a tick; none where it changed nothing and asked for nothing. Where no deadline is due that is so, and nothing is
-/// copied.
+/// Whether the next number is as it was.
+fn keeps_next(work: &Work<'_>, state: &State) -> bool
+    ensures { IsTrue result ↔ ((state_of work.now.now).next ≡ (state_of state.now).next) }
+{
+    work.next().get() == state.next().get()
+}
+
+/// Whether a tick changed no row and no number, and asked for nothing.
+fn is_idle(keeps_next: bool, delta: &Delta, actions: &[Action]) -> bool
+    ensures { IsTrue result ↔ ((keeps_next ≡ true) × (vec_len delta.now.rows ≡ 0) × (map action_of actions.now ≡ [])) }
+{
+    keeps_next && delta.len() == 0 && actions.is_empty()
+}
+
+/// What changes by a tick; nothing where it leaves all rows as they are and asks for nothing. Where no deadline is due that is so, and
+/// nothing is copied.
 fn after_tick(
     alloc: Global,
-    graph: &Graph,
-    state: &State,
+    served: &Served,
     moment: Moment,
-) -> Result<(Option<State>, Vec<Action>), AllocError>
-    ensures met { IfOk result (λ met. Serves graph.now (state_of state.now) → Met moment (state_of state.now) model.Tick met.0 (map action_of met.1.items)) }
-    ensures serves { IfOk result (λ met. Serves graph.now (state_of state.now) → IfSome met.0 (λ after. Serves graph.now (state_of after))) }
+) -> Result<(Change, Vec<Action>), AllocError>
+    ensures { IfOk result (λ met. MetBy moment (standing_of served.now) model.Tick met.0 (map action_of met.1.items)) }
 {
-    let mut actions = Vec::new(alloc);
+    let state = served.state();
     if state.units().none_due(moment) {
-        return Ok((None, actions));
+        return Ok((Change::Nothing, Vec::new(alloc)));
     }
-    let mut after = state.copy()?;
-    fire(alloc, graph, &mut after, &mut actions, moment)?;
-    if is_idle(state, &after, actions.as_slice()) {
-        return Ok((None, actions));
+    let mut work = served.work(alloc, moment)?;
+    let timers = state.units().deadlines()?;
+    fire(&mut work, timers)?;
+    let is_next = keeps_next(&work, state);
+    let (delta, actions) = work.done()?;
+    if is_idle(is_next, &delta, actions.as_slice()) {
+        return Ok((Change::Nothing, actions));
     }
-    Ok((Some(after), actions))
+    Ok((Change::Rows(delta), actions))
 }
 
 /// Want of memory, as the one cause for which nothing else is refused.
@@ -183,72 +186,45 @@ fn want_of_memory(refusal: Refusal) -> AllocError
     }
 }
 
-/// The state after a boot with this id, with what is known anew of its units: what stood under `run/` is gone. None where that is the
-/// boot that is known.
-fn after_boot(alloc: Global, served: &Served, boot: &BootId) -> Result<Option<Served>, AllocError>
-    ensures { IfOk result (λ after. (t : ℕ) → MetBy t served.now.state (model.Booted boot.now) after []) }
+/// What changes by a boot with this id: what stood under `run/` is gone, and units are known anew. Nothing where that is the boot that is
+/// known.
+fn after_boot(
+    alloc: Global,
+    served: &Served,
+    moment: Moment,
+    boot: &BootId,
+) -> Result<Change, AllocError>
+    ensures { IfOk result (λ change. MetBy moment (standing_of served.now) (model.Booted boot.now) change []) }
 {
     let state = served.state();
     if boot.as_str() == state.boot().as_str() {
-        return Ok(None);
+        return Ok(Change::Nothing);
     }
     let mut after = state.copy()?;
     after.begin_boot(alloc, boot.copy()?);
+    after.set_clock(moment);
     match Served::of(alloc, after) {
-        Ok(served) => Ok(Some(served)),
+        Ok(served) => Ok(Change::Tables(served)),
         Err(refusal) => Err(want_of_memory(refusal)),
     }
 }
 
-/// The state, if there is one, with what is known as it was.
-fn with_known(served: &Served, after: Option<State>) -> Result<Option<Served>, AllocError>
-    requires { IfSome after (λ state. KnowsFor served.now.known (state_of state)) }
-    ensures { IfOk result (λ known. option_map (λ s. s.state) known ≡ option_map state_of after) }
-{
-    match after {
-        Some(state) => Ok(Some(Served::with(state, served.share_known()?))),
-        None => Ok(None),
-    }
-}
-
-/// The state after what happens in the time of one boot, but for its clock, and what is asked of processes; no state where it has no
-/// effect.
-fn met_in_boot(
-    alloc: Global,
-    graph: &Graph,
-    state: &State,
-    moment: Moment,
-    happening: &Happening,
-) -> Result<(Option<State>, Vec<Action>), AllocError>
-    requires { (boot : List ℕ) → ¬ (happening_of happening.now ≡ model.Booted boot) }
-    ensures met { IfOk result (λ met. Serves graph.now (state_of state.now) → Met moment (state_of state.now) (happening_of happening.now) met.0 (map action_of met.1.items)) }
-    ensures serves { IfOk result (λ met. Serves graph.now (state_of state.now) → IfSome met.0 (λ after. Serves graph.now (state_of after))) }
-{
-    match happening {
-        Happening::ProcessEnded { number, end } => {
-            after_end(alloc, graph, state, moment, *number, *end)
-        }
-        Happening::ProcessExecuted { number } => {
-            after_report(alloc, graph, state, moment, *number)
-        }
-        Happening::Tick => after_tick(alloc, graph, state, moment),
-        Happening::Booted { .. } => unreachable!(),
-    }
-}
-
-/// The state after what happens at the moment, but for its clock, and what is asked of processes; no state where it has no effect.
+/// What changes by what happens at the moment, and what is asked of processes.
 pub fn met(
     alloc: Global,
     served: &Served,
     moment: Moment,
     happening: &Happening,
-) -> Result<(Option<Served>, Vec<Action>), AllocError>
-    ensures { IfOk result (λ met. MetBy moment served.now.state (happening_of happening.now) met.0 (map action_of met.1.items)) }
+) -> Result<(Change, Vec<Action>), AllocError>
+    ensures { IfOk result (λ met. MetBy moment (standing_of served.now) (happening_of happening.now) met.0 (map action_of met.1.items)) }
 {
-    if let Happening::Booted { boot } = happening {
-        return Ok((after_boot(alloc, served, boot)?, Vec::new(alloc)));
+    match happening {
+        Happening::ProcessEnded { number, end } => after_end(alloc, served, moment, *number, *end),
+        Happening::ProcessExecuted { number } => after_report(alloc, served, moment, *number),
+        Happening::Tick => after_tick(alloc, served, moment),
+        Happening::Booted { boot } => {
+            let change = after_boot(alloc, served, moment, boot)?;
+            Ok((change, Vec::new(alloc)))
+        }
     }
-    let graph = served.known().graph();
-    let (after, actions) = met_in_boot(alloc, graph, served.state(), moment, happening)?;
-    Ok((with_known(served, after)?, actions))
 }

@@ -12,8 +12,9 @@ ghost use Rattle.um_model.specs.declared.refusals.Limit.TheVariants as limits;
 
 use std::alloc::{AllocError, Global};
 use std::marker::Model;
+use um_falling::Work;
 use um_graph::{Graph, known_units};
-use um_name::UnitName;
+use um_name::{Names, UnitName};
 use um_state::State;
 use um_tree::Tree;
 use um_wire::Refusal;
@@ -23,6 +24,8 @@ use um_wire::Refusal;
 #[derive(Drop)]
 pub struct Known {
     graph: Graph,
+    /// Those of its units, each with the number that it has there.
+    names: Names,
     extra: Vec<UnitName>,
     /// In the order of their names; None where no entry stands under `run/`, since they are those of the graph then.
     lasting: Option<Vec<UnitName>>,
@@ -32,6 +35,8 @@ impl Model for Known {
     ghost Value = { KnownView };
 
     ghost view = { λ k. record { graph = k.graph; extra = k.extra.items; lasting = unwrap_or (option_map (λ names. names.items) k.lasting) k.graph.names } };
+
+    ghost invariant = { λ k. k.names ≡ k.graph.names };
 }
 
 /// The units that the state holds, and the one that is named.
@@ -60,6 +65,21 @@ fn holds_with(state: &State, named: Option<&UnitName>, unit: &UnitName) -> bool
         Some(named) => state.holds(unit) || unit == named,
         None => state.holds(unit),
     }
+}
+
+/// The names of the graph's units, each with the number that it has there.
+fn names_of(alloc: Global, graph: &Graph) -> Result<Names, AllocError>
+    ensures { IfOk result (λ names. names ≡ graph.now.names) }
+{
+    let mut listed = Vec::new(alloc);
+    for unit in 0..graph.len() {
+        match graph.name(unit) {
+            Some(name) => listed.push(name.copy()?)?,
+            None => unreachable!(),
+        }
+    }
+    let names = Names::of(alloc, &listed)?;
+    Ok(names)
 }
 
 /// The units that are known by the tree without its entries under `run/`, with those that are named beside it; None where it has no
@@ -106,10 +126,24 @@ impl Known {
             × IsFull tree.now (IsHeldWith (state_of state.now) (option_copied named.entry))) }
     {
         let extra = held_with(alloc, state, named)?;
+        let known = Known::with_units(alloc, tree, extra)?;
+        Ok(known)
+    }
+
+    /// What is known of the units of the tree, with these beside them. Refused are too many (E13 `units`).
+    pub fn with_units(alloc: Global, tree: &Tree, extra: Vec<UnitName>) -> Result<Known, Refusal>
+        ensures made { IfOk result (λ k. IsGraphFor tree.now (Contains k.extra) k.graph) }
+        ensures extra { IfOk result (λ k. k.extra ≡ extra.items) }
+        ensures lasting { IfOk result (λ k. (unit : List ℕ) → Contains k.lasting unit ↔ IsKnown (without_run tree.now) (Contains k.extra) unit) }
+        ensures few { IfOk result (λ k. ¬ IsFull tree.now (Contains extra.items)) }
+        ensures refused { IfErr result (λ e. ¬ (e ≡ refusals.NoMemory) → (e ≡ refusals.TooLarge limits.Units) × IsFull tree.now (Contains extra.items)) }
+    {
         let graph = Graph::of(alloc, tree, extra.as_slice())?;
+        let names = names_of(alloc, &graph)?;
         let lasting = lasting(alloc, tree, extra.as_slice())?;
         Ok(Known {
             graph,
+            names,
             extra,
             lasting,
         })
@@ -120,6 +154,13 @@ impl Known {
         ensures { result.now ≡ self.now.graph }
     {
         &self.graph
+    }
+
+    /// The names of the graph's units, each with the number that it has there.
+    pub fn names(&self) -> &Names
+        ensures { result.now ≡ self.now.graph.names }
+    {
+        &self.names
     }
 
     /// Whether each unit for which the graph was made is held by the state, or is the one that is named.
@@ -211,5 +252,73 @@ impl Known {
             return false;
         }
         self.lasts_for(state, named)
+    }
+
+    /// Whether each unit of the graph of which the work holds anything is known without the entries under `run/` too.
+    pub fn lasts_in(&self, work: &Work<'_>) -> bool
+        requires { work.now.graph ≡ self.now.graph }
+        ensures { IsTrue result → (unit : List ℕ) → Contains self.now.graph.names unit → IsHeld (state_of work.now.now) unit → Contains self.now.lasting unit }
+    {
+        match &self.lasting {
+            Some(_) => self.all_last_in(work),
+            None => true,
+        }
+    }
+
+    /// The same, unit by unit.
+    fn all_last_in(&self, work: &Work<'_>) -> bool
+        requires { work.now.graph ≡ self.now.graph }
+        ensures { IsTrue result → (unit : List ℕ) → Contains self.now.graph.names unit → IsHeld (state_of work.now.now) unit → Contains self.now.lasting unit }
+    {
+        for number in 0..self.graph.len() {
+            if !self.lasts_at_in(work, number) {
+                return false;
+            }
+        }
+        true
+    }
+
+    /// The same of the unit with this number.
+    fn lasts_at_in(&self, work: &Work<'_>, number: usize) -> bool
+        requires { work.now.graph ≡ self.now.graph }
+        ensures { IsTrue result → (unit : List ℕ) → IsNumberOf self.now.graph number unit → IsHeld (state_of work.now.now) unit → Contains self.now.lasting unit }
+    {
+        match self.graph.name(number) {
+            Some(unit) => !work.holds(number) || self.lasts(unit),
+            None => true,
+        }
+    }
+
+    /// Whether of each unit for which the graph was made the work holds something.
+    fn is_made_in(&self, work: &Work<'_>) -> bool
+        ensures { IsTrue result → (unit : List ℕ) → Contains self.now.extra unit → IsHeld (state_of work.now.now) unit }
+    {
+        for unit in &self.extra {
+            if !is_held_in(work, unit) {
+                return false;
+            }
+        }
+        true
+    }
+
+    /// Whether what is known is exactly what counts by the loaded tree, with the units of which the work holds anything.
+    pub fn fits_in(&self, work: &Work<'_>) -> bool
+        requires { work.now.graph ≡ self.now.graph }
+        ensures { IsTrue result → KnowsFor self.now (state_of work.now.now) → IsGraphFor (state_of work.now.now).loaded (IsHeld (state_of work.now.now)) self.now.graph }
+    {
+        if !self.is_made_in(work) {
+            return false;
+        }
+        self.lasts_in(work)
+    }
+}
+
+/// Whether the work holds anything of the unit.
+fn is_held_in(work: &Work<'_>, unit: &UnitName) -> bool
+    ensures { IsTrue result → IsHeld (state_of work.now.now) unit.now }
+{
+    match work.number(unit) {
+        Some(number) => work.holds(number),
+        None => false,
     }
 }

@@ -1,21 +1,23 @@
-//! The pending jobs of a state by the numbers of a graph's units, with what of them counts as deactivating, and again by their names.
+//! The pending jobs of a state by the numbers of a graph's units, with what of them counts as deactivating.
 
-ghost use Rattle.std.specs.Prelude.{◌≡◌, ◌↔◌, ℕ, List, IfOk, IsTrue, MatchOption, OnOk, length};
-ghost use Rattle.um_engine.specs.Filled.{NoneWaits, Tells, deactivates, is_deactivating, told_of};
+ghost use Rattle.std.specs.Prelude.{◌≡◌, ◌↔◌, ℕ, List, Contains, IfOk, IsTrue, MatchOption, length};
+ghost use Rattle.um_engine.specs.Filled.{NoneWaits, Tells, is_deactivating, told_of};
 ghost use Rattle.um_engine.specs.Planned.{ArePending};
 ghost use Rattle.um_graph.specs.Graph.{IsGraph, IsNumberOf};
 ghost use Rattle.um_jobs.specs.Jobs.{with_jobs_at, without_job};
-ghost use Rattle.um_jobs.specs.Named.{jobs_at, jobs_by};
-ghost use Rattle.um_model.specs.Jobs.{jobs_of_unit, with_job, with_jobs};
+ghost use Rattle.um_jobs.specs.Named.{jobs_at};
+ghost use Rattle.um_model.specs.Jobs.{jobs_of_unit, with_job};
 ghost use Rattle.um_model.specs.Machine as model;
 ghost use Rattle.um_model.specs.Service.{active_state_of};
 ghost use Rattle.um_state.specs.View.{state_of};
 
 use std::alloc::{AllocError, Global};
+use um_falling::Work;
 use um_graph::Graph;
 use um_jobs::{Jobs, has_waiting};
 use um_model::{ActiveState, JobKind, JobState, UnitJobs, UnitState};
-use um_state::{Pending, State};
+use um_name::UnitName;
+use um_state::State;
 
 /// The pending jobs of the unit with this number.
 fn jobs_of(graph: &Graph, state: &State, unit: usize) -> UnitJobs
@@ -45,11 +47,11 @@ pub fn pending_by_number(
 }
 
 /// Whether no job of the graph's units waits. It takes no memory.
-pub fn none_waits(graph: &Graph, state: &State) -> bool
-    ensures { IsTrue result ↔ NoneWaits graph.now (state_of state.now) }
+pub fn none_waits(work: &Work<'_>) -> bool
+    ensures { IsTrue result ↔ NoneWaits work.now.graph (state_of work.now.now) }
 {
-    for unit in 0..graph.len() {
-        if has_waiting(jobs_of(graph, state, unit)) {
+    for unit in 0..work.graph().len() {
+        if has_waiting(work.jobs(unit)) {
             return false;
         }
     }
@@ -63,24 +65,14 @@ fn is_deactivating(stands: UnitState) -> bool
     matches!(stands.sub.active_state(), ActiveState::Deactivating)
 }
 
-/// Whether the unit with this number counts as deactivating.
-fn deactivates(graph: &Graph, state: &State, unit: usize) -> bool
-    ensures { (x : List ℕ) → IsNumberOf graph.now unit x → result ≡ deactivates (state_of state.now) x }
+/// The pending jobs of the units by their numbers, and which of the units count as deactivating.
+pub fn jobs_in<'g>(work: &Work<'g>) -> Result<Jobs<'g>, AllocError>
+    ensures { IfOk result (λ jobs. Tells work.now.graph (state_of work.now.now) jobs) }
 {
-    match graph.name(unit) {
-        Some(name) => is_deactivating(state.units().get(name)),
-        None => false,
-    }
-}
-
-/// The pending jobs of the graph's units by their numbers, and which of the units count as deactivating.
-pub fn jobs_in<'g>(alloc: Global, graph: &'g Graph, state: &State) -> Result<Jobs<'g>, AllocError>
-    ensures { IfOk result (λ jobs. Tells graph.now (state_of state.now) jobs) }
-{
-    let pending = pending_by_number(alloc, graph, state)?;
-    let mut jobs = Jobs::of(alloc, graph, &pending)?;
+    let graph = work.graph();
+    let mut jobs = Jobs::of(work.alloc(), graph, work.pending())?;
     for unit in 0..graph.len() {
-        jobs.hold(unit, deactivates(graph, state, unit));
+        jobs.hold(unit, is_deactivating(work.unit(unit)));
     }
     Ok(jobs)
 }
@@ -106,48 +98,30 @@ fn tell_jobs(jobs: &mut Jobs<'_>, unit: usize, told: UnitJobs)
     tell_job(jobs, unit, JobKind::Start, told.start);
 }
 
-/// Tells of the unit with this number what the state holds of it.
-pub fn tell(jobs: &mut Jobs<'_>, graph: &Graph, state: &State, unit: usize)
-    ensures { (x : List ℕ) → IsNumberOf graph.now unit x → jobs.new ≡ told_of (state_of state.now) unit x jobs.old }
+/// Tells of the unit with this number what is held of it by now.
+pub fn tell(jobs: &mut Jobs<'_>, work: &Work<'_>, unit: usize)
+    ensures { (x : List ℕ) → IsNumberOf work.now.graph unit x → jobs.new ≡ told_of (state_of work.now.now) unit x jobs.old }
 {
-    tell_jobs(jobs, unit, jobs_of(graph, state, unit));
-    jobs.hold(unit, deactivates(graph, state, unit));
+    tell_jobs(jobs, unit, work.jobs(unit));
+    jobs.hold(unit, is_deactivating(work.unit(unit)));
 }
 
-/// Tells of each unit what the state holds of it, where that of another state was told. It takes no memory.
-pub fn tell_all(jobs: &mut Jobs<'_>, graph: &Graph, state: &State)
-    ensures { (before : model.State) → Tells graph.now before jobs.old → Tells graph.now (state_of state.now) jobs.new }
+/// Tells of each unit what is held of it by now, where that of another state was told. It takes no memory.
+pub fn tell_all(jobs: &mut Jobs<'_>, work: &Work<'_>)
+    ensures { (before : model.State) → Tells work.now.graph before jobs.old → Tells work.now.graph (state_of work.now.now) jobs.new }
 {
-    for unit in 0..graph.len() {
-        tell(jobs, graph, state, unit);
+    for unit in 0..work.graph().len() {
+        tell(jobs, work, unit);
     }
 }
 
-/// Puts the jobs of the unit with this number under its name.
-fn put_jobs(
-    pending: &mut Pending,
-    graph: &Graph,
-    jobs: &Jobs<'_>,
-    unit: usize,
-) -> Result<(), AllocError>
-    ensures { OnOk result ((x : List ℕ) → IsNumberOf graph.now unit x → pending.new.held ≡ with_jobs pending.old.held x (jobs_at jobs.now.units unit)) }
+/// The number of a unit of the graph.
+pub fn number_of(graph: &Graph, unit: &UnitName) -> usize
+    requires { Contains graph.now.names unit.now }
+    ensures { IsNumberOf graph.now result unit.now }
 {
-    match graph.name(unit) {
-        Some(name) => pending.set(name, jobs.get(unit)),
-        None => Ok(()),
+    match graph.number(unit) {
+        Some(number) => number,
+        None => unreachable!(),
     }
-}
-
-/// The pending jobs by the names of the units.
-pub fn jobs_named(alloc: Global, graph: &Graph, jobs: &Jobs<'_>) -> Result<Pending, AllocError>
-    requires { length jobs.now.units ≡ length graph.now.names }
-    ensures { IfOk result (λ pending. pending.held ≡ jobs_by graph.now.names jobs.now.units) }
-{
-    let mut pending = Pending::new(alloc);
-    let mut unit = graph.len();
-    while unit > 0 {
-        unit -= 1;
-        put_jobs(&mut pending, graph, jobs, unit)?;
-    }
-    Ok(pending)
 }

@@ -1,51 +1,57 @@
 //! What the plan of a command for a unit makes of the state (systemctl(1), "start", "stop", "restart", "try-restart").
 
-ghost use Rattle.std.specs.Prelude.{◌≡◌, ◌<◌, ℕ, List, Contains, IfOk, drop, length};
+ghost use Rattle.std.specs.Prelude.{◌≡◌, [], ℕ, List, Contains, IfOk, IfErr, length};
 ghost use Rattle.um_answer.specs.Loaded.{is_found as finds};
-ghost use Rattle.um_engine.specs.Demanded.{wants_it_there};
+ghost use Rattle.um_engine.specs.Demanded.{Demands, wants_it_there};
 ghost use Rattle.um_engine.specs.Known.{IsGraphFor, KnowsFor};
-ghost use Rattle.um_engine.specs.Planned.{AreActive, ArePending, IsTransactionFor};
-ghost use Rattle.um_graph.specs.Graph.{IsNumberOf};
+ghost use Rattle.um_engine.specs.Outcomes.{IsBasedOn, IsSilent, state_by};
+ghost use Rattle.um_engine.specs.Planned.{AreActive, ArePending, HasPlan, IsTransactionFor};
+ghost use Rattle.um_engine.specs.Served.{WorksOn};
+ghost use Rattle.um_falling.specs.Work.{Keeps};
+ghost use Rattle.um_graph.specs.Graph.{IsGraph, IsNumberOf};
 ghost use Rattle.um_jobs.specs.Named.{jobs_by};
+ghost use Rattle.um_model.specs.Jobs.{AreTidyJobs};
 ghost use Rattle.um_model.specs.Machine as model;
 ghost use Rattle.um_model.specs.Machine.{IsHeldOr};
 ghost use Rattle.um_model.specs.Service.{active_state_of, state_of_unit};
-ghost use Rattle.um_state.specs.View.{state_of};
 ghost use Rattle.um_model.specs.Units.{load as load_in};
+ghost use Rattle.um_state.specs.View.{state_of};
 ghost use Rattle.um_wire.specs.Gives.{RefusesBy};
+ghost use Rattle.um_wire.specs.Refusal.{refused_of};
+ghost use Rattle.um_wire.specs.declared.refusal.Refusal.TheVariants.{NoMemory};
 
+use crate::commands::Outcome;
 use crate::jobs::demand_of;
 use crate::known::Known;
-use crate::numbered::{jobs_named, pending_by_number};
+use crate::numbered::number_of;
+use crate::room::held_in;
 use crate::served::Served;
 use std::alloc::{AllocError, Global};
 use std::rc::Rc;
 use um_answer::{Asked, check_missing};
+use um_falling::Work;
 use um_graph::Graph;
-use um_jobs::Jobs;
-use um_model::{ActiveState, Demand, JobMode, UnitJobs, UnitVerb};
+use um_model::{ActiveState, Demand, JobMode, Moment, UnitJobs, UnitVerb};
 use um_name::UnitName;
-use um_state::State;
-use um_transact::{Plan, Transaction};
+use um_state::{Reply, State};
+use um_transact::Transaction;
 use um_wire::Refusal;
 
 /// How active the unit with this number is.
-fn activity_of(graph: &Graph, state: &State, unit: usize) -> ActiveState
-    ensures { (x : List ℕ) → IsNumberOf graph.now unit x → result ≡ active_state_of (state_of_unit (state_of state.now).units x).sub }
+fn activity_of(work: &Work<'_>, unit: usize) -> ActiveState
+    ensures { (x : List ℕ) → IsNumberOf work.now.graph unit x → result ≡ active_state_of (state_of_unit (state_of work.now.now).units x).sub }
 {
-    match graph.name(unit) {
-        Some(name) => state.units().get(name).sub.active_state(),
-        None => ActiveState::Inactive,
-    }
+    work.unit(unit).sub.active_state()
 }
 
-/// How active each unit of the graph is, by number.
-fn activity(alloc: Global, graph: &Graph, state: &State) -> Result<Vec<ActiveState>, AllocError>
-    ensures { IfOk result (λ activity. AreActive graph.now (state_of state.now) activity.items) }
+/// How active each unit is, by number.
+fn activity(work: &Work<'_>) -> Result<Vec<ActiveState>, AllocError>
+    ensures active { IfOk result (λ activity. AreActive work.now.graph (state_of work.now.now) activity.items) }
+    ensures graph { IsGraph work.now.graph }
 {
-    let mut activity = Vec::new(alloc);
-    for unit in 0..graph.len() {
-        activity.push(activity_of(graph, state, unit))?;
+    let mut activity = Vec::new(work.alloc());
+    for unit in 0..work.graph().len() {
+        activity.push(activity_of(work, unit))?;
     }
     Ok(activity)
 }
@@ -57,26 +63,16 @@ struct Situation {
     pending: Vec<UnitJobs>,
 }
 
-/// How the units of the graph stand.
-fn situation_of(alloc: Global, graph: &Graph, state: &State) -> Result<Situation, AllocError>
-    ensures active { IfOk result (λ at. AreActive graph.now (state_of state.now) at.activity.items) }
-    ensures pends { IfOk result (λ at. ArePending graph.now (state_of state.now) at.pending.items) }
+/// How the units stand in the work.
+fn situation_of(work: &Work<'_>) -> Result<Situation, AllocError>
+    ensures active { IfOk result (λ at. AreActive work.now.graph (state_of work.now.now) at.activity.items) }
+    ensures pends { IfOk result (λ at. ArePending work.now.graph (state_of work.now.now) at.pending.items) }
+    ensures tidy { IfOk result (λ _. AreTidyJobs (state_of work.now.now).pending) }
 {
     Ok(Situation {
-        activity: activity(alloc, graph, state)?,
-        pending: pending_by_number(alloc, graph, state)?,
+        activity: activity(work)?,
+        pending: Vec::from_slice(work.alloc(), work.pending())?,
     })
-}
-
-/// The number of a unit of the graph.
-fn number_of(graph: &Graph, unit: &UnitName) -> usize
-    requires { Contains graph.now.names unit.now }
-    ensures { IsNumberOf graph.now result unit.now }
-{
-    match graph.number(unit) {
-        Some(number) => number,
-        None => unreachable!(),
-    }
 }
 
 /// The transaction for the demand on a unit of the graph.
@@ -103,15 +99,17 @@ fn transaction<'t>(
     )
 }
 
-/// The state with the jobs of the plan.
-fn with_plan(alloc: Global, graph: &Graph, state: &State, plan: &Plan) -> Result<State, AllocError>
-    requires { length plan.now ≡ length graph.now.names }
-    ensures { IfOk result (λ u. state_of u ≡ record (state_of state.now) { pending = jobs_by graph.now.names plan.now }) }
+/// Puts the jobs of the plan, of each unit by its number. It takes no memory.
+fn put_plan(work: &mut Work<'_>, jobs: &[UnitJobs])
+    requires long { length jobs.now ≡ length work.old.graph.names }
+    requires tidy { AreTidyJobs (state_of work.old.now).pending }
+    ensures state { state_of work.new.now ≡ record (state_of work.old.now) { pending = jobs_by work.old.graph.names jobs.now } }
+    ensures keeps { Keeps work.old work.new }
+    ensures actions { work.new.actions ≡ work.old.actions }
 {
-    let jobs = Jobs::of(alloc, graph, plan.as_slice())?;
-    let mut planned = state.copy()?;
-    planned.set_pending(jobs_named(alloc, graph, &jobs)?);
-    Ok(planned)
+    for unit in 0..work.graph().len() {
+        work.set_jobs(unit, jobs[unit]);
+    }
 }
 
 /// What a command demands of the unit.
@@ -145,31 +143,159 @@ fn check_there(
     check_missing(alloc, state, asked, is_found)
 }
 
-/// The state after a plan, with what is known of its units. Refused are too many known units (E13).
-///
-/// All units of the plan are known already; but those that only entries under `run/` name aren't by the tree without these, until
-/// the state holds them.
-fn served_after(alloc: Global, changed: State, known: Rc<Known>) -> Result<Served, Refusal>
-    requires { KnowsFor known.value (state_of changed) }
-    ensures state { IfOk result (λ u. u.state ≡ state_of changed) }
-    ensures refused { RefusesBy (model.IsCrowded (state_of changed).loaded (model.IsHeld (state_of changed))) result }
+/// Refuses too many known units with those of which the work holds anything (E13).
+fn check_crowded(alloc: Global, served: &Served, work: &Work<'_>) -> Result<(), Refusal>
+    requires { WorksOn served.now work.now }
+    ensures { RefusesBy (model.IsCrowded (state_of work.now.now).loaded (model.IsHeld (state_of work.now.now))) result }
 {
-    if known.lasts_for(&changed, None) {
-        return Ok(Served::with(changed, known));
+    let graph = work.graph();
+    if served.known().lasts_in(work) {
+        return Ok(());
     }
-    Served::of(alloc, changed)
+    let held = held_in(alloc, graph, work)?;
+    Known::with_units(alloc, served.state().loaded(), held)?;
+    Ok(())
 }
 
-/// The state with the plan of a command for a unit. Refused are, in this order, too many known units with the one that is named, or
-/// with the jobs of the plan (E13), one that isn't there (E7), and what `Transaction::check` refuses.
-pub fn planned(
+/// A command for a unit: the verb, the name that was asked for, whether that is found, and the mode.
+#[derive(Clone, Copy)]
+struct Wanted<'a> {
+    verb: UnitVerb,
+    asked: &'a UnitName,
+    is_found: bool,
+    mode: JobMode,
+}
+
+/// The work with the plan for the demand on a unit that is known. Refused are, in this order, too many known units with the jobs of the plan
+/// (E13), a unit that isn't there (E7), and what `Transaction::check` refuses.
+fn planned_in<'s>(
+    alloc: Global,
+    served: &'s Served,
+    moment: Moment,
+    demand: Demand,
+    unit: &UnitName,
+    wanted: &Wanted<'_>,
+) -> Result<Work<'s>, Refusal>
+    requires demands { Demands served.now.state wanted.now.verb wanted.now.asked.now wanted.now.is_found demand unit.now }
+    requires exact { IsGraphFor served.now.state.loaded (IsHeldOr served.now.state unit.now) served.now.known.graph }
+    ensures planned { IfOk result (λ work. HasPlan served.now.state (demand, unit.now) (state_of work.now)) }
+    ensures works { IfOk result (λ work. WorksOn served.now work) }
+    ensures moment { IfOk result (λ work. work.moment ≡ moment) }
+    ensures actions { IfOk result (λ work. work.actions ≡ []) }
+    ensures refused { RefusesBy (model.Refuses served.now.state (model.ForUnit wanted.now.verb wanted.now.asked.now wanted.now.mode)) result }
+{
+    let mut work = served.work(alloc, moment)?;
+    let situation = situation_of(&work)?;
+    let transaction = transaction(alloc, work.graph(), &situation, demand, unit)?;
+    put_plan(&mut work, transaction.plan().as_slice());
+    check_crowded(alloc, served, &work)?;
+    check_there(
+        alloc,
+        served.state(),
+        wanted.verb,
+        wanted.asked,
+        wanted.is_found,
+    )?;
+    transaction.check(alloc, wanted.mode)?;
+    Ok(work)
+}
+
+/// The state after a plan by other known units, at the moment that it has.
+fn planned_with(
     alloc: Global,
     served: &Served,
+    known: Rc<Known>,
+    demand: Demand,
+    unit: &UnitName,
+    wanted: &Wanted<'_>,
+) -> Result<Served, Refusal>
+    requires demands { Demands served.now.state wanted.now.verb wanted.now.asked.now wanted.now.is_found demand unit.now }
+    requires knows { KnowsFor known.value served.now.state }
+    requires exact { IsGraphFor served.now.state.loaded (IsHeldOr served.now.state unit.now) known.value.graph }
+    ensures planned { IfOk result (λ u. HasPlan served.now.state (demand, unit.now) u.state) }
+    ensures refused { RefusesBy (model.Refuses served.now.state (model.ForUnit wanted.now.verb wanted.now.asked.now wanted.now.mode)) result }
+{
+    let state = served.state();
+    let mut changed = Served::numbered(state.copy()?, known)?;
+    let work = planned_in(alloc, &changed, state.clock(), demand, unit, wanted)?;
+    let (mut delta, _) = work.done()?;
+    changed.swap(&mut delta);
+    Ok(changed)
+}
+
+/// The same, with just the units that are known by it. Refused are too many (E13).
+fn known_anew(alloc: Global, served: Served) -> Result<Served, Refusal>
+    ensures state { IfOk result (λ u. u.state ≡ served.state) }
+    ensures refused { IfErr result (λ e. ¬ (e ≡ NoMemory) → model.IsCrowded served.state.loaded (model.IsHeld served.state) (refused_of e)) }
+{
+    if served.known().lasts_for(served.state(), None) {
+        return Ok(served);
+    }
+    Served::of(alloc, served.into_state())
+}
+
+/// The same, with just the units that are known by the state then.
+fn planned_anew(
+    alloc: Global,
+    served: &Served,
+    known: Rc<Known>,
+    demand: Demand,
+    unit: &UnitName,
+    wanted: &Wanted<'_>,
+) -> Result<Served, Refusal>
+    requires demands { Demands served.now.state wanted.now.verb wanted.now.asked.now wanted.now.is_found demand unit.now }
+    requires knows { KnowsFor known.value served.now.state }
+    requires exact { IsGraphFor served.now.state.loaded (IsHeldOr served.now.state unit.now) known.value.graph }
+    ensures planned { IfOk result (λ u. HasPlan served.now.state (demand, unit.now) u.state) }
+    ensures refused { RefusesBy (model.Refuses served.now.state (model.ForUnit wanted.now.verb wanted.now.asked.now wanted.now.mode)) result }
+{
+    let changed = planned_with(alloc, served, known, demand, unit, wanted)?;
+    let after = known_anew(alloc, changed)?;
+    Ok(after)
+}
+
+/// What the plan for the demand on a unit leads to: rows, where what is known of units fits and stays.
+fn planned_by<'s>(
+    alloc: Global,
+    served: &'s Served,
+    known: Rc<Known>,
+    moment: Moment,
+    demand: Demand,
+    unit: &UnitName,
+    wanted: &Wanted<'_>,
+) -> Result<Outcome<'s>, Refusal>
+    requires demands { Demands served.now.state wanted.now.verb wanted.now.asked.now wanted.now.is_found demand unit.now }
+    requires knows { KnowsFor known.value served.now.state }
+    requires exact { IsGraphFor served.now.state.loaded (IsHeldOr served.now.state unit.now) known.value.graph }
+    ensures planned { IfOk result (λ o. HasPlan served.now.state (demand, unit.now) (state_by o)) }
+    ensures silent { IfOk result (λ o. IsSilent o) }
+    ensures based { IfOk result (λ o. IsBasedOn served.now moment o) }
+    ensures refused { RefusesBy (model.Refuses served.now.state (model.ForUnit wanted.now.verb wanted.now.asked.now wanted.now.mode)) result }
+{
+    if served.known().fits(served.state(), Some(unit)) {
+        let work = planned_in(alloc, served, moment, demand, unit, wanted)?;
+        if served.known().lasts_in(&work) {
+            return Ok(Outcome::Rows(work));
+        }
+    }
+    let changed = planned_anew(alloc, served, known, demand, unit, wanted)?;
+    Ok(Outcome::Tables(changed, Reply::Done))
+}
+
+/// What the plan of a command for a unit leads to, before any job begins: rows, where what is known of units stays. Refused are, in this
+/// order, too many known units with the one that is named, or with the jobs of the plan (E13), one that isn't there (E7), and what
+/// `Transaction::check` refuses.
+pub fn planned<'s>(
+    alloc: Global,
+    served: &'s Served,
+    moment: Moment,
     verb: UnitVerb,
     asked: &UnitName,
     mode: JobMode,
-) -> Result<Served, Refusal>
-    ensures changed { IfOk result (λ u. model.Changes served.now.state (model.ForUnit verb asked.now mode) u.state) }
+) -> Result<Outcome<'s>, Refusal>
+    ensures changed { IfOk result (λ o. model.Changes served.now.state (model.ForUnit verb asked.now mode) (state_by o)) }
+    ensures silent { IfOk result (λ o. IsSilent o) }
+    ensures based { IfOk result (λ o. IsBasedOn served.now moment o) }
     ensures refused { RefusesBy (model.Refuses served.now.state (model.ForUnit verb asked.now mode)) result }
 {
     let state = served.state();
@@ -177,14 +303,14 @@ pub fn planned(
     let known = served.known_with(alloc, &unit)?;
     let Some(demand) = demand_for(state, verb, &unit) else {
         check_there(alloc, state, verb, asked, is_found)?;
-        return Ok(Served::with(state.copy()?, served.share_known()?));
+        return Ok(Outcome::Rows(served.work(alloc, moment)?));
     };
-    let graph = known.graph();
-    let situation = situation_of(alloc, graph, state)?;
-    let transaction = transaction(alloc, graph, &situation, demand, &unit)?;
-    let changed = with_plan(alloc, graph, state, transaction.plan())?;
-    let after = served_after(alloc, changed, known.clone()?)?;
-    check_there(alloc, state, verb, asked, is_found)?;
-    transaction.check(alloc, mode)?;
-    Ok(after)
+    let wanted = Wanted {
+        verb,
+        asked,
+        is_found,
+        mode,
+    };
+    let outcome = planned_by(alloc, served, known, moment, demand, &unit, &wanted)?;
+    Ok(outcome)
 }

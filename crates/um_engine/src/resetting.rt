@@ -1,57 +1,44 @@
 //! Failures are forgotten (systemctl(1), "reset-failed").
 
-ghost use Rattle.um_falling.specs.Carrying.{Adds};
-ghost use Rattle.std.specs.Prelude.{◌≡◌, ◌∷◌, [], map, IfOk, OnOk};
-ghost use Rattle.um_falling.specs.Over.{Serves};
+ghost use Rattle.std.specs.Prelude.{◌≡◌, ◌∷◌, [], IfOk, OnOk};
+ghost use Rattle.um_engine.specs.Served.{WorksOn};
+ghost use Rattle.um_falling.specs.Work.{Goes, Keeps};
 ghost use Rattle.um_model.specs.Machine as model;
-ghost use Rattle.um_state.specs.View.{state_of, action_of};
+ghost use Rattle.um_state.specs.View.{state_of};
 ghost use Rattle.um_wire.specs.Gives.{RefusesBy};
 
 use crate::served::Served;
 use std::alloc::{AllocError, Global};
 use um_answer::{Asked, check_missing};
-use um_falling::happen;
-use um_graph::Graph;
+use um_falling::{Work, happen};
 use um_model::{Moment, UnitEvent};
 use um_name::UnitName;
-use um_state::{Action, State};
 use um_wire::Refusal;
 
 /// That the unit failed is forgotten. Of one of which nothing is held there is nothing to forget.
-fn reset(
-    alloc: Global,
-    graph: &Graph,
-    state: &mut State,
-    actions: &mut Vec<Action>,
-    moment: Moment,
-    unit: &UnitName,
-) -> Result<(), AllocError>
-    ensures { OnOk result (Serves graph.now (state_of state.old)
-        → Adds (model.AreReset moment (unit.now ∷ []) (state_of state.old)) (map action_of actions.old.items) (state_of state.new) (map action_of actions.new.items)
-        × Serves graph.now (state_of state.new)) }
+fn reset(work: &mut Work<'_>, unit: &UnitName) -> Result<(), AllocError>
+    ensures resets { OnOk result (Goes (model.AreReset work.old.moment (unit.now ∷ []) (state_of work.old.now)) work.old work.new) }
+    ensures keeps { OnOk result (Keeps work.old work.new) }
 {
-    if !state.holds(unit) {
+    // the proof reads here that the graph serves
+    let _ = work.graph();
+    let Some(number) = work.number(unit) else {
+        return Ok(());
+    };
+    if !work.holds(number) {
         return Ok(());
     }
-    happen(alloc, graph, state, actions, moment, unit, UnitEvent::Reset)?;
+    happen(work, number, UnitEvent::Reset)?;
     Ok(())
 }
 
 /// That these units failed is forgotten, one after another.
-fn reset_all(
-    alloc: Global,
-    graph: &Graph,
-    state: &mut State,
-    actions: &mut Vec<Action>,
-    moment: Moment,
-    units: &[UnitName],
-) -> Result<(), AllocError>
-    ensures { OnOk result (Serves graph.now (state_of state.old)
-        → Adds (model.AreReset moment units.now (state_of state.old)) (map action_of actions.old.items) (state_of state.new) (map action_of actions.new.items)
-        × Serves graph.now (state_of state.new)) }
+fn reset_all(work: &mut Work<'_>, units: &[UnitName]) -> Result<(), AllocError>
+    ensures resets { OnOk result (Goes (model.AreReset work.old.moment units.now (state_of work.old.now)) work.old work.new) }
+    ensures keeps { OnOk result (Keeps work.old work.new) }
 {
     for unit in units {
-        reset(alloc, graph, state, actions, moment, unit)?;
+        reset(work, unit)?;
     }
     Ok(())
 }
@@ -86,21 +73,20 @@ fn units_reset(
     }
 }
 
-/// The state in which it is forgotten that the unit failed, or that all units did, and what is asked of processes.
-pub fn without_failures(
+/// The work in which it is forgotten that the unit failed, or that all units did.
+pub fn without_failures<'s>(
     alloc: Global,
-    served: &Served,
+    served: &'s Served,
     moment: Moment,
     asked: &Option<UnitName>,
-) -> Result<(Served, Vec<Action>), Refusal>
-    ensures does { IfOk result (λ r. model.Does moment served.now.state (model.ResetFailed asked.now) (map action_of r.1.items) r.0.state) }
+) -> Result<Work<'s>, Refusal>
+    ensures does { IfOk result (λ work. model.Does moment served.now.state (model.ResetFailed asked.now) work.actions (state_of work.now)) }
+    ensures works { IfOk result (WorksOn served.now) }
+    ensures moment { IfOk result (λ work. work.moment ≡ moment) }
     ensures refused { RefusesBy (model.Refuses served.now.state (model.ResetFailed asked.now)) result }
 {
     let units = units_reset(alloc, served, asked)?;
-    let mut state = served.state().copy()?;
-    let mut actions = Vec::new(alloc);
-    let graph = served.known().graph();
-    reset_all(alloc, graph, &mut state, &mut actions, moment, &units)?;
-    let known = served.share_known()?;
-    Ok((Served::with(state, known), actions))
+    let mut work = served.work(alloc, moment)?;
+    reset_all(&mut work, &units)?;
+    Ok(work)
 }

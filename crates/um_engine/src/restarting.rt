@@ -1,9 +1,11 @@
 //! Automatic restarts (systemd.service(5), "Restart=").
 
 ghost use Rattle.std.specs.Bool.{Decides};
-ghost use Rattle.std.specs.Prelude.{Contains, IfOk, OnOk};
+ghost use Rattle.std.specs.Prelude.{◌≡◌, ℕ, List, IfOk, OnOk};
 ghost use Rattle.um_engine.specs.Planned.{ArePending};
 ghost use Rattle.um_falling.specs.Over.{Serves};
+ghost use Rattle.um_falling.specs.Work.{Keeps};
+ghost use Rattle.um_graph.specs.Graph.{IsNumberOf};
 ghost use Rattle.um_model.specs.Machine as model;
 ghost use Rattle.um_model.specs.Machine.{IsBefore};
 ghost use Rattle.um_model.specs.Plan.{AreFree};
@@ -11,11 +13,10 @@ ghost use Rattle.um_state.specs.View.{state_of};
 
 use crate::numbered::jobs_in;
 use std::alloc::{AllocError, Global};
+use um_falling::Work;
 use um_graph::Graph;
 use um_jobs::Jobs;
 use um_model::JobKind;
-use um_name::UnitName;
-use um_state::State;
 use um_transact::check_pending;
 use um_wire::Refusal;
 
@@ -30,28 +31,22 @@ fn are_free(alloc: Global, graph: &Graph, jobs: &Jobs<'_>) -> Result<bool, Alloc
     }
 }
 
-/// Puts a start of the unit, which is one of the graph, as its one job: unless a job of it is pending or the pending jobs would then
-/// wait for one another in a circle. Where memory is refused the state is of no use.
-pub fn restart(
-    alloc: Global,
-    graph: &Graph,
-    state: &mut State,
-    unit: &UnitName,
-) -> Result<(), AllocError>
-    ensures { OnOk result (Serves graph.now (state_of state.old) → Contains graph.now.names unit.now
-        → model.Restarts (state_of state.old) unit.now (state_of state.new) × Serves graph.now (state_of state.new)) }
+/// Puts a start of the unit with this number as its one job: unless a job of it is pending or the pending jobs would then wait for one
+/// another in a circle. Where memory is refused the work is of no use.
+pub fn restart(work: &mut Work<'_>, unit: usize) -> Result<(), AllocError>
+    ensures state { OnOk result ((name : List ℕ) → IsNumberOf work.old.graph unit name
+        → model.Restarts (state_of work.old.now) name (state_of work.new.now)) }
+    ensures keeps { OnOk result (Keeps work.old work.new) }
+    ensures actions { OnOk result (work.new.actions ≡ work.old.actions) }
 {
-    if state.pending().get(unit).has_job() {
+    if work.jobs(unit).has_job() {
         return Ok(());
     }
-    let Some(number) = graph.number(unit) else {
-        return Ok(());
-    };
-    let mut jobs = jobs_in(alloc, graph, state)?;
-    jobs.put(number, JobKind::Start);
-    if !are_free(alloc, graph, &jobs)? {
+    let mut jobs = jobs_in(work)?;
+    jobs.put(unit, JobKind::Start);
+    if !are_free(work.alloc(), work.graph(), &jobs)? {
         return Ok(());
     }
-    state.set_jobs(unit, jobs.get(number))?;
+    work.set_jobs(unit, jobs.get(unit));
     Ok(())
 }

@@ -4,8 +4,9 @@ ghost use Rattle.std.specs.Prelude.{◌≡◌, IfOk, Some};
 ghost use Rattle.std.specs.Coded.{codes};
 ghost use Rattle.std.specs.FinMap as maps;
 ghost use Rattle.um_engine.specs.Known.{IsGraphFor, KnowsFor};
-ghost use Rattle.um_engine.specs.Served.{ServedView};
+ghost use Rattle.um_engine.specs.Served.{ServedView, WorksOn, begun_at, standing_of};
 ghost use Rattle.um_model.specs.Machine.{IsHeld, IsHeldOr, IsCrowded};
+ghost use Rattle.um_state.specs.Deltas.{delta_after, delta_before};
 ghost use Rattle.um_state.specs.View.{state_of};
 ghost use Rattle.um_tree.specs.Code.{tree_code};
 ghost use Rattle.um_wire.specs.Gives.{RefusesBy};
@@ -14,9 +15,10 @@ use crate::known::Known;
 use std::alloc::{AllocError, Global};
 use std::marker::Model;
 use std::rc::Rc;
+use um_falling::Work;
 use um_model::Moment;
 use um_name::UnitName;
-use um_state::State;
+use um_state::{Delta, State};
 use um_wire::Refusal;
 
 /// A state and what is known of the units of its loaded tree, all that the state holds among them. States that follow one another
@@ -34,7 +36,7 @@ impl Model for Served {
 
     ghost view = { λ s. record { state = state_of s.state; known = s.known.value } };
 
-    ghost invariant = { λ s. KnowsFor s.known.value (state_of s.state) };
+    ghost invariant = { λ s. (s.state.names ≡ s.known.value.graph.names) × KnowsFor s.known.value (state_of s.state) };
 }
 
 impl Served {
@@ -45,35 +47,60 @@ impl Served {
     {
         let known = Known::of(alloc, state.loaded(), &state, None)?;
         let known = Rc::new(alloc, known)?;
-        Ok(Served { state, known })
+        let served = Served::numbered(state, known)?;
+        Ok(served)
     }
 
-    /// A state with what is known for it.
-    pub fn with(state: State, known: Rc<Known>) -> Served
+    /// A state with what is known for it, and with the numbers that the units have there.
+    pub fn numbered(state: State, known: Rc<Known>) -> Result<Served, AllocError>
         requires { KnowsFor known.value (state_of state) }
-        ensures state { result.state ≡ state_of state }
-        ensures known { result.known ≡ known.value }
+        ensures state { IfOk result (λ s. s.state ≡ state_of state) }
+        ensures known { IfOk result (λ s. s.known ≡ known.value) }
     {
-        Served { state, known }
+        let mut numbered = state;
+        numbered.number(known.names())?;
+        Ok(Served {
+            state: numbered,
+            known,
+        })
     }
 
-    /// The state by itself, and what is known.
-    pub fn into_parts(self) -> (State, Rc<Known>)
-        ensures state { state_of result.0 ≡ self.state }
-        ensures known { result.1.value ≡ self.known }
-        ensures knows { KnowsFor self.known self.state }
+    /// The state by itself.
+    pub fn into_state(self) -> State
+        ensures { state_of result ≡ self.state }
     {
-        let Served { state, known } = self;
-        (state, known)
+        let Served { state, .. } = self;
+        state
     }
 
-    /// The same at that moment.
-    pub fn at(self, moment: Moment) -> Served
-        ensures state { result.state ≡ record self.state { clock = moment } }
+    /// A step in work, which begins in this state at the moment.
+    pub fn work(&self, alloc: Global, moment: Moment) -> Result<Work<'_>, AllocError>
+        ensures begins { IfOk result (λ w. w ≡ begun_at (standing_of self.now) self.now.known.graph moment) }
+        ensures works { IfOk result (WorksOn self.now) }
+        ensures knows { KnowsFor self.now.known self.now.state }
     {
-        let Served { mut state, known } = self;
-        state.set_clock(moment);
-        Served { state, known }
+        match Work::of(alloc, self.known.graph(), &self.state, moment)? {
+            Some(work) => Ok(work),
+            // the state was numbered, so it has rows
+            None => Err(AllocError),
+        }
+    }
+
+    /// Exchanges the delta for what the state has in its place: that is the way back. It takes no memory.
+    pub fn swap(&mut self, delta: &mut Delta)
+        ensures state { standing_of self.new ≡ delta_after delta.old (standing_of self.old) }
+        ensures known { self.new.known ≡ self.old.known }
+        ensures back { delta_before delta.new (standing_of self.new) ≡ standing_of self.old }
+    {
+        delta.swap(&mut self.state);
+    }
+
+    /// Takes the way back. It takes no memory.
+    pub fn undo(&mut self, delta: Delta)
+        ensures state { standing_of self.new ≡ delta_before delta (standing_of self.old) }
+        ensures known { self.new.known ≡ self.old.known }
+    {
+        delta.undo(&mut self.state);
     }
 
     /// The state.

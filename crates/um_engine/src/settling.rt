@@ -1,102 +1,69 @@
-ghost use Rattle.um_falling.specs.Carrying.{Adds};
-ghost use Rattle.std.specs.Prelude.{◌≡◌, false, map, Contains, Some, IfOk, IfSome, OnOk, MatchOption};
+ghost use Rattle.std.specs.Prelude.{◌≡◌, ℕ, List, false, Some, IfOk, IfSome, OnOk, MatchOption};
 ghost use Rattle.um_engine.specs.Engine.{waits_to_restart, IsDue, NoneIsDue};
 ghost use Rattle.um_engine.specs.Filled.{Tells};
 ghost use Rattle.um_falling.specs.Carrying.{KeepsOthers};
 ghost use Rattle.um_falling.specs.Over.{Serves};
-ghost use Rattle.um_graph.specs.Graph.{GraphView, IsNumberOf};
-ghost use Rattle.um_model.specs.Jobs.{BeginsNext, Job, state_of_job};
+ghost use Rattle.um_falling.specs.Work.{Goes, Keeps};
+ghost use Rattle.um_graph.specs.Graph.{IsNumberOf};
+ghost use Rattle.um_jobs.specs.Jobs.{JobsView, job_named};
+ghost use Rattle.um_model.specs.Jobs.{BeginsNext, state_of_job};
 ghost use Rattle.um_model.specs.Machine as model;
-ghost use Rattle.um_model.specs.declared.jobs.JobState.TheVariants.{Waiting};
 ghost use Rattle.um_model.specs.Machine.{begun, IsBefore, IsStill};
-ghost use Rattle.um_state.specs.View.{state_of, action_of};
+ghost use Rattle.um_model.specs.declared.jobs.JobState.TheVariants.{Waiting};
+ghost use Rattle.um_state.specs.View.{state_of};
 
 use crate::jobs::begins;
 use crate::numbered::{jobs_in, none_waits, tell, tell_all};
 use crate::restarting::restart;
-use std::alloc::{AllocError, Global};
-use um_falling::happen;
-use um_graph::Graph;
+use std::alloc::AllocError;
+use um_falling::{Work, happen};
 use um_jobs::Jobs;
 use um_model::{Deadline, JobKind, Moment, SubState, UnitEvent};
 use um_name::UnitName;
-use um_state::{Action, State};
 use um_timer::Timers;
 
-/// A job that begins: its unit's number and name, and what it does.
-#[derive(Drop)]
-struct NextJob {
-    unit: usize,
-    name: UnitName,
-    kind: JobKind,
-}
-
-/// The job that begins next.
-fn next_job(graph: &Graph, jobs: &Jobs<'_>) -> Result<Option<NextJob>, AllocError>
-    ensures next { IfOk result (λ next. (s : model.State) → Serves graph.now s → Tells graph.now s jobs.now → MatchOption next
-        (IsStill s)
-        (λ job. BeginsNext (IsBefore s.loaded) s.units s.pending (record { unit = job.name; kind = job.kind }))) }
-    ensures waits { IfOk result (λ next. (s : model.State) → Tells graph.now s jobs.now
-        → IfSome next (λ job. (state_of_job s.pending (record { unit = job.name; kind = job.kind }) ≡ Some Waiting))) }
-    ensures number { IfOk result (λ next. IfSome next (λ job. IsNumberOf graph.now job.unit job.name)) }
-{
-    let Some((unit, kind)) = jobs.ready() else {
-        return Ok(None);
-    };
-    let Some(name) = graph.name(unit) else {
-        return Ok(None);
-    };
-    let name = name.copy()?;
-    Ok(Some(NextJob { unit, name, kind }))
-}
-
 /// The job runs from now on.
-fn begin_job(jobs: &mut Jobs<'_>, state: &mut State, next: &NextJob) -> Result<(), AllocError>
-    ensures begun { OnOk result ((g : GraphView) → Tells g (state_of state.old) jobs.old → IsNumberOf g next.now.unit next.now.name
-        → state_of state.new ≡ begun (state_of state.old) (record { unit = next.now.name; kind = next.now.kind })) }
-    ensures tells { OnOk result ((g : GraphView) → Tells g (state_of state.old) jobs.old → IsNumberOf g next.now.unit next.now.name
-        → Tells g (state_of state.new) jobs.new) }
+fn begin_job(jobs: &mut Jobs<'_>, work: &mut Work<'_>, unit: usize, kind: JobKind)
+    ensures begun { (name : List ℕ) → IsNumberOf work.old.graph unit name → Tells work.old.graph (state_of work.old.now) jobs.old
+        → state_of work.new.now ≡ begun (state_of work.old.now) (record { unit = name; kind = kind }) }
+    ensures tells { (name : List ℕ) → IsNumberOf work.old.graph unit name → Tells work.old.graph (state_of work.old.now) jobs.old
+        → Tells work.old.graph (state_of work.new.now) jobs.new }
+    ensures keeps { Keeps work.old work.new }
+    ensures actions { work.new.actions ≡ work.old.actions }
 {
-    jobs.begin(next.unit, next.kind);
-    state.set_jobs(&next.name, jobs.get(next.unit))?;
-    Ok(())
+    jobs.begin(unit, kind);
+    work.set_jobs(unit, jobs.get(unit));
 }
 
-/// Tells anew what the state holds of units, after a job of one of them began: of that one, or of all where others may have changed.
+/// Tells anew what is held of units, after a job of the one with this number began: of that one, or of all where others may have changed.
 /// It takes no memory.
-fn tell_anew(jobs: &mut Jobs<'_>, graph: &Graph, state: &State, next: &NextJob, spreads: bool)
-    ensures { (before : model.State) → Tells graph.now before jobs.old → IsNumberOf graph.now next.now.unit next.now.name
-        → (spreads ≡ false → KeepsOthers next.now.name before (state_of state.now)) → Tells graph.now (state_of state.now) jobs.new }
+fn tell_anew(jobs: &mut Jobs<'_>, work: &Work<'_>, unit: usize, spreads: bool)
+    ensures { (before : model.State) (name : List ℕ) → IsNumberOf work.now.graph unit name → Tells work.now.graph before jobs.old
+        → (spreads ≡ false → KeepsOthers name before (state_of work.now.now)) → Tells work.now.graph (state_of work.now.now) jobs.new }
 {
     if spreads {
-        tell_all(jobs, graph, state);
+        tell_all(jobs, work);
     } else {
-        tell(jobs, graph, state, next.unit);
+        tell(jobs, work, unit);
     }
 }
 
-/// Lets jobs begin at the moment, one after another, until none is ready. Where memory is refused the state is of no use.
-pub fn settle(
-    alloc: Global,
-    graph: &Graph,
-    state: &mut State,
-    actions: &mut Vec<Action>,
-    moment: Moment,
-) -> Result<(), AllocError>
-    ensures { OnOk result (Serves graph.now (state_of state.old)
-        → Adds (model.Settles moment (state_of state.old)) (map action_of actions.old.items) (state_of state.new) (map action_of actions.new.items)
-        × Serves graph.now (state_of state.new)) }
+/// Lets jobs begin, one after another, until none is ready. Where memory is refused the work is of no use.
+pub fn settle(work: &mut Work<'_>) -> Result<(), AllocError>
+    ensures settles { OnOk result (Goes (model.Settles work.old.moment (state_of work.old.now)) work.old work.new) }
+    ensures keeps { OnOk result (Keeps work.old work.new) }
 {
+    // the proof reads here that the graph serves
+    let _ = work.graph();
     // where no job waits none is ready, so nothing needs to be counted
-    if none_waits(graph, state) {
+    if none_waits(work) {
         return Ok(());
     }
-    let mut jobs = jobs_in(alloc, graph, state)?;
-    'jobs: while let Some(next) = next_job(graph, &jobs)? {
-        begin_job(&mut jobs, state, &next)?;
-        let event = begins(next.kind);
-        let spreads = happen(alloc, graph, state, actions, moment, &next.name, event)?;
-        tell_anew(&mut jobs, graph, state, &next, spreads);
+    let mut jobs = jobs_in(work)?;
+    'jobs: while let Some((unit, kind)) = jobs.ready() {
+        begin_job(&mut jobs, work, unit, kind);
+        let spreads = happen(work, unit, begins(kind))?;
+        tell_anew(&mut jobs, work, unit, spreads);
     }
     Ok(())
 }
@@ -128,66 +95,50 @@ fn waits_to_restart(sub: SubState) -> bool
     matches!(sub, SubState::AutoRestart)
 }
 
-/// What comes of a deadline of the unit that is there: where it waits for that, its restart.
-fn come_due(
-    alloc: Global,
-    graph: &Graph,
-    state: &mut State,
-    actions: &mut Vec<Action>,
-    moment: Moment,
-    unit: &UnitName,
-) -> Result<(), AllocError>
-    ensures { OnOk result (Serves graph.now (state_of state.old) → Contains graph.now.names unit.now
-        → Adds (model.ComesDue moment (state_of state.old) unit.now) (map action_of actions.old.items) (state_of state.new) (map action_of actions.new.items)
-        × Serves graph.now (state_of state.new)) }
+/// What comes of a deadline of the unit with this number that is there: where it waits for that, its restart.
+fn come_due(work: &mut Work<'_>, unit: usize) -> Result<(), AllocError>
+    ensures comes { OnOk result ((name : List ℕ) → IsNumberOf work.old.graph unit name
+        → Goes (model.ComesDue work.old.moment (state_of work.old.now) name) work.old work.new) }
+    ensures keeps { OnOk result (Keeps work.old work.new) }
 {
-    if waits_to_restart(state.units().get(unit).sub) {
-        restart(alloc, graph, state, unit)?;
+    if waits_to_restart(work.unit(unit).sub) {
+        restart(work, unit)?;
         return Ok(());
     }
-    let event = UnitEvent::DeadlinePasses;
-    happen(alloc, graph, state, actions, moment, unit, event)?;
+    happen(work, unit, UnitEvent::DeadlinePasses)?;
     Ok(())
 }
 
 /// Fires one deadline, if it still stands, and lets jobs begin.
-fn fire_one(
-    alloc: Global,
-    graph: &Graph,
-    state: &mut State,
-    actions: &mut Vec<Action>,
-    moment: Moment,
-    due: &Due,
-) -> Result<(), AllocError>
-    ensures { OnOk result (Serves graph.now (state_of state.old)
-        → Adds (model.FiresOne moment due.now.deadline due.now.unit (state_of state.old)) (map action_of actions.old.items) (state_of state.new) (map action_of actions.new.items)
-        × Serves graph.now (state_of state.new)) }
+fn fire_one(work: &mut Work<'_>, due: &Due) -> Result<(), AllocError>
+    ensures fires { OnOk result (Goes (model.FiresOne work.old.moment due.now.deadline due.now.unit (state_of work.old.now)) work.old work.new) }
+    ensures keeps { OnOk result (Keeps work.old work.new) }
 {
-    if state.units().get(&due.unit).deadline != Some(due.deadline) {
+    // the proof reads here that the graph serves
+    let _ = work.graph();
+    let Some(unit) = work.number(&due.unit) else {
+        return Ok(());
+    };
+    if work.unit(unit).deadline != Some(due.deadline) {
         return Ok(());
     }
-    come_due(alloc, graph, state, actions, moment, &due.unit)?;
-    settle(alloc, graph, state, actions, moment)?;
+    come_due(work, unit)?;
+    settle(work)?;
     Ok(())
 }
 
-/// Fires the deadlines that stand and aren't past the moment, earliest first, then by the names of their units; after each one jobs
-/// begin. One that is gone or changed by then doesn't fire. Where memory is refused the state is of no use.
-pub fn fire(
-    alloc: Global,
-    graph: &Graph,
-    state: &mut State,
-    actions: &mut Vec<Action>,
-    moment: Moment,
-) -> Result<(), AllocError>
-    ensures { OnOk result (Serves graph.now (state_of state.old)
-        → Adds (model.Follows moment (state_of state.old) model.Tick) (map action_of actions.old.items) (state_of state.new) (map action_of actions.new.items)
-        × Serves graph.now (state_of state.new)) }
+/// Fires these deadlines that stand and aren't past the moment, earliest first, then by the names of their units; after each one jobs
+/// begin. One that is gone or changed by then doesn't fire. Where memory is refused the work is of no use.
+pub fn fire(work: &mut Work<'_>, timers: Timers) -> Result<(), AllocError>
+    requires { model.AreDeadlines (state_of work.old.now).units timers }
+    ensures follows { OnOk result (Goes (model.Follows work.old.moment (state_of work.old.now) model.Tick) work.old work.new) }
+    ensures keeps { OnOk result (Keeps work.old work.new) }
 {
-    let mut timers = state.units().deadlines()?;
+    let moment = work.moment();
+    let mut timers = timers;
     'timers: while let Some(due) = next_due(&timers, moment)? {
         timers.clear(&due.unit);
-        fire_one(alloc, graph, state, actions, moment, &due)?;
+        fire_one(work, &due)?;
     }
     Ok(())
 }

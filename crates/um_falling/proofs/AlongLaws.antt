@@ -56,9 +56,6 @@ pub cons_cases : {A : Type 0} (z : A) (xs : List A) (x : A) → Contains (z ∷ 
 cons_cases z xs x (zero, h, e) = inl e
 cons_cases z xs x (suc k, h, e) = inr (k, omega arith, e)
 
-pub cons_later : {A : Type 0} (z : A) (xs : List A) (x : A) → Contains xs x → Contains (z ∷ xs) x
-cons_later z xs x (k, h, e) = (suc k, omega arith, e)
-
 pub waiting_is : (o : Option JobState) → is_waiting o ≡ true → o ≡ Some Waiting
 waiting_is (Some Waiting) h = refl
 waiting_is (Some Running) h = absurd (true≢false (sym h))

@@ -1,6 +1,6 @@
 -- What happens to a unit is carried out, by what its parts have become.
 use Rattle.um_falling.specs.Carrying.{Adds}
-use Rattle.std.proofs.Common.{◌≡◌, ◌≢◌, ◌⊎◌, ◌∙◌, ℕ, ◌+◌, ◌≤◌, Bool, true, false, List, ◌++◌, Contains, Option, Some, None, unwrap_or, sym, ap, subst, inl, inr, arith, refl, true≢false}
+use Rattle.std.proofs.Common.{◌≡◌, ◌⊎◌, ◌∙◌, ℕ, ◌+◌, ◌≤◌, Bool, true, false, List, ◌++◌, Contains, Option, Some, None, unwrap_or, sym, ap, subst, inl, inr, arith, refl, true≢false}
 use Rattle.std.proofs.lemmas.Option.{none-some}
 use Rattle.um_model.specs.Jobs.{AreTidyJobs, jobs_of_unit, jobs_left, start_left, unless_running, with_jobs}
 use Rattle.um_model.specs.Machine as machine
@@ -22,7 +22,6 @@ use Rattle.um_model.specs.Waiting.{NoMoreWait, waits, waits_in}
 use Rattle.um_graph.specs.Graph.{GraphView}
 use Rattle.um_falling.specs.Carrying.{ChangesTo, KeepsOthers, OnlyEnds, fails_start}
 use Rattle.um_falling.specs.Over.{Serves}
-use Rattle.um_falling.proofs.AlongLaws.{pending_apart, units_apart}
 
 -- ---- whether a start fails
 
@@ -118,62 +117,35 @@ ends_own unit start stop_ends s u v w stands next e f g =
 pub no_more_then : (u v w : State) → NoMoreWait v.pending u.pending → NoMoreWait w.pending v.pending → NoMoreWait w.pending u.pending
 no_more_then u v w first later unit = omega (arith, first unit, later unit)
 
--- ---- the graph serves on
-
-pub serves_changed : (g : GraphView) (s : State) (unit : List ℕ) (c : Change) → Serves g s → Contains g.names unit → Serves g (changed s unit c)
-serves_changed g s unit c serves known = record { extra = serves.extra; graph = serves.graph; of = serves.of; held = held_now }
-  where
-    held_before : (x : List ℕ) → x ≢ unit → IsHeld (changed s unit c) x → IsHeld s x
-    held_before x apart (inl h) = inl (λ e. h (units_apart s.units unit c.unit x apart ∙ e))
-    held_before x apart (inr h) = inr (λ e. h (pending_apart s.pending unit (jobs_left c.start c.stop_ends (jobs_of_unit s.pending unit)) x apart ∙ e))
-
-    held_now : (x : List ℕ) → IsHeld (changed s unit c) x → Contains g.names x
-    held_now x h = elim (same_name x unit) as (λ _. Contains g.names x) [
-      | inl is ↦ subst (Contains g.names) (sym is) known
-      | inr apart ↦ serves.held x (held_before x apart h)
-    ]
-
 -- ---- what is carried out
 
-module _ (g : GraphView) (t : ℕ) (unit : List ℕ) (event : UnitEvent) (s v : State) (before after : List Action) (fails : Bool) (changes : ChangesTo t unit event s before fails v after)
-    (serves : Serves g s) (known : Contains g.names unit) where
+module _ (t : ℕ) (unit : List ℕ) (event : UnitEvent) (s v : State) (before after : List Action) (fails : Bool) (changes : ChangesTo t unit event s before fails v after) where
   abbrev c : Change
   c = change_of t s unit event
 
-  serves_now : Serves g v
-  serves_now = subst (Serves g) (sym changes.state) (serves_changed g s unit c serves known)
-
   -- where no start fails
-  pub carried_alone : fails ≡ false → Adds (machine.Carries t unit event s) before v after × Serves g v
+  pub carried_alone : fails ≡ false → Adds (machine.Carries t unit event s) before v after
   carried_alone none = (
-    (
-      changes.new,
-      record {
-        state = subst (λ x. machine.Becomes s unit c x) (sym changes.state) (alone (fails_not c.start (jobs_of_unit s.pending unit).start (sym changes.fails_so ∙ none)));
-        asked = changes.asked;
-      },
-      changes.actions,
-    ),
-    serves_now,
+    changes.new,
+    record {
+      state = subst (λ x. machine.Becomes s unit c x) (sym changes.state) (alone (fails_not c.start (jobs_of_unit s.pending unit).start (sym changes.fails_so ∙ none)));
+      asked = changes.asked;
+    },
+    changes.actions,
   )
 
   -- where one does, and takes others along
-  pub carried_along : (w : State) → fails ≡ true
-      → (Serves g v → Contains g.names unit → AreTidyJobs v.pending → AreTidyUnits v.units → TakesAlong v unit w × Serves g w)
-      → Adds (machine.Carries t unit event s) before w after × Serves g w
-  carried_along w one takes =
+  pub carried_along : (w : State) (later : List Action) → fails ≡ true → (AreTidyJobs v.pending → AreTidyUnits v.units → TakesAlong v unit w) → later ≡ after
+      → Adds (machine.Carries t unit event s) before w later
+  carried_along w later one takes same =
       let pending = subst (λ (x : State). AreTidyJobs x.pending) (sym changes.state) (tidy_jobs s.pending unit (jobs_left c.start c.stop_ends (jobs_of_unit s.pending unit)) changes.tidy_jobs) in
-      let units = subst (λ (x : State). AreTidyUnits x.units) (sym changes.state) (tidy_units s.units unit c.unit changes.tidy_units) in
-      let taken = takes serves_now known pending units in (
-        (
-          changes.new,
-          record {
-            state = along (fails_told c.start (jobs_of_unit s.pending unit).start (sym changes.fails_so ∙ one)) (subst (λ x. TakesAlong x unit w) changes.state taken.0);
-            asked = changes.asked;
-          },
-          changes.actions,
-        ),
-        taken.1,
+      let units = subst (λ (x : State). AreTidyUnits x.units) (sym changes.state) (tidy_units s.units unit c.unit changes.tidy_units) in (
+        changes.new,
+        record {
+          state = along (fails_told c.start (jobs_of_unit s.pending unit).start (sym changes.fails_so ∙ one)) (subst (λ x. TakesAlong x unit w) changes.state (takes pending units));
+          asked = changes.asked;
+        },
+        same ∙ changes.actions,
       )
 
 -- ---- units of which the state holds something are known

@@ -270,11 +270,6 @@ happened g t name event s u v before between after list (carries, serves_then) s
     let (fell, serves_on) = falls falling named serves_then in
     (happens_so t name event falling s u v before between after carries are fell, serves_on)
 
--- the same of the unit by another name that is the same
-pub told_named : (g : GraphView) (t : ℕ) (name other : List ℕ) → name ≡ other → (s u : State) (before after : List Action)
-    → Adds (model.Carries t name BoundStop s) before u after × Serves g u → Adds (model.Carries t other BoundStop s) before u after × Serves g u
-told_named g t name other same s u before after told = subst (λ x. Adds (model.Carries t x BoundStop s) before u after × Serves g u) same told
-
 -- ---- lists of numbers
 
 pub length_none : (list : List ℕ) → length list ≡ 0 → list ≡ []

@@ -4,3 +4,4 @@ pub mod FallenLaws
 pub mod FallingLaws
 pub mod TakenLaws
 pub mod BoundLaws
+pub mod WorkLaws

@@ -3,3 +3,4 @@ pub mod Along
 pub mod Carrying
 pub mod Falling
 pub mod Over
+pub mod Work

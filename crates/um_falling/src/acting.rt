@@ -1,6 +1,7 @@
 //! How a unit acts: what the service table knows of it.
 
-ghost use Rattle.std.specs.Prelude.{◌≡◌, Some, Contains, option_copied, option_map};
+ghost use Rattle.std.specs.Prelude.{◌≡◌, ℕ, List, Some, option_copied, option_map};
+ghost use Rattle.um_graph.specs.Graph.{IsNumberOf};
 ghost use Rattle.um_model.specs.Dependencies.{loadable_in, loadable_of};
 ghost use Rattle.um_falling.specs.Over.{Serves};
 ghost use Rattle.um_model.specs.Machine as model;
@@ -13,7 +14,6 @@ ghost use Rattle.um_unit.specs.View.{loading_of, unit_of};
 use std::rc::Rc;
 use um_graph::Graph;
 use um_model::UnitKind;
-use um_name::UnitName;
 use um_unit::{LoadedUnit, Loading, ServiceSettings};
 
 /// What the service table knows of a unit.
@@ -25,12 +25,12 @@ pub(crate) struct Acting<'g> {
     pub(crate) loadable: bool,
 }
 
-/// What became of the look for the unit, where it is one of the graph.
-fn loading<'g>(graph: &'g Graph, unit: &UnitName) -> Option<&'g Loading>
-    ensures { (s : model.State) → Serves graph.now s → Contains graph.now.names unit.now
-        → option_map loading_of (option_copied result) ≡ Some (units.load s.loaded unit.now) }
+/// What became of the look for the unit with this number, where it is one of the graph.
+fn loading(graph: &Graph, unit: usize) -> Option<&Loading>
+    ensures { (s : model.State) (name : List ℕ) → Serves graph.now s → IsNumberOf graph.now unit name
+        → option_map loading_of (option_copied result) ≡ Some (units.load s.loaded name) }
 {
-    graph.loading(graph.number(unit)?)
+    graph.loading(unit)
 }
 
 /// The unit, if it can be started: it is found and is no template.
@@ -43,18 +43,18 @@ fn loadable(loading: &Loading) -> Option<&LoadedUnit>
     }
 }
 
-/// The unit of the graph, if it can be started.
-fn loadable_in<'g>(graph: &'g Graph, unit: &UnitName) -> Option<&'g LoadedUnit>
-    ensures { (s : model.State) → Serves graph.now s → Contains graph.now.names unit.now
-        → option_map (λ unit. unit_of unit.now) result ≡ loadable_in s.loaded unit.now }
+/// The unit of the graph with this number, if it can be started.
+fn loadable_in(graph: &Graph, unit: usize) -> Option<&LoadedUnit>
+    ensures { (s : model.State) (name : List ℕ) → Serves graph.now s → IsNumberOf graph.now unit name
+        → option_map (λ unit. unit_of unit.now) result ≡ loadable_in s.loaded name }
 {
     loadable(loading(graph, unit)?)
 }
 
-/// The kind of service that a unit of the graph acts as: its own, and simple where it can't be started.
-pub fn kind_in(graph: &Graph, unit: &UnitName) -> UnitKind
-    ensures { (s : model.State) → Serves graph.now s → Contains graph.now.names unit.now
-        → result ≡ (model.settings_in s.loaded unit.now).kind }
+/// The kind of service that the unit of the graph with this number acts as: its own, and simple where it can't be started.
+pub fn kind_in(graph: &Graph, unit: usize) -> UnitKind
+    ensures { (s : model.State) (name : List ℕ) → Serves graph.now s → IsNumberOf graph.now unit name
+        → result ≡ (model.settings_in s.loaded name).kind }
 {
     match loadable_in(graph, unit) {
         Some(unit) => unit.settings.service.kind,
@@ -65,16 +65,16 @@ pub fn kind_in(graph: &Graph, unit: &UnitName) -> UnitKind
 impl<'g> Acting<'g> {
     ghost use Rattle.um_falling.specs.Acting.{acting_of, acts_as};
 
-    /// How a unit of the graph acts. One that can't be started acts as a simple service with default settings, and so does one that
-    /// the graph doesn't have.
+    /// How the unit of the graph with this number acts. One that can't be started acts as a simple service with default settings, and
+    /// so does one that the graph doesn't have.
     pub(crate) fn in_graph(
         graph: &'g Graph,
-        unit: &UnitName,
+        unit: usize,
         defaults: &'g Rc<ServiceSettings>,
     ) -> Acting<'g>
         requires { service_settings_of defaults.now.value ≡ default_settings Simple }
-        ensures { (s : model.State) → Serves graph.now s → Contains graph.now.names unit.now
-            → acting_of result ≡ acts_as (loadable_in s.loaded unit.now) }
+        ensures { (s : model.State) (name : List ℕ) → Serves graph.now s → IsNumberOf graph.now unit name
+            → acting_of result ≡ acts_as (loadable_in s.loaded name) }
     {
         match loadable_in(graph, unit) {
             Some(unit) => Acting {

@@ -1,9 +1,9 @@
 //! A start that fails takes along the starts that need it (systemd.unit(5), "Requires=").
 
-ghost use Rattle.std.specs.Prelude.{◌≡◌, ◌∷◌, ℕ, [], Contains, IfOk, OnOk};
+ghost use Rattle.std.specs.Prelude.{◌≡◌, ◌<◌, ℕ, List, length, OnOk};
 ghost use Rattle.um_falling.specs.Along as taking;
 ghost use Rattle.um_falling.specs.Falling.{KeepsSubs};
-ghost use Rattle.um_falling.specs.Over.{Serves};
+ghost use Rattle.um_falling.specs.Work.{Keeps};
 ghost use Rattle.um_graph.specs.Graph.{IsNumberOf, row_of};
 ghost use Rattle.um_model.specs.Waiting.{NoMoreWait};
 ghost use Rattle.um_model.specs.Jobs as model;
@@ -12,12 +12,11 @@ ghost use Rattle.um_model.specs.Machine.{TakesAlong};
 ghost use Rattle.um_model.specs.Service.{AreTidyUnits};
 ghost use Rattle.um_state.specs.View.{state_of};
 
-use std::alloc::{AllocError, Global};
-use um_graph::{Graph, Neighbour};
+use crate::work::Work;
+use std::alloc::AllocError;
+use um_graph::Neighbour;
 use um_jobs::is_waiting;
 use um_model::{DependencyKind, UnitJobs, UnitResult, UnitState};
-use um_name::UnitName;
-use um_state::State;
 
 /// Whether the neighbour requires the unit or is bound to it.
 fn needs_it(neighbour: Neighbour) -> bool
@@ -56,99 +55,87 @@ fn without_start(jobs: UnitJobs) -> UnitJobs
     }
 }
 
-/// The start of the unit is gone, and its result tells so. Where memory is refused the state is of no use.
-fn drop_start(state: &mut State, unit: &UnitName) -> Result<(), AllocError>
-    ensures { OnOk result (state_of state.new ≡ taking.without_start_of (state_of state.old) unit.now) }
+/// The start of the unit with this number is gone, and its result tells so. It takes no memory.
+fn drop_start(work: &mut Work<'_>, unit: usize)
+    ensures state { (name : List ℕ) → IsNumberOf work.old.graph unit name
+        → state_of work.new.now ≡ taking.without_start_of (state_of work.old.now) name }
+    ensures keeps { Keeps work.old work.new }
+    ensures actions { work.new.actions ≡ work.old.actions }
 {
     let stands = UnitState {
         result: UnitResult::Dependency,
-        ..state.units().get(unit)
+        ..work.unit(unit)
     };
-    state.set_unit(unit, stands)?;
-    state.set_jobs(unit, without_start(state.pending().get(unit)))
+    let jobs = without_start(work.jobs(unit));
+    work.set_unit(unit, stands);
+    work.set_jobs(unit, jobs);
 }
 
 /// The start of the unit with this number is gone where it waits, and the unit is to be followed then.
-fn take(
-    graph: &Graph,
-    state: &mut State,
-    list: &mut Vec<usize>,
-    unit: usize,
-) -> Result<(), AllocError>
-    ensures { OnOk result ((state_of state.new, list.new.items) ≡ taking.taken graph.now unit (state_of state.old, list.old.items)) }
+fn take(work: &mut Work<'_>, list: &mut Vec<usize>, unit: usize) -> Result<(), AllocError>
+    requires { unit < length work.old.graph.names }
+    ensures taken { OnOk result ((state_of work.new.now, list.new.items) ≡ taking.taken work.old.graph unit (state_of work.old.now, list.old.items)) }
+    ensures keeps { OnOk result (Keeps work.old work.new) }
+    ensures actions { OnOk result (work.new.actions ≡ work.old.actions) }
 {
-    let Some(name) = graph.name(unit) else {
-        return Ok(());
-    };
-    if !is_waiting(state.pending().get(name).start) {
+    if !is_waiting(work.jobs(unit).start) {
         return Ok(());
     }
-    drop_start(state, name)?;
+    drop_start(work, unit);
     list.push(unit)?;
     Ok(())
 }
 
 /// The start of a neighbour in the row is gone where it needs that of the row's unit.
 fn take_next(
-    graph: &Graph,
-    state: &mut State,
+    work: &mut Work<'_>,
     list: &mut Vec<usize>,
     row: &[Neighbour],
     neighbour: Neighbour,
 ) -> Result<(), AllocError>
-    ensures { OnOk result ((state_of state.new, list.new.items) ≡ taking.taken_next graph.now row.now neighbour (state_of state.old, list.old.items)) }
+    requires { neighbour.unit < length work.old.graph.names }
+    ensures taken { OnOk result ((state_of work.new.now, list.new.items)
+        ≡ taking.taken_next work.old.graph row.now neighbour (state_of work.old.now, list.old.items)) }
+    ensures keeps { OnOk result (Keeps work.old work.new) }
+    ensures actions { OnOk result (work.new.actions ≡ work.old.actions) }
 {
     if !needs_it(neighbour) || !goes_before(row, neighbour.unit) {
         return Ok(());
     }
-    take(graph, state, list, neighbour.unit)
+    take(work, list, neighbour.unit)
 }
 
 /// The starts that need that of the unit with this number are gone.
-fn take_all(
-    graph: &Graph,
-    state: &mut State,
-    list: &mut Vec<usize>,
-    unit: usize,
-) -> Result<(), AllocError>
-    ensures { OnOk result ((state_of state.new, list.new.items)
-        ≡ taking.taken_all graph.now (row_of graph.now.rows unit) (row_of graph.now.rows unit) (state_of state.old, list.old.items)) }
+fn take_all(work: &mut Work<'_>, list: &mut Vec<usize>, unit: usize) -> Result<(), AllocError>
+    ensures taken { OnOk result ((state_of work.new.now, list.new.items)
+        ≡ taking.taken_all work.old.graph (row_of work.old.graph.rows unit) (row_of work.old.graph.rows unit) (state_of work.old.now, list.old.items)) }
+    ensures keeps { OnOk result (Keeps work.old work.new) }
+    ensures actions { OnOk result (work.new.actions ≡ work.old.actions) }
 {
-    let row = graph.neighbours(unit);
+    let row = work.graph().neighbours(unit);
     for neighbour in row {
-        take_next(graph, state, list, row, *neighbour)?;
+        take_next(work, list, row, *neighbour)?;
     }
     Ok(())
 }
 
-/// The number of the unit alone, where it is one of the graph.
-fn listed(alloc: Global, graph: &Graph, unit: &UnitName) -> Result<Vec<usize>, AllocError>
-    ensures { IfOk result (λ list. Contains graph.now.names unit.now → (u : ℕ) × IsNumberOf graph.now u unit.now × (list.items ≡ u ∷ [])) }
+/// The starts that need that of the unit with this number, which failed, are gone, and so are those that need one of these; the units
+/// tell so. Where memory is refused the work is of no use.
+pub fn take_along(work: &mut Work<'_>, failed: usize) -> Result<(), AllocError>
+    ensures along { OnOk result ((name : List ℕ) → IsNumberOf work.old.graph failed name
+        → AreTidyJobs (state_of work.old.now).pending → AreTidyUnits (state_of work.old.now).units
+        → TakesAlong (state_of work.old.now) name (state_of work.new.now)) }
+    ensures waits { OnOk result (NoMoreWait (state_of work.new.now).pending (state_of work.old.now).pending) }
+    ensures subs { OnOk result (KeepsSubs (state_of work.old.now) (state_of work.new.now)) }
+    ensures keeps { OnOk result (Keeps work.old work.new) }
+    ensures actions { OnOk result (work.new.actions ≡ work.old.actions) }
 {
-    let mut list = Vec::new(alloc);
-    if let Some(number) = graph.number(unit) {
-        list.push(number)?;
-    }
-    Ok(list)
-}
-
-/// The starts that need that of the unit, which failed, are gone, and so are those that need one of these; the units tell so.
-/// Where memory is refused the state is of no use.
-pub fn take_along(
-    alloc: Global,
-    graph: &Graph,
-    state: &mut State,
-    failed: &UnitName,
-) -> Result<(), AllocError>
-    ensures along { OnOk result (Serves graph.now (state_of state.old) → Contains graph.now.names failed.now
-        → AreTidyJobs (state_of state.old).pending → AreTidyUnits (state_of state.old).units
-        → TakesAlong (state_of state.old) failed.now (state_of state.new) × Serves graph.now (state_of state.new)) }
-    ensures waits { OnOk result (NoMoreWait (state_of state.new).pending (state_of state.old).pending) }
-    ensures subs { OnOk result (KeepsSubs (state_of state.old) (state_of state.new)) }
-{
-    let mut list = listed(alloc, graph, failed)?;
+    // The proof reads here that the graph serves.
+    let _ = work.graph();
+    let mut list = Vec::new(work.alloc());
+    list.push(failed)?;
     'units: while let Some(unit) = list.pop() {
-        take_all(graph, state, &mut list, unit)?;
+        take_all(work, &mut list, unit)?;
     }
     Ok(())
 }

@@ -6,6 +6,8 @@ mod acting;
 mod along;
 mod carrying;
 mod falling;
+mod work;
 
 pub use acting::kind_in;
 pub use falling::happen;
+pub use work::Work;

@@ -8,6 +8,8 @@ mod asserts;
 #[cfg(test)]
 mod bindings;
 #[cfg(test)]
+mod changed_rows;
+#[cfg(test)]
 mod commands;
 #[cfg(test)]
 mod continuations;

@@ -1,119 +1,178 @@
--- What a finder tells once a unit is put into the units, a number is let go, or each unit was added.
-use Rattle.std.proofs.Common.{ℕ, ◌≡◌, ◌≢◌, ◌∙◌, ◌<◌, true, false, cond, List, [], ◌∷◌, length, Some, None, refl, sym, ap, subst, arith, zero, suc, get_or, true≢false, is_some, Option, unwrap_or, inl, inr, Result, Ok, Err}
-use Rattle.std.specs.Prelude.{OnOk}
+-- What a finder tells once a row is set, a number is let go, or each row was added; and what the row of a number says of the units.
+use Rattle.std.proofs.Common.{ℕ, ◌≡◌, ◌≢◌, ◌∙◌, ◌⊎◌, ◌<◌, ◌+◌, true, false, cond, List, [], ◌∷◌, length, Some, None, Option, MatchOption, set, get_or, refl, sym, ap, subst, arith, true≢false, is_some, unwrap_or, inl, inr}
 use Rattle.std.specs.BTreeMap as tree
-use Rattle.std.specs.BTreeMap.{BTreeMap}
-use Rattle.std.specs.FinMap as map
-use Rattle.std.specs.Cmp.Lexicographic.{slice_cmp, nat_list_cmp_total}
 use Rattle.std.specs.Ordering.{nat_cmp, eq_by_cmp}
-use Rattle.std.proofs.lemmas.Map.Views.{tells_apart, btree_map_get_iff}
-use Rattle.std.proofs.lemmas.Map.Lookups.{exact_bytes, exact_unsigned}
+use Rattle.std.proofs.lemmas.Bool.{cases_lt}
+use Rattle.std.proofs.lemmas.List.{get_or-set_same, get_or-set_other, get_or_default, get_or_past}
+use Rattle.std.proofs.lemmas.Map.Views.{tells_apart}
+use Rattle.std.proofs.lemmas.Map.Lookups.{exact_unsigned}
+use Rattle.std.proofs.lemmas.Option.{none-some}
+use Rattle.um_model.specs.Least.{IsNamedBefore}
 use Rattle.um_model.specs.Machine.{IsProcessOf, IsOver}
 use Rattle.um_model.specs.Service.{ByUnit, state_of_unit, with_unit, dead_unit}
+use Rattle.um_model.specs.Standing.{Table}
 use Rattle.um_model.specs.Transitions.{HasNumber}
 use Rattle.um_model.specs.declared.service.UnitState.{UnitState}
-use Rattle.um_model.proofs.NameMaps.{seen, get_seen}
-use Rattle.um_model.proofs.ScanLaws.{held_with_number}
-use Rattle.um_model.proofs.UnitLaws.{state_here, state_apart, alike}
+use Rattle.um_name.specs.Names.{AreAscending, IsApart, name_at}
+use Rattle.um_name.proofs.NumberLaws.{among_or_apart, names_once}
 use Rattle.um_state.specs.declared.finder.Finder.{Finder}
-use Rattle.um_state.specs.Finding.{Tells, Finds}
+use Rattle.um_state.specs.Finding.{Tells, Finds, NoneHas, IsFirstWith, row_at}
+use Rattle.um_state.specs.Tables.{units_by}
+use Rattle.um_state.proofs.PutLaws.{units_put}
+use Rattle.um_state.proofs.TableLaws.{by_at, by_none}
 
--- ---- a unit is put into the units
+pub nobody : (n : ℕ) → HasNumber dead_unit n → ⊥
+nobody n (inl e) = none-some n e
+nobody n (inr e) = none-some n e
 
-pub finds_put : (units : ByUnit UnitState) (finder : Finder) (unit : List ℕ) (u : UnitState) → Finds units finder
-    → ((n : ℕ) → HasNumber u n → Tells finder unit n) → Finds (with_unit units unit u) finder
-finds_put units finder unit u finds told other n has = elim (eq_by_cmp (slice_cmp nat_cmp) other unit) as (λ b. eq_by_cmp (slice_cmp nat_cmp) other unit ≡ b → Tells finder other n) [
-  | true ↦ λ e.
-      let same = tells_apart exact_bytes other unit e in
-      let here = ap (state_of_unit (with_unit units unit u)) same ∙ state_here units unit u in
-      subst (λ x. Tells finder x n) (sym same) (told n (subst (λ s. HasNumber s n) here has))
-  | false ↦ λ e.
-      let apart : other ≢ unit = λ same. true≢false (sym (alike unit) ∙ (sym (ap (λ x. eq_by_cmp (slice_cmp nat_cmp) x unit) same) ∙ e)) in
-      finds other n (subst (λ s. HasNumber s n) (state_apart units unit u other apart) has)
-] refl
+-- an item of a list is the row with its number
+pub row_is : (rows : List UnitState) (i : ℕ) (u : UnitState) → i < length rows → u ≡ get_or rows i u → u ≡ row_at rows i
+row_is rows i u h e = e ∙ get_or_default rows i u dead_unit h
 
--- of no unit nothing is to be told
-pub finds_none : (units : ByUnit UnitState) (finder : Finder) → units ≡ map.empty → Finds units finder
-finds_none units finder none unit n has =
-    absurd (nobody (subst (λ s. HasNumber s n) (ap (λ u. state_of_unit u unit) none ∙ ap (λ o. unwrap_or o dead_unit) (map.get-empty (slice_cmp nat_cmp) unit)) has))
-  where
-    nobody : HasNumber dead_unit n → ⊥
-    nobody (inl e) = cc
-    nobody (inr e) = cc
+-- two numbers are the same or not
+same_row : (i j : ℕ) → (j ≡ i) ⊎ (j ≢ i)
+same_row i j = elim (cases_lt i j) as (λ _. (j ≡ i) ⊎ (j ≢ i)) [
+  | inl lower ↦ inr (λ e. absurd (omega (arith, lower, e)))
+  | inr past ↦ elim (cases_lt j i) as (λ _. (j ≡ i) ⊎ (j ≢ i)) [
+    | inl below ↦ inr (λ e. absurd (omega (arith, below, e)))
+    | inr equal ↦ inl (omega (arith, past, equal))
+  ]
+]
+
+-- a property of a row that is set, and of the others
+pub set_rows : (P : ℕ → UnitState → Type 0) (rows : List UnitState) (i : ℕ) (u : UnitState) → i < length rows → P i u → ((j : ℕ) → P j (row_at rows j)) → (j : ℕ) → P j (row_at (set rows i u) j)
+set_rows P rows i u within here others j = elim (same_row i j) as (λ _. P j (row_at (set rows i u) j)) [
+  | inl same ↦ subst (λ k. P k (row_at (set rows i u) k)) (sym same) (subst (P i) (sym (get_or-set_same rows i u dead_unit within)) here)
+  | inr other ↦ subst (P j) (sym (get_or-set_other rows i j u dead_unit other)) (others j)
+]
+
+-- ---- a row is set
+
+pub finds_set : (rows : List UnitState) (finder : Finder) (i : ℕ) (u : UnitState) → i < length rows → Finds rows finder → ((n : ℕ) → HasNumber u n → Tells finder i n)
+    → Finds (set rows i u) finder
+finds_set rows finder i u within finds told j n = set_rows (λ k v. HasNumber v n → Tells finder k n) rows i u within (told n) (λ k. finds k n) j
 
 -- the same after what keeps all that is told
-pub finds_kept : (units : ByUnit UnitState) (f g : Finder) → Finds units f → ((unit : List ℕ) (n : ℕ) → Tells f unit n → Tells g unit n) → Finds units g
-finds_kept units f g finds keeps unit n has = keeps unit n (finds unit n has)
+pub finds_kept : (rows : List UnitState) (f g : Finder) → Finds rows f → ((i n : ℕ) → Tells f i n → Tells g i n) → Finds rows g
+finds_kept rows f g finds keeps i n has = keeps i n (finds i n has)
+
+-- of no row nothing is to be told
+pub finds_none : (rows : List UnitState) (finder : Finder) → rows ≡ [] → Finds rows finder
+finds_none rows finder none i n has = absurd (nobody n (subst (λ rs. HasNumber (row_at rs i) n) none has))
 
 -- a unit's numbers are those of its main process and of its control process
-pub told_both : {A E : Type 0} (r : Result A E) (f g : Finder) (unit : List ℕ) (u : UnitState) → ((n : ℕ) → u.main ≡ Some n → Tells f unit n)
-    → ((n : ℕ) → Tells f unit n → Tells g unit n) → OnOk r ((n : ℕ) → u.control ≡ Some n → Tells g unit n) → OnOk r ((n : ℕ) → HasNumber u n → Tells g unit n)
-told_both (Ok x) f g unit u main keeps control = either
-  where
-    either : (n : ℕ) → HasNumber u n → Tells g unit n
-    either n (inl e) = keeps n (main n e)
-    either n (inr e) = control n e
-told_both (Err e) f g unit u main keeps control = control
+pub told_both : (f g : Finder) (i : ℕ) (u : UnitState) → ((n : ℕ) → u.main ≡ Some n → Tells f i n) → ((n : ℕ) → Tells f i n → Tells g i n)
+    → ((n : ℕ) → u.control ≡ Some n → Tells g i n) → (n : ℕ) → HasNumber u n → Tells g i n
+told_both f g i u main keeps control n (inl e) = keeps n (main n e)
+told_both f g i u main keeps control n (inr e) = control n e
 
 -- ---- a number is let go
 
-pub finds_left : (units : ByUnit UnitState) (f g : Finder) (number : ℕ) → Finds units f → g.is_shared ≡ f.is_shared → tree.Updates nat_cmp f.names g.names number None
-    → ((unit : List ℕ) → tree.get nat_cmp f.names number ≡ Some unit → ¬ HasNumber (state_of_unit units unit) number) → Finds units g
-finds_left units f g number finds alone updates over unit n has one = elim (eq_by_cmp nat_cmp number n) as (λ b. eq_by_cmp nat_cmp number n ≡ b → tree.get nat_cmp g.names n ≡ Some unit) [
+pub finds_left : (rows : List UnitState) (f g : Finder) (number : ℕ) → Finds rows f → g.is_partial ≡ f.is_partial → tree.Updates nat_cmp f.rows g.rows number None
+    → ((i : ℕ) → tree.get nat_cmp f.rows number ≡ Some i → ¬ HasNumber (row_at rows i) number) → Finds rows g
+finds_left rows f g number finds alone updates over i n has one = elim (eq_by_cmp nat_cmp number n) as (λ b. eq_by_cmp nat_cmp number n ≡ b → tree.get nat_cmp g.rows n ≡ Some i) [
   | true ↦ λ e.
       let same = tells_apart exact_unsigned number n e in
-      absurd (over unit (subst (λ m. tree.get nat_cmp f.names m ≡ Some unit) (sym same) told) (subst (HasNumber (state_of_unit units unit)) (sym same) has))
-  | false ↦ λ e. updates.0 n ∙ (ap (λ b. cond b None (tree.get nat_cmp f.names n)) e ∙ told)
+      absurd (over i (subst (λ m. tree.get nat_cmp f.rows m ≡ Some i) (sym same) told) (subst (HasNumber (row_at rows i)) (sym same) has))
+  | false ↦ λ e. updates.0 n ∙ (ap (λ b. cond b None (tree.get nat_cmp f.rows n)) e ∙ told)
 ] refl
   where
-    told : tree.get nat_cmp f.names n ≡ Some unit
-    told = finds unit n has (sym alone ∙ one)
+    told : tree.get nat_cmp f.rows n ≡ Some i
+    told = finds i n has (sym alone ∙ one)
 
--- ---- each unit was added
+-- ---- each row was added
 
--- the numbers of these units are told
-abbrev pub AllTold : Finder → List (List ℕ × UnitState) → Type 0
-AllTold finder [] = Unit {0}
-AllTold finder (e ∷ es) = ((n : ℕ) → HasNumber e.1 n → Tells finder e.0 n) × AllTold finder es
+-- the first rows are told
+abbrev pub FindsBelow : List UnitState → Finder → ℕ → Type 0
+FindsBelow rows finder k = (i n : ℕ) → i < k → HasNumber (row_at rows i) n → Tells finder i n
 
--- whoever tells what this finder tells, and the numbers of those that are left, tells those of all
-abbrev pub TellsAllBut : Finder → List (List ℕ × UnitState) → List (List ℕ × UnitState) → Type 0
-TellsAllBut finder left all = (more : Finder) → ((unit : List ℕ) (n : ℕ) → Tells finder unit n → Tells more unit n) → AllTold more left → AllTold more all
+pub finds_more : (rows : List UnitState) (f g : Finder) (k : ℕ) (u : UnitState) → u ≡ row_at rows k → FindsBelow rows f k → ((i n : ℕ) → Tells f i n → Tells g i n)
+    → ((n : ℕ) → HasNumber u n → Tells g k n) → FindsBelow rows g (k + 1)
+finds_more rows f g k u is below keeps told i n h has = elim (cases_lt i k) as (λ _. Tells g i n) [
+  | inl lower ↦ keeps i n (below i n lower has)
+  | inr past ↦
+      let same : i ≡ k = omega (arith, h, past) in
+      subst (λ j. Tells g j n) (sym same) (told n (subst (λ v. HasNumber v n) (ap (row_at rows) same ∙ sym is) has))
+]
 
-told_at : (finder : Finder) (es : List (List ℕ × UnitState)) → AllTold finder es → (unit : List ℕ) (u : UnitState) (k : ℕ) → k < length es → get_or es k (unit, u) ≡ (unit, u)
-    → (n : ℕ) → HasNumber u n → Tells finder unit n
-told_at finder [] all unit u k lt at n has = absurd (omega arith)
-told_at finder (e ∷ es) all unit u zero lt at n has = subst (λ x. (m : ℕ) → HasNumber x.1 m → Tells finder x.0 m) at all.0 n has
-told_at finder (e ∷ es) all unit u (suc k) lt at n has = told_at finder es all.1 unit u k (omega arith) at n has
+pub finds_all : (rows : List UnitState) (finder : Finder) → FindsBelow rows finder (length rows) → Finds rows finder
+finds_all rows finder below i n has = elim (cases_lt i (length rows)) as (λ _. Tells finder i n) [
+  | inl within ↦ below i n within has
+  | inr past ↦ absurd (nobody n (subst (λ v. HasNumber v n) (get_or_past rows i dead_unit past) has))
+]
 
-some_of : (o : Option UnitState) → is_some o ≡ true → o ≡ Some (unwrap_or o dead_unit)
-some_of None e = absurd (true≢false (sym e))
-some_of (Some u) e = refl
+-- ---- the row of a number
 
-pub finds_all : (m : BTreeMap (List ℕ) UnitState) (finder : Finder) → tree.IsOrdered (slice_cmp nat_cmp) m → AllTold finder m.entries → Finds (seen m) finder
-finds_all m finder ordered all unit n has =
-    let held = some_of (map.get (seen m) unit) (held_with_number (seen m) unit n has) in
-    let c = (btree_map_get_iff nat_list_cmp_total exact_bytes m ordered unit (state_of_unit (seen m) unit)).0 (sym (get_seen m unit) ∙ held) in
-    told_at finder m.entries all unit (state_of_unit (seen m) unit) c.0 c.1 c.2 n has
-
--- ---- the unit of a number
-
-pub found : (units : ByUnit UnitState) (finder : Finder) (number : ℕ) (unit : List ℕ) → Finds units finder → finder.is_shared ≡ false
-    → tree.get nat_cmp finder.names number ≡ Some unit → HasNumber (state_of_unit units unit) number → IsProcessOf units number unit
-found units finder number unit finds alone told has = record {
+pub found : (rows : List UnitState) (finder : Finder) (number i : ℕ) → Finds rows finder → finder.is_partial ≡ false → tree.get nat_cmp finder.rows number ≡ Some i
+    → HasNumber (row_at rows i) number → IsFirstWith rows number i
+found rows finder number i finds alone told has = record {
+  within = elim (cases_lt i (length rows)) as (λ _. i < length rows) [
+    | inl within ↦ within
+    | inr past ↦ absurd (nobody number (subst (λ v. HasNumber v number) (get_or_past rows i dead_unit past) has))
+  ];
   has = has;
-  first = λ other has' apart. absurd (apart (same_name other (sym (finds other number has' alone) ∙ told)));
+  first = λ j below has'.
+      let same : j ≡ i = ap (λ o. unwrap_or o i) (sym (finds j number has' alone) ∙ told) in
+      absurd (omega (arith, below, same));
 }
-  where
-    same_name : (other : List ℕ) → ◌≡◌ {A = Option (List ℕ)} (Some other) (Some unit) → other ≡ unit
-    same_name other e = ap (λ o. unwrap_or o unit) e
 
-pub none_told : (units : ByUnit UnitState) (finder : Finder) (number : ℕ) → Finds units finder → finder.is_shared ≡ false
-    → tree.get nat_cmp finder.names number ≡ None → IsOver units number
-none_told units finder number finds alone none unit has = true≢false (ap is_some (sym (finds unit number has alone) ∙ none))
+pub none_told : (rows : List UnitState) (finder : Finder) (number : ℕ) → Finds rows finder → finder.is_partial ≡ false → tree.get nat_cmp finder.rows number ≡ None → NoneHas rows number
+none_told rows finder number finds alone none i has = true≢false (ap is_some (sym (finds i number has alone) ∙ none))
 
-pub told_wrong : (units : ByUnit UnitState) (finder : Finder) (number : ℕ) (unit : List ℕ) → Finds units finder → finder.is_shared ≡ false
-    → tree.get nat_cmp finder.names number ≡ Some unit → ¬ HasNumber (state_of_unit units unit) number → IsOver units number
-told_wrong units finder number unit finds alone told wrong other has =
-    let same = ap (λ o. unwrap_or o unit) (sym (finds other number has alone) ∙ told) in
-    wrong (subst (λ x. HasNumber (state_of_unit units x) number) same has)
+pub told_wrong : (rows : List UnitState) (finder : Finder) (number i : ℕ) → Finds rows finder → finder.is_partial ≡ false → tree.get nat_cmp finder.rows number ≡ Some i
+    → ¬ HasNumber (row_at rows i) number → NoneHas rows number
+told_wrong rows finder number i finds alone told wrong j has =
+    let same : j ≡ i = ap (λ o. unwrap_or o i) (sym (finds j number has alone) ∙ told) in
+    wrong (subst (λ k. HasNumber (row_at rows k) number) same has)
+
+-- what the row of a number says where it is told of the number
+pub told_or_not : (rows : List UnitState) (finder : Finder) (number row : ℕ) → Finds rows finder → finder.is_partial ≡ false → tree.get nat_cmp finder.rows number ≡ Some row
+    → (r : Option ℕ) → MatchOption r (¬ HasNumber (row_at rows row) number) (λ i. (i ≡ row) × HasNumber (row_at rows row) number) → MatchOption r (NoneHas rows number) (IsFirstWith rows number)
+told_or_not rows finder number row finds alone told None wrong = told_wrong rows finder number row finds alone told wrong
+told_or_not rows finder number row finds alone told (Some i) (is, has) = subst (IsFirstWith rows number) (sym is) (found rows finder number row finds alone told has)
+
+-- ---- what rows say of the units
+
+module _ (t : Table UnitState) (names : List (List ℕ)) (rows : List UnitState) (seen : record { names = names; held = units_by names rows } ≡ t) (sorted : AreAscending names) where
+  at_number : (i : ℕ) → i < length names → state_of_unit (units_by names rows) (name_at names i) ≡ row_at rows i
+  at_number i h = by_at dead_unit with_unit units_put names rows (names_once names sorted) i h
+
+  -- what a row says of the unit with its number
+  pub told_row : (i : ℕ) → i < length t.names → row_at rows i ≡ state_of_unit t.held (name_at t.names i)
+  told_row i h = subst (λ (u : Table UnitState). i < length u.names → row_at rows i ≡ state_of_unit u.held (name_at u.names i)) seen (λ k. sym (at_number i k)) h
+
+  -- what is so of a dead unit and of each row is so of each unit
+  pub of_each : (P : UnitState → Type 0) → P dead_unit → ((i : ℕ) → P (row_at rows i)) → (x : List ℕ) → P (state_of_unit t.held x)
+  of_each P dead each x = subst (λ (u : Table UnitState). P (state_of_unit u.held x)) seen (by (among_or_apart names x))
+    where
+      by : ((i : ℕ) × (i < length names) × (name_at names i ≡ x)) ⊎ IsApart names x → P (state_of_unit (units_by names rows) x)
+      by (inl (i, h, e)) = subst P (sym (ap (state_of_unit (units_by names rows)) (sym e) ∙ at_number i h)) (each i)
+      by (inr a) = subst P (sym (by_none dead_unit with_unit units_put names rows x a)) dead
+
+  pub none_has : (number : ℕ) → NoneHas rows number → IsOver t.held number
+  none_has number none = of_each (λ u. ¬ HasNumber u number) (nobody number) none
+
+  pub first_has : (number i : ℕ) → length rows ≡ length names → IsFirstWith rows number i → (i < length t.names) × IsProcessOf t.held number (name_at t.names i)
+  first_has number i len f = subst (λ (u : Table UnitState). (i < length u.names) × IsProcessOf u.held number (name_at u.names i)) seen (
+    within,
+    record {
+      has = subst (λ u. HasNumber u number) (sym (at_number i within)) f.has;
+      first = λ other has apart. later other has apart (among_or_apart names other);
+    },
+  )
+    where
+      within : i < length names
+      within = omega (arith, f.within, len)
+
+      later : (other : List ℕ) → HasNumber (state_of_unit (units_by names rows) other) number → other ≢ name_at names i
+          → ((j : ℕ) × (j < length names) × (name_at names j ≡ other)) ⊎ IsApart names other → IsNamedBefore (name_at names i) other
+      later other has apart (inr a) = absurd (nobody number (subst (λ u. HasNumber u number) (by_none dead_unit with_unit units_put names rows other a) has))
+      later other has apart (inl (j, l, e)) = elim (cases_lt i j) as (λ _. IsNamedBefore (name_at names i) other) [
+        | inl lower ↦ subst (IsNamedBefore (name_at names i)) e (sorted i j [] lower l)
+        | inr past ↦ elim (cases_lt j i) as (λ _. IsNamedBefore (name_at names i) other) [
+          | inl below ↦ absurd (f.first j below (subst (λ u. HasNumber u number) (ap (state_of_unit (units_by names rows)) (sym e) ∙ at_number j l) has))
+          | inr equal ↦
+              let same : j ≡ i = omega (arith, past, equal) in
+              absurd (apart (sym e ∙ ap (name_at names) same))
+        ]
+      ]

@@ -1,10 +1,11 @@
 -- The map of the jobs of a list, made from the end of the list.
-use Rattle.std.proofs.Common.{◌≡◌, List, [], ◌∷◌, ◌++◌, refl, ap}
+use Rattle.std.proofs.Common.{◌≡◌, List, [], ◌∷◌, ◌++◌, refl, ap, subst}
 use Rattle.std.specs.FinMap as map
 use Rattle.um_model.specs.Service.{ByUnit}
-use Rattle.um_model.specs.Jobs.{JobShown, jobs_of_unit, with_jobs, with_job}
+use Rattle.um_model.specs.Jobs.{JobShown, jobs_of_unit, no_jobs, with_jobs, with_job}
 use Rattle.um_model.specs.StateSpellings.{pending_of}
 use Rattle.um_model.proofs.PendingSpellingsLaws.{has_with_job}
+use Rattle.um_model.proofs.UnitLaws.{IsTidy, tidy_empty, tidy_jobs}
 use Rattle.um_model.specs.declared.jobs.UnitJobs.{UnitJobs}
 
 -- with one more job
@@ -27,3 +28,8 @@ last_first (k ∷ js) j pending = ap (with_one k) (last_first js j pending)
 -- what a unit's jobs are set to has a job
 pub set_is : (j : JobShown) (pending : ByUnit UnitJobs) → with_jobs pending j.unit (with_job j.kind j.state (jobs_of_unit pending j.unit)) ≡ with_one j pending
 set_is j pending = rw (has_with_job j.kind j.state (jobs_of_unit pending j.unit)) refl
+
+-- of no unit without a job anything is held
+pub tidy_list : (js : List JobShown) → IsTidy no_jobs (pending_of js)
+tidy_list [] = tidy_empty no_jobs
+tidy_list (j ∷ js) = subst (IsTidy no_jobs) (set_is j (pending_of js)) (tidy_jobs (pending_of js) j.unit (with_job j.kind j.state (jobs_of_unit (pending_of js) j.unit)) (tidy_list js))

@@ -1,5 +1,5 @@
 -- The fields of a state, put and read one behind the other.
-use Rattle.std.proofs.Common.{◌≡◌, ℕ, ◌≤◌, ◌+◌, ◌-◌, true, List, [], ◌∷◌, ◌++◌, length, take, drop, slice_index, arith, append_assoc, Some, refl, ap, ◌∙◌}
+use Rattle.std.proofs.Common.{◌≡◌, ℕ, ◌≤◌, ◌+◌, ◌-◌, true, false, List, [], ◌∷◌, ◌++◌, length, take, drop, slice_index, arith, append_assoc, Some, None, refl, ap, ◌∙◌}
 use Rattle.std.proofs.lemmas.List.{drop-drop}
 use Rattle.um_model.specs.Bytes.{Decoder, as_at, only_at, pair_at}
 use Rattle.um_model.specs.Spellings.{moment_at, next_at}
@@ -41,3 +41,13 @@ state_here bytes f n long one read sound =
     ap state_at (first_and_rest bytes long ∙ ap (λ b. b ∷ rest) one)
     ∙ (sound_here rest (drop n rest) f read sound
     ∙ ap (λ l. Some (state_of f, l)) (ap (drop n) (behind_one bytes long) ∙ (drop-drop n 1 bytes ∙ ap (λ m. drop m bytes) sum)))
+
+unsound_here : (bytes rest : List ℕ) (f : StateFields) → fields_at bytes ≡ Some (f, rest) → is_sound (state_of f) ≡ false → only_at is_sound (as_at state_of fields_at) bytes ≡ None
+unsound_here bytes rest f read sound = rw (read, sound) refl
+
+-- and none where they don't
+pub none_here : (bytes : List ℕ) (f : StateFields) (n : ℕ) → 1 ≤ length bytes → slice_index bytes 0 ≡ 1
+    → fields_at (take (length bytes - 1) (drop 1 bytes)) ≡ Some (f, drop n (take (length bytes - 1) (drop 1 bytes))) → is_sound (state_of f) ≡ false → state_at bytes ≡ None
+none_here bytes f n long one read sound =
+    let rest = take (length bytes - 1) (drop 1 bytes) in
+    ap state_at (first_and_rest bytes long ∙ ap (λ b. b ∷ rest) one) ∙ unsound_here rest (drop n rest) f read sound

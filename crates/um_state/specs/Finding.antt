@@ -1,17 +1,32 @@
--- How the unit of a live number is found without a look at all units.
+-- How the row of a live number is found without a look at all rows.
+-- Follows no manual page: it is how the code finds the unit of a process.
 -- The contracts of Finder and the ghost field of Units cite it.
-use Rattle.std.specs.Prelude.{◌≡◌, ℕ, false, List, Some}
+use Rattle.std.specs.Prelude.{◌≡◌, ◌<◌, ℕ, false, List, Some, length, slice_index_or}
 use Rattle.std.specs.BTreeMap as tree
 use Rattle.std.specs.Ordering.{nat_cmp}
-use Rattle.um_model.specs.Service.{ByUnit, state_of_unit}
+use Rattle.um_model.specs.Service.{dead_unit}
 use Rattle.um_model.specs.Transitions.{HasNumber}
 use Rattle.um_model.specs.declared.service.UnitState.{UnitState}
 use Rattle.um_state.specs.declared.finder.Finder.{Finder}
 
--- unless two units had one number, this unit is told of the number
-abbrev pub Tells : Finder → List ℕ → ℕ → Type 0
-Tells finder unit number = finder.is_shared ≡ false → tree.get nat_cmp finder.names number ≡ Some unit
+-- the row with this number; past the last one a dead unit's
+abbrev pub row_at : List UnitState → ℕ → UnitState
+row_at rows i = slice_index_or rows i dead_unit
 
--- each unit is told of the numbers of its live processes
-abbrev pub Finds : ByUnit UnitState → Finder → Type 0
-Finds units finder = (unit : List ℕ) (number : ℕ) → HasNumber (state_of_unit units unit) number → Tells finder unit number
+-- unless numbers are left out, this row is told of the number
+abbrev pub Tells : Finder → ℕ → ℕ → Type 0
+Tells finder i number = finder.is_partial ≡ false → tree.get nat_cmp finder.rows number ≡ Some i
+
+-- each row is told of the numbers of its live processes
+abbrev pub Finds : List UnitState → Finder → Type 0
+Finds rows finder = (i number : ℕ) → HasNumber (row_at rows i) number → Tells finder i number
+
+-- no row has the number
+abbrev pub NoneHas : List UnitState → ℕ → Type 0
+NoneHas rows number = (i : ℕ) → ¬ HasNumber (row_at rows i) number
+
+-- of the rows that have the number it is the first
+pub record IsFirstWith (rows : List UnitState) (number i : ℕ) : Type 0 where
+  pub within : i < length rows
+  pub has : HasNumber (row_at rows i) number
+  pub first : (j : ℕ) → j < i → ¬ HasNumber (row_at rows j) number

@@ -1,8 +1,11 @@
 pub mod Arms
 pub mod Awaiting
+pub mod Deltas
 pub mod Due
 pub mod Finding
-pub mod Held
+pub mod Rows
 pub mod Short
 pub mod Shown
+pub mod Tables
 pub mod View
+pub mod Working

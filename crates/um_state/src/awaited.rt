@@ -1,17 +1,13 @@
 //! For which reports units may wait, known without a look at any unit.
 
-ghost use Rattle.std.specs.Prelude.{◌≡◌, ℕ, Some, IfOk, OnOk};
-ghost use Rattle.std.specs.BTreeSet as sets;
-ghost use Rattle.std.specs.FinMap as maps;
-ghost use Rattle.std.specs.Ordering.{nat_cmp};
-ghost use Rattle.um_state.specs.Awaiting.{Has, HasAll, awaited_by};
+ghost use Rattle.std.specs.Prelude.{◌≡◌, ℕ, Some};
+ghost use Rattle.um_state.specs.Awaiting.{Has, HasAll, awaited_by, may_have};
 ghost use Rattle.um_state.specs.Finding.{Finds};
 
 use crate::finder::Finder;
-use std::alloc::{AllocError, Global};
-use std::collections::{BTreeMap, BTreeSet};
+use std::alloc::Global;
+use std::collections::BTreeSet;
 use um_model::{ProcessNumber, UnitState};
-use um_name::UnitName;
 
 /// The number of the process whose report a unit that stands so may wait for.
 pub(crate) fn awaited_by(state: &UnitState) -> Option<ProcessNumber>
@@ -27,7 +23,9 @@ pub(crate) fn awaited_by(state: &UnitState) -> Option<ProcessNumber>
 /// The numbers of processes whose reports units may wait for. Some may be among them that no unit waits for any more.
 #[derive(Drop)]
 pub(crate) struct Awaited {
-    numbers: BTreeSet<u64>,
+    pub(crate) numbers: BTreeSet<u64>,
+    /// Memory was refused: any number may be one.
+    pub(crate) is_partial: bool,
 }
 
 impl Awaited {
@@ -35,59 +33,53 @@ impl Awaited {
     pub(crate) fn new(alloc: Global) -> Awaited {
         Awaited {
             numbers: BTreeSet::new(alloc),
+            is_partial: false,
         }
     }
 
-    /// Whether the number is one of them.
+    /// Whether the number may be one of them.
     pub(crate) fn has(&self, number: u64) -> bool
-        ensures { result ≡ sets.contains nat_cmp self.now.numbers number }
+        ensures { result ≡ may_have self.now number }
     {
-        self.numbers.contains(&number)
+        self.is_partial || self.numbers.contains(&number)
     }
 
     /// Adds the number that a unit that stands so may wait for.
-    pub(crate) fn note(&mut self, state: &UnitState) -> Result<(), AllocError>
+    pub(crate) fn note(&mut self, state: &UnitState)
         ensures keeps { (n : ℕ) → Has self.old n → Has self.new n }
-        ensures has { OnOk result ((n : ℕ) → awaited_by state.now ≡ Some n → Has self.new n) }
+        ensures has { (n : ℕ) → awaited_by state.now ≡ Some n → Has self.new n }
     {
         let Some(number) = awaited_by(state) else {
-            return Ok(());
+            return;
         };
-        self.numbers.insert(number.get())?;
-        Ok(())
+        if self.numbers.insert(number.get()).is_err() {
+            self.is_partial = true;
+        }
     }
 
     /// Lets the number go that a unit waited for, unless one waits for it still. It takes no memory.
-    pub(crate) fn leave(
-        &mut self,
-        finder: &Finder,
-        entries: &BTreeMap<UnitName, UnitState>,
-        before: &UnitState,
-    )
-        requires finds { Finds (maps.from_entries entries.now.entries) finder.now }
-        requires all { HasAll (maps.from_entries entries.now.entries) self.old }
-        ensures { HasAll (maps.from_entries entries.now.entries) self.new }
+    pub(crate) fn leave(&mut self, finder: &Finder, rows: &[UnitState], before: &UnitState)
+        requires finds { Finds rows.now finder.now }
+        requires all { HasAll rows.now self.old }
+        ensures { HasAll rows.now self.new }
     {
         let Some(number) = awaited_by(before) else {
             return;
         };
-        if finder.is_awaited(entries, number.get()) {
+        if finder.is_awaited(rows, number.get()) {
             return;
         }
         self.numbers.remove(&number.get());
     }
 
-    /// Those that these units may wait for.
-    pub(crate) fn of(
-        alloc: Global,
-        entries: &BTreeMap<UnitName, UnitState>,
-    ) -> Result<Awaited, AllocError>
-        ensures { IfOk result (HasAll (maps.from_entries entries.now.entries)) }
+    /// Those that the units of these rows may wait for.
+    pub(crate) fn of(alloc: Global, rows: &[UnitState]) -> Awaited
+        ensures { HasAll rows.now result }
     {
         let mut awaited = Awaited::new(alloc);
-        for (_, state) in entries.iter() {
-            awaited.note(state)?;
+        for i in 0..rows.len() {
+            awaited.note(&rows[i]);
         }
-        Ok(awaited)
+        awaited
     }
 }

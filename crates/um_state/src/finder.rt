@@ -1,164 +1,186 @@
-//! Which unit a number is of, found without a look at all units.
+//! Which row a number is of, found without a look at all rows.
 
-ghost use Rattle.std.specs.Prelude.{◌≡◌, ℕ, List, [], true, false, Some, None, IfOk, OnOk};
+ghost use Rattle.std.specs.Prelude.{◌≡◌, ℕ, [], true, false, Some, None, MatchOption};
 ghost use Rattle.std.specs.BTreeMap as tree;
-ghost use Rattle.std.specs.FinMap as maps;
 ghost use Rattle.std.specs.Ordering.{nat_cmp};
-ghost use Rattle.um_model.specs.Service.{state_of_unit};
 ghost use Rattle.um_model.specs.Transitions.{HasNumber};
-ghost use Rattle.um_state.specs.Awaiting.{IsUnawaited};
-ghost use Rattle.um_state.specs.Finding.{Tells, Finds};
+ghost use Rattle.um_state.specs.Awaiting.{NoneAwaits};
+ghost use Rattle.um_state.specs.Finding.{Finds, IsFirstWith, NoneHas, Tells, row_at};
 
 use crate::awaited::awaited_by;
-use std::alloc::{AllocError, Global};
+use std::alloc::Global;
 use std::collections::BTreeMap;
 use um_model::{ProcessNumber, UnitState};
-use um_name::UnitName;
 
-/// How the unit stands; one that isn't there is dead. It takes no memory.
-pub(crate) fn state_in(entries: &BTreeMap<UnitName, UnitState>, unit: &UnitName) -> UnitState
-    ensures { result ≡ state_of_unit (maps.from_entries entries.now.entries) unit.now }
+/// How the unit of the row with this number stands; past the last one it is dead. It takes no memory.
+pub(crate) fn row_in(rows: &[UnitState], i: usize) -> UnitState
+    ensures { result ≡ row_at rows.now i }
 {
-    match entries.get(unit) {
+    match rows.get(i) {
         Some(state) => *state,
         None => UnitState::DEAD,
     }
 }
 
-/// The unit of each live number. What is told of a number that no unit has any more may stay.
+/// The first row that has the number.
+pub(crate) fn first_with(rows: &[UnitState], number: u64) -> Option<usize>
+    ensures { MatchOption result (NoneHas rows.now number) (IsFirstWith rows.now number) }
+{
+    for i in 0..rows.len() {
+        if rows[i].has_number(number) {
+            return Some(i);
+        }
+    }
+    None
+}
+
+/// The row, where it has the number.
+fn row_with(rows: &[UnitState], row: usize, number: u64) -> Option<usize>
+    ensures { MatchOption result (¬ HasNumber (row_at rows.now row) number) (λ i. (i ≡ row) × HasNumber (row_at rows.now row) number) }
+{
+    if row_in(rows, row).has_number(number) {
+        Some(row)
+    } else {
+        None
+    }
+}
+
+/// The row of each live number. What is told of a number that no row has any more may stay.
 #[derive(Drop)]
 pub(crate) struct Finder {
-    pub(crate) names: BTreeMap<u64, UnitName>,
-    /// Two units had one number, which none of a run have: the units are looked through.
-    pub(crate) is_shared: bool,
+    pub(crate) rows: BTreeMap<u64, usize>,
+    /// Numbers are left out: two units had one, which none of a run have, or memory was refused. The rows are looked through.
+    pub(crate) is_partial: bool,
 }
 
 impl Finder {
-    /// That of no unit. It takes no memory.
+    /// That of no row. It takes no memory.
     pub(crate) fn new(alloc: Global) -> Finder
-        ensures { result.names.entries ≡ [] }
+        ensures { result.rows.entries ≡ [] }
     {
         Finder {
-            names: BTreeMap::new(alloc),
-            is_shared: false,
+            rows: BTreeMap::new(alloc),
+            is_partial: false,
         }
     }
 
-    /// Whether this unit is told of the number, or another one; None where none is.
-    fn tells(&self, unit: &UnitName, number: u64) -> Option<bool>
-        ensures none { result ≡ None → tree.get nat_cmp self.now.names number ≡ None }
-        ensures this { result ≡ Some true → tree.get nat_cmp self.now.names number ≡ Some unit.now }
+    /// Whether this row is told of the number, or another one; None where none is.
+    fn tells(&self, row: usize, number: u64) -> Option<bool>
+        ensures none { result ≡ None → tree.get nat_cmp self.now.rows number ≡ None }
+        ensures this { result ≡ Some true → tree.get nat_cmp self.now.rows number ≡ Some row }
     {
-        match self.names.get(&number) {
-            Some(told) => Some(told.as_str() == unit.as_str()),
+        match self.rows.get(&number) {
+            Some(told) => Some(*told == row),
             None => None,
         }
     }
 
-    /// Adds the unit of a number. Where another one is told of it all units are looked through from now on.
-    fn add_number(
-        &mut self,
-        unit: &UnitName,
-        number: Option<ProcessNumber>,
-    ) -> Result<(), AllocError>
-        ensures keeps { (other : List ℕ) (n : ℕ) → Tells self.old other n → Tells self.new other n }
-        ensures told { OnOk result ((n : ℕ) → number ≡ Some n → Tells self.new unit.now n) }
+    /// Adds the row of a number. Where another one is told of it, or memory is refused, all rows are looked through from now on.
+    fn add_number(&mut self, row: usize, number: Option<ProcessNumber>)
+        ensures keeps { (other n : ℕ) → Tells self.old other n → Tells self.new other n }
+        ensures told { (n : ℕ) → number ≡ Some n → Tells self.new row n }
     {
         let Some(number) = number else {
-            return Ok(());
+            return;
         };
-        match self.tells(unit, number.get()) {
+        match self.tells(row, number.get()) {
             Some(true) => {}
-            Some(false) => self.is_shared = true,
+            Some(false) => self.is_partial = true,
             None => {
-                self.names.insert(number.get(), unit.copy()?)?;
+                if self.rows.insert(number.get(), row).is_err() {
+                    self.is_partial = true;
+                }
             }
         }
-        Ok(())
     }
 
-    /// Adds the numbers of a unit that stands so.
-    fn add(&mut self, unit: &UnitName, state: &UnitState) -> Result<(), AllocError>
-        ensures keeps { (other : List ℕ) (n : ℕ) → Tells self.old other n → Tells self.new other n }
-        ensures told { OnOk result ((n : ℕ) → HasNumber state.now n → Tells self.new unit.now n) }
+    /// Adds the numbers of a row.
+    fn add(&mut self, row: usize, state: &UnitState)
+        ensures keeps { (other n : ℕ) → Tells self.old other n → Tells self.new other n }
+        ensures told { (n : ℕ) → HasNumber state.now n → Tells self.new row n }
     {
-        self.add_number(unit, state.main)?;
-        self.add_number(unit, state.control)
+        self.add_number(row, state.main);
+        self.add_number(row, state.control);
     }
 
-    /// Whether a unit is told of the number that hasn't it.
-    fn is_over(&self, entries: &BTreeMap<UnitName, UnitState>, number: u64) -> bool
-        ensures { result ≡ true → (unit : List ℕ) → tree.get nat_cmp self.now.names number ≡ Some unit
-            → ¬ HasNumber (state_of_unit (maps.from_entries entries.now.entries) unit) number }
+    /// Whether a row is told of the number that hasn't it.
+    fn is_over(&self, rows: &[UnitState], number: u64) -> bool
+        ensures { result ≡ true → (i : ℕ) → tree.get nat_cmp self.now.rows number ≡ Some i → ¬ HasNumber (row_at rows.now i) number }
     {
-        match self.names.get(&number) {
-            Some(unit) => !state_in(entries, unit).has_number(number),
+        match self.rows.get(&number) {
+            Some(row) => !row_in(rows, *row).has_number(number),
             None => false,
         }
     }
 
-    /// Lets a number go that its unit hasn't any more. It takes no memory.
-    fn let_go(&mut self, entries: &BTreeMap<UnitName, UnitState>, number: Option<ProcessNumber>)
-        requires { Finds (maps.from_entries entries.now.entries) self.old }
-        ensures { Finds (maps.from_entries entries.now.entries) self.new }
+    /// Lets a number go that its row hasn't any more. It takes no memory.
+    fn let_go(&mut self, rows: &[UnitState], number: Option<ProcessNumber>)
+        requires { Finds rows.now self.old }
+        ensures { Finds rows.now self.new }
     {
         if let Some(number) = number {
-            if self.is_over(entries, number.get()) {
-                self.names.remove(&number.get());
+            if self.is_over(rows, number.get()) {
+                self.rows.remove(&number.get());
             }
         }
     }
 
-    /// Notes the numbers of a unit that is to stand so, once those are let go that it may have left there when it found no memory.
-    pub(crate) fn note(
-        &mut self,
-        entries: &BTreeMap<UnitName, UnitState>,
-        unit: &UnitName,
-        state: &UnitState,
-    ) -> Result<(), AllocError>
-        requires { Finds (maps.from_entries entries.now.entries) self.old }
-        ensures finds { Finds (maps.from_entries entries.now.entries) self.new }
-        ensures told { OnOk result ((n : ℕ) → HasNumber state.now n → Tells self.new unit.now n) }
+    /// Notes the numbers of a row that is to stand so, once those are let go that another one may have left.
+    pub(crate) fn note(&mut self, rows: &[UnitState], row: usize, state: &UnitState)
+        requires { Finds rows.now self.old }
+        ensures finds { Finds rows.now self.new }
+        ensures told { (n : ℕ) → HasNumber state.now n → Tells self.new row n }
     {
-        self.let_go(entries, state.main);
-        self.let_go(entries, state.control);
-        self.add(unit, state)
+        self.let_go(rows, state.main);
+        self.let_go(rows, state.control);
+        self.add(row, state);
     }
 
-    /// Lets the numbers go that a unit had, but those that it has still. It takes no memory.
-    pub(crate) fn leave(&mut self, entries: &BTreeMap<UnitName, UnitState>, before: &UnitState)
-        requires { Finds (maps.from_entries entries.now.entries) self.old }
-        ensures { Finds (maps.from_entries entries.now.entries) self.new }
+    /// Lets the numbers go that a row had, but those that it has still. It takes no memory.
+    pub(crate) fn leave(&mut self, rows: &[UnitState], before: &UnitState)
+        requires { Finds rows.now self.old }
+        ensures { Finds rows.now self.new }
     {
-        self.let_go(entries, before.main);
-        self.let_go(entries, before.control);
+        self.let_go(rows, before.main);
+        self.let_go(rows, before.control);
     }
 
-    /// Whether a unit may wait for the report of the process with the number. It takes no memory.
-    pub(crate) fn is_awaited(&self, entries: &BTreeMap<UnitName, UnitState>, number: u64) -> bool
-        requires { Finds (maps.from_entries entries.now.entries) self.now }
-        ensures { result ≡ false → IsUnawaited (maps.from_entries entries.now.entries) number }
+    /// Whether a row may wait for the report of the process with the number. It takes no memory.
+    pub(crate) fn is_awaited(&self, rows: &[UnitState], number: u64) -> bool
+        requires { Finds rows.now self.now }
+        ensures { result ≡ false → NoneAwaits rows.now number }
     {
-        if self.is_shared {
+        if self.is_partial {
             return true;
         }
-        match self.names.get(&number) {
-            Some(unit) => awaited_by(&state_in(entries, unit)).is_some(),
+        match self.rows.get(&number) {
+            Some(row) => awaited_by(&row_in(rows, *row)).is_some(),
             None => false,
         }
     }
 
-    /// That of these units.
-    pub(crate) fn of(
-        alloc: Global,
-        entries: &BTreeMap<UnitName, UnitState>,
-    ) -> Result<Finder, AllocError>
-        ensures { IfOk result (Finds (maps.from_entries entries.now.entries)) }
+    /// The first row that has the number. It takes no memory.
+    pub(crate) fn row(&self, rows: &[UnitState], number: u64) -> Option<usize>
+        requires { Finds rows.now self.now }
+        ensures { MatchOption result (NoneHas rows.now number) (IsFirstWith rows.now number) }
+    {
+        if self.is_partial {
+            return first_with(rows, number);
+        }
+        match self.rows.get(&number) {
+            Some(row) => row_with(rows, *row, number),
+            None => None,
+        }
+    }
+
+    /// That of these rows.
+    pub(crate) fn of(alloc: Global, rows: &[UnitState]) -> Finder
+        ensures { Finds rows.now result }
     {
         let mut finder = Finder::new(alloc);
-        for (unit, state) in entries.iter() {
-            finder.add(unit, state)?;
+        for i in 0..rows.len() {
+            finder.add(i, &rows[i]);
         }
-        Ok(finder)
+        finder
     }
 }

@@ -1,5 +1,8 @@
 //! The canonical bytes of pending jobs: a list, by ascending names of their units, of one unit the stop job first.
 ghost use Rattle.std.specs.Prelude.{◌≡◌, map, IfOk};
+ghost use Rattle.std.specs.Cmp.Lexicographic.{slice_cmp};
+ghost use Rattle.std.specs.FinMap as maps;
+ghost use Rattle.std.specs.Ordering.{nat_cmp};
 ghost use Rattle.um_model.specs.Jobs as model;
 ghost use Rattle.um_model.specs.Service.{ByUnit};
 ghost use Rattle.um_model.specs.StateSpellings.{FitPending, is_job_before, job_at, job_spelling, jobs_ascend, pending_at, pending_of, pending_spelling};
@@ -9,10 +12,12 @@ ghost use Rattle.um_model.specs.Jobs.{with_job};
 ghost use Rattle.um_model.specs.Spellings.{FitUnitName};
 ghost use Rattle.um_state.specs.Shown.{job_of};
 
+use crate::maps::{hold_jobs, jobs_in};
 use crate::reply::JobShown;
 use crate::units::Pending;
 use std::alloc::{AllocError, Global};
 use std::cmp::Ordering;
+use std::collections::BTreeMap;
 use um_model::{JobKind, JobState, UnitJobs};
 use um_name::UnitName;
 use um_wire::{Canon, Tagged};
@@ -89,16 +94,25 @@ fn with_job(kind: JobKind, state: JobState, held: UnitJobs) -> UnitJobs
     }
 }
 
+/// The jobs of a list, by the names of their units.
+fn map_of(alloc: Global, jobs: Vec<JobShown>) -> Result<BTreeMap<UnitName, UnitJobs>, AllocError>
+    ensures { IfOk result (λ m. maps.from_entries {R = slice_cmp nat_cmp} m.entries ≡ pending_of (map job_of jobs.items)) }
+{
+    let mut rest = jobs;
+    let mut entries = BTreeMap::new(alloc);
+    while let Some(job) = rest.pop() {
+        let held = jobs_in(&entries, &job.unit);
+        hold_jobs(&mut entries, &job.unit, with_job(job.kind, job.state, held))?;
+    }
+    Ok(entries)
+}
+
 /// The jobs of a list, by unit.
 fn pending_of(alloc: Global, jobs: Vec<JobShown>) -> Result<Pending, AllocError>
     ensures { IfOk result (λ pending. pending.held ≡ pending_of (map job_of jobs.items)) }
 {
-    let mut rest = jobs;
-    let mut pending = Pending::new(alloc);
-    while let Some(job) = rest.pop() {
-        let held = pending.get(&job.unit);
-        pending.set(&job.unit, with_job(job.kind, job.state, held))?;
-    }
+    let entries = map_of(alloc, jobs)?;
+    let pending = Pending::of_map(alloc, &entries)?;
     Ok(pending)
 }
 
@@ -115,7 +129,7 @@ impl Canon for Pending {
 
     fn put(&self, out: &mut Vec<u8>) -> Result<(), AllocError> {
         // The proof reads here that no unit is held without a job.
-        let _ = &self.entries;
+        let _ = self.numbers();
         let jobs = self.shown()?;
         jobs.put(out)?;
         Ok(())

@@ -3,6 +3,7 @@
 
 mod awaited;
 mod boot;
+mod delta;
 mod due;
 mod finder;
 mod fitting;
@@ -10,13 +11,19 @@ mod input;
 mod input_bytes;
 mod job_bytes;
 mod laws;
+mod maps;
+mod named;
 mod reply;
+mod row;
+mod rows;
 mod state;
 mod state_bytes;
 mod unit_bytes;
 mod units;
+mod work;
 
 pub use boot::BootId;
+pub use delta::Delta;
 pub use input::{Command, Event, Happening, Input, Query};
 pub use laws::{
     a_spelled_state_is_read_again, a_state_that_is_read_is_spelled_so, an_accepted_input_is_short,
@@ -26,6 +33,8 @@ pub use laws::{
     the_empty_state_has_a_spelling, units_are_told_apart_by_look_ups,
 };
 pub use reply::{JobShown, Reply, UnitListed, UnitShown};
+pub use row::{Numbered, Row};
 pub use state::State;
 pub use um_service::{Action, Start};
 pub use units::{Pending, Units};
+pub use work::Work;

@@ -1,4 +1,4 @@
-ghost use Rattle.std.specs.Prelude.{◌≡◌, ◌↔◌, ℕ, List, Contains, string_bytes, IsTrue, IfOk, OnOk, OnErr, IfErr, Ok, Err};
+ghost use Rattle.std.specs.Prelude.{◌≡◌, ◌↔◌, ℕ, List, true, Contains, string_bytes, IsTrue, IfOk, IfSome, OnOk, OnErr, IfErr, Ok, Err};
 ghost use Rattle.std.specs.Coded.{codes};
 ghost use Rattle.std.specs.FinMap as maps;
 ghost use Rattle.um_model.specs.Machine.{IsHeld, booted, empty_state};
@@ -6,16 +6,20 @@ ghost use Rattle.um_model.specs.Service.{with_unit};
 ghost use Rattle.um_model.specs.Standing.{Standing};
 ghost use Rattle.um_model.specs.Jobs.{with_jobs};
 ghost use Rattle.um_model.specs.Tree.{put_file, put_link, remove_at};
+ghost use Rattle.um_name.specs.Names.{IsApart};
+ghost use Rattle.um_state.specs.Rows.{common_names, put_row, timed};
+ghost use Rattle.um_state.specs.Working.{AreRowsOf};
 ghost use Rattle.um_tree.specs.Code.{tree_code};
 ghost use Rattle.um_wire.specs.Refusal.{refused_of};
 ghost use Rattle.um_wire.specs.declared.refusal.Refusal.TheVariants.{NoMemory};
 
 use crate::boot::BootId;
+use crate::row::{Numbered, Row};
 use crate::units::{Pending, Units};
 use std::alloc::{AllocError, Global};
 use std::marker::Model;
 use um_model::{Moment, NextNumber, UnitJobs, UnitState};
-use um_name::UnitName;
+use um_name::{Names, UnitName};
 use um_tree::Tree;
 use um_wire::Refusal;
 
@@ -29,6 +33,8 @@ pub struct State {
     pub(crate) next: NextNumber,
     pub(crate) units: Units,
     pub(crate) pending: Pending,
+    /// Whether units and pending jobs stand under the same names.
+    pub(crate) is_common: bool,
 }
 
 impl Model for State {
@@ -46,8 +52,10 @@ impl Model for State {
         units = s.units.held;
         pending = s.pending.held;
       };
-      names = s.units.names;
+      names = common_names s.is_common s.units.names;
     } };
+
+    ghost invariant = { λ s. s.is_common ≡ true → s.pending.names ≡ s.units.names };
 }
 
 impl State {
@@ -65,6 +73,7 @@ impl State {
             next: NextNumber::FIRST,
             units: Units::new(alloc),
             pending: Pending::new(alloc),
+            is_common: false,
         }
     }
 
@@ -188,7 +197,17 @@ impl State {
         ensures ok { OnOk result (state_of self.new ≡ record (state_of self.old) { units = with_unit (state_of self.old).units unit.now state }) }
         ensures err { OnErr result (state_of self.new ≡ state_of self.old) }
     {
-        self.units.set(unit, state)
+        match self.units.numbers().number(unit) {
+            Some(i) => {
+                let mut state = state;
+                self.units.swap(i, &mut state);
+            }
+            None => {
+                self.units.set(unit, state)?;
+                self.is_common = false;
+            }
+        }
+        Ok(())
     }
 
     /// Sets the pending jobs of a unit. Where memory is refused, all is as before.
@@ -196,7 +215,17 @@ impl State {
         ensures ok { OnOk result (state_of self.new ≡ record (state_of self.old) { pending = with_jobs (state_of self.old).pending unit.now jobs }) }
         ensures err { OnErr result (state_of self.new ≡ state_of self.old) }
     {
-        self.pending.set(unit, jobs)
+        match self.pending.numbers().number(unit) {
+            Some(i) => {
+                let mut jobs = jobs;
+                self.pending.swap(i, &mut jobs);
+            }
+            None => {
+                self.pending.set(unit, jobs)?;
+                self.is_common = false;
+            }
+        }
+        Ok(())
     }
 
     /// Sets the pending jobs, in the place of those that were.
@@ -204,6 +233,7 @@ impl State {
         ensures { state_of self.new ≡ record (state_of self.old) { pending = pending.held } }
     {
         self.pending = pending;
+        self.is_common = false;
     }
 
     /// Sets the next process number.
@@ -220,6 +250,14 @@ impl State {
         self.clock = clock;
     }
 
+    /// Sets the moment of the last step and the next process number.
+    pub fn set_times(&mut self, clock: Moment, next: NextNumber)
+        ensures { self.new ≡ timed clock next self.old }
+    {
+        self.clock = clock;
+        self.next = next;
+    }
+
     /// Another boot begins: nothing is held of any unit, and what stood under `run/` is gone from both trees. It takes no memory.
     pub fn begin_boot(&mut self, alloc: Global, boot: BootId)
         ensures { state_of self.new ≡ booted boot (state_of self.old) }
@@ -229,6 +267,7 @@ impl State {
         self.boot = boot;
         self.units = Units::new(alloc);
         self.pending = Pending::new(alloc);
+        self.is_common = false;
     }
 
     /// The same state again.
@@ -243,6 +282,54 @@ impl State {
             next: self.next,
             units: self.units.copy()?,
             pending: self.pending.copy()?,
+            is_common: self.is_common,
         })
+    }
+
+    /// Numbers units and pending jobs by these names, of which each unit has one of which anything is held. Where memory is refused, all is as before.
+    pub fn number(&mut self, names: &Names) -> Result<(), AllocError>
+        ensures names { OnOk result (self.new.names ≡ names.now) }
+        ensures state { OnOk result (((x : List ℕ) → IsApart names.now x → ¬ IsHeld (state_of self.old) x) → state_of self.new ≡ state_of self.old) }
+        ensures err { OnErr result (self.new ≡ self.old) }
+    {
+        let units = self.units.renumbered(names)?;
+        self.pending = self.pending.renumbered(names)?;
+        self.units = units;
+        self.is_common = true;
+        Ok(())
+    }
+
+    /// The rows of units and pending jobs, with the names that they have. None where these have no common numbers.
+    pub fn numbered(&self) -> Option<Numbered<'_>>
+        ensures { IfSome result (AreRowsOf self.now) }
+    {
+        if !self.is_common {
+            return None;
+        }
+        Some(Numbered {
+            names: self.units.numbers(),
+            units: self.units.rows(),
+            jobs: self.pending.rows(),
+        })
+    }
+
+    /// Exchanges what is held of the unit with the row's number for what the row tells; past the last one, and where units and jobs have no common
+    /// numbers, nothing changes. It needs no memory.
+    pub fn swap_row(&mut self, row: &mut Row)
+        ensures state { self.new ≡ put_row row.old self.old }
+        ensures back { put_row row.new self.new ≡ self.old }
+    {
+        if self.is_common {
+            self.units.swap(row.number, &mut row.unit);
+            self.pending.swap(row.number, &mut row.jobs);
+        }
+    }
+
+    /// Puts what the row tells of the unit with its number, as `swap_row` does.
+    pub fn put_row(&mut self, row: Row)
+        ensures { self.new ≡ put_row row self.old }
+    {
+        let mut row = row;
+        self.swap_row(&mut row);
     }
 }

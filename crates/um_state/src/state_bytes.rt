@@ -103,6 +103,7 @@ impl Canon for State {
             next,
             units,
             pending,
+            is_common: false,
         };
         if !is_sound(alloc, &state)? {
             return Ok(None);

@@ -1,6 +1,8 @@
 //! The canonical bytes of units: a map from names to units of which something is known.
 ghost use Rattle.std.specs.Prelude.{◌≡◌, ◌++◌, true, IfOk, OnOk};
-ghost use Rattle.std.specs.Prelude.{nat_le};
+ghost use Rattle.std.specs.Prelude.{flat_map, nat_le};
+ghost use Rattle.std.specs.List.{list_all};
+ghost use Rattle.um_model.specs.Transitions.{live_numbers};
 ghost use Rattle.std.specs.Option.{option_map_or, option_to_list};
 ghost use Rattle.std.specs.FinMap as maps;
 ghost use Rattle.um_model.specs.Service.{ByUnit};
@@ -8,8 +10,6 @@ ghost use Rattle.um_model.specs.StateSpellings.{FitUnits, are_distinct, are_know
 ghost use Rattle.um_model.proofs.StateSpellingsLaws.{canonical_units};
 ghost use Rattle.um_model.specs.declared.service.UnitState as unit;
 
-use crate::awaited::Awaited;
-use crate::finder::Finder;
 use crate::units::Units;
 use std::alloc::{AllocError, Global};
 use std::collections::{BTreeMap, BTreeSet};
@@ -41,7 +41,8 @@ impl Canon for Units {
     ghost reading = { units_at };
 
     fn put(&self, out: &mut Vec<u8>) -> Result<(), AllocError> {
-        self.entries.put(out)?;
+        let entries = self.to_map()?;
+        entries.put(out)?;
         Ok(())
     }
 
@@ -52,17 +53,8 @@ impl Canon for Units {
         if !are_known(&entries) {
             return Ok(None);
         }
-        let finder = Finder::of(alloc, &entries)?;
-        let awaited = Awaited::of(alloc, &entries)?;
-        Ok(Some((
-            Units {
-                alloc,
-                entries,
-                finder,
-                awaited,
-            },
-            n,
-        )))
+        let units = Units::of_map(alloc, &entries)?;
+        Ok(Some((units, n)))
     }
 
     ghost canonical = { canonical_units };
@@ -116,28 +108,50 @@ pub(crate) fn are_distinct(alloc: Global, numbers: &[u64]) -> Result<bool, Alloc
     Ok(true)
 }
 
+/// Whether no window of these rows began after the clock.
+fn have_all_begun(rows: &[UnitState], clock: Moment) -> bool
+    ensures { result ≡ list_all (λ u. option_map_or (λ c. nat_le c.began clock) u.window true) rows.now }
+{
+    rows.iter().all(|unit| has_begun(clock, unit.window))
+}
+
+/// The processes of these rows, one row after another.
+fn processes_of(alloc: Global, rows: &[UnitState]) -> Result<Vec<ProcessNumber>, AllocError>
+    ensures { IfOk result (λ numbers. numbers.items ≡ flat_map live_numbers rows.now) }
+{
+    let mut numbers = Vec::new(alloc);
+    for unit in rows {
+        push_process(&mut numbers, unit.main)?;
+        push_process(&mut numbers, unit.control)?;
+    }
+    Ok(numbers)
+}
+
+/// The numbers of the processes of these rows.
+fn numbers_of(alloc: Global, rows: &[UnitState]) -> Result<Vec<u64>, AllocError>
+    ensures { IfOk result (λ numbers. numbers.items ≡ flat_map live_numbers rows.now) }
+{
+    let mut numbers = Vec::new(alloc);
+    for unit in rows {
+        push_number(&mut numbers, unit.main)?;
+        push_number(&mut numbers, unit.control)?;
+    }
+    Ok(numbers)
+}
+
 impl Units {
     /// Whether no window began after the clock. It takes no memory.
     pub(crate) fn have_begun(&self, clock: Moment) -> bool
         ensures { result ≡ have_begun clock self.now.held }
     {
-        for (_, unit) in self.entries.iter() {
-            if !has_begun(clock, unit.window) {
-                return false;
-            }
-        }
-        true
+        have_all_begun(self.rows(), clock)
     }
 
     /// The numbers of the live processes, unit by unit.
     pub fn processes(&self) -> Result<Vec<ProcessNumber>, AllocError>
         ensures { IfOk result (λ numbers. numbers.items ≡ numbers_in self.now.held) }
     {
-        let mut numbers = Vec::new(self.alloc);
-        for (_, unit) in self.entries.iter() {
-            push_process(&mut numbers, unit.main)?;
-            push_process(&mut numbers, unit.control)?;
-        }
+        let numbers = processes_of(self.alloc, self.rows())?;
         Ok(numbers)
     }
 
@@ -145,11 +159,7 @@ impl Units {
     pub(crate) fn live_numbers(&self) -> Result<Vec<u64>, AllocError>
         ensures { IfOk result (λ numbers. numbers.items ≡ numbers_in self.now.held) }
     {
-        let mut numbers = Vec::new(self.alloc);
-        for (_, unit) in self.entries.iter() {
-            push_number(&mut numbers, unit.main)?;
-            push_number(&mut numbers, unit.control)?;
-        }
+        let numbers = numbers_of(self.alloc, self.rows())?;
         Ok(numbers)
     }
 }

@@ -1,93 +1,71 @@
-ghost use Rattle.std.specs.Prelude.{◌≡◌, ◌↔◌, ◌++◌, false, map, is_some, IsTrue, MatchOption, IfOk, OnOk, OnErr};
+ghost use Rattle.std.specs.Prelude.{◌≡◌, ◌↔◌, ◌++◌, ◌<◌, false, ℕ, List, length, map, vec_len, is_some, IsTrue, MatchOption, IfOk, OnOk, OnErr, set as with_item};
 ghost use Rattle.std.specs.Coded.{codes};
 ghost use Rattle.std.specs.Cmp.Lexicographic.{slice_cmp};
 ghost use Rattle.std.specs.FinMap as maps;
 ghost use Rattle.std.specs.Ordering.{nat_cmp};
-ghost use Rattle.um_model.specs.Jobs.{AreTidyJobs, job_shown, jobs_shown_of, jobs_shown, jobs_of_unit, with_jobs};
+ghost use Rattle.um_model.specs.Jobs.{AreTidyJobs, jobs_shown, jobs_of_unit, no_jobs, with_jobs};
 ghost use Rattle.um_model.specs.Machine.{IsOver, IsProcessOf, AreDeadlines};
-ghost use Rattle.um_model.specs.Service.{AreTidyUnits, state_of_unit, with_unit};
+ghost use Rattle.um_model.specs.Service.{AreTidyUnits, dead_unit, state_of_unit, with_unit};
 ghost use Rattle.um_model.specs.Standing.{Table};
-ghost use Rattle.um_model.specs.declared.jobs.UnitJobs as jobs;
+ghost use Rattle.um_model.specs.declared.jobs.UnitJobs as unit_jobs;
 ghost use Rattle.um_model.specs.declared.service.UnitState as unit;
+ghost use Rattle.um_name.specs.Names.{AreAscending, IsApart, name_at};
 ghost use Rattle.um_state.specs.Awaiting.{HasAll, IsUnawaited};
 ghost use Rattle.um_state.specs.Finding.{Finds};
-ghost use Rattle.um_state.specs.Held.{table_of};
 ghost use Rattle.um_state.specs.Shown.{job_of};
+ghost use Rattle.um_state.specs.Tables.{jobs_by, jobs_put, unit_put, units_by};
 
 use crate::awaited::Awaited;
-use crate::finder::{Finder, state_in};
+use crate::finder::{Finder, row_in};
+use crate::maps::{hold, hold_jobs, push_keys};
+use crate::named::names_with;
 use crate::reply::JobShown;
+use crate::rows::{
+    deadlines_of, job_map_of, job_rows_in, jobs_told_by, push_held_jobs, push_held_units, shown_of,
+    unit_map_of, unit_rows_in, units_told_by,
+};
 use std::alloc::{AllocError, Global};
 use std::collections::BTreeMap;
 use std::marker::Model;
-use um_model::{JobKind, JobState, UnitJobs, UnitState};
-use um_name::UnitName;
+use std::mem;
+use um_model::{UnitJobs, UnitState};
+use um_name::{Names, UnitName};
 use um_timer::Timers;
 
-/// Adds the names behind the others, ascending.
-fn push_keys<V>(
-    names: &mut Vec<UnitName>,
-    entries: &BTreeMap<UnitName, V>,
-) -> Result<(), AllocError>
-    ensures { OnOk result (names.new.items ≡ names.old.items ++ maps.keys (maps.from_entries {R = slice_cmp nat_cmp} entries.now.entries)) }
-{
-    for (name, _) in entries.iter() {
-        names.push(name.copy()?)?;
-    }
-    Ok(())
-}
-
-/// Puts in how the unit stands; a dead one of which nothing is known isn't held. Where memory is refused, all is as before.
-fn hold(
-    entries: &mut BTreeMap<UnitName, UnitState>,
-    unit: &UnitName,
-    state: &UnitState,
-) -> Result<(), AllocError>
-    ensures ok { OnOk result (maps.from_entries {R = slice_cmp nat_cmp} entries.new.entries ≡ with_unit (maps.from_entries entries.old.entries) unit.now state.now) }
-    ensures err { OnErr result (maps.from_entries {R = slice_cmp nat_cmp} entries.new.entries ≡ maps.from_entries entries.old.entries) }
-{
-    if state.holds_nothing() {
-        entries.remove(unit);
-    } else {
-        entries.insert(unit.copy()?, *state)?;
-    }
-    Ok(())
-}
-
-/// Puts in how the unit stands, so that it is found by the numbers of its processes, and known by the report that it waits for. Where memory is
-/// refused, all is as before.
+/// Puts a row in the place of another, so that it is found by the numbers of its processes, and known by the report that it waits for. It needs no
+/// memory: where it is refused, all rows are looked through from then on.
 fn put(
-    entries: &mut BTreeMap<UnitName, UnitState>,
+    states: &mut Vec<UnitState>,
     finder: &mut Finder,
     awaited: &mut Awaited,
-    unit: &UnitName,
+    i: usize,
     state: UnitState,
-) -> Result<(), AllocError>
-    requires found { Finds (maps.from_entries entries.old.entries) finder.old }
-    requires had { HasAll (maps.from_entries entries.old.entries) awaited.old }
-    ensures ok { OnOk result (maps.from_entries {R = slice_cmp nat_cmp} entries.new.entries ≡ with_unit (maps.from_entries entries.old.entries) unit.now state) }
-    ensures err { OnErr result (maps.from_entries {R = slice_cmp nat_cmp} entries.new.entries ≡ maps.from_entries entries.old.entries) }
-    ensures finds { Finds (maps.from_entries entries.new.entries) finder.new }
-    ensures has { HasAll (maps.from_entries entries.new.entries) awaited.new }
+)
+    requires within { i < vec_len states.old }
+    requires found { Finds states.old.items finder.old }
+    requires had { HasAll states.old.items awaited.old }
+    ensures states { states.new.items ≡ with_item states.old.items i state }
+    ensures finds { Finds states.new.items finder.new }
+    ensures has { HasAll states.new.items awaited.new }
 {
-    let before = state_in(entries, unit);
-    finder.note(entries, unit, &state)?;
-    awaited.note(&state)?;
-    hold(entries, unit, &state)?;
-    finder.leave(entries, &before);
-    awaited.leave(finder, entries, &before);
-    Ok(())
+    let before = states[i];
+    finder.note(states.as_slice(), i, &state);
+    awaited.note(&state);
+    states[i] = state;
+    finder.leave(states.as_slice(), &before);
+    awaited.leave(finder, states.as_slice(), &before);
 }
 
-/// What the state holds of units, by name: those that differ from a dead unit of which nothing is known.
+/// What the state holds of units, by the numbers of their names: also those of which it holds nothing may have one.
 #[derive(Drop)]
 pub struct Units {
     pub(crate) alloc: Global,
-    pub(crate) entries: BTreeMap<UnitName, UnitState>,
-    pub(crate) finder: Finder,
-    pub(crate) awaited: Awaited,
-    ghost finds: { Finds (maps.from_entries entries.entries) finder },
-    ghost has: { HasAll (maps.from_entries entries.entries) awaited },
+    names: Names,
+    states: Vec<UnitState>,
+    finder: Finder,
+    awaited: Awaited,
+    ghost finds: { Finds states.items finder },
+    ghost has: { HasAll states.items awaited },
 }
 
 impl Model for Units {
@@ -95,9 +73,9 @@ impl Model for Units {
 
     ghost coded = { Prim.hlevel (codes, maps.code) };
 
-    ghost view = { λ u. table_of (maps.from_entries u.entries.entries) };
+    ghost view = { λ u. record { names = u.names; held = units_by u.names u.states.items } };
 
-    ghost invariant = { λ u. AreTidyUnits (maps.from_entries u.entries.entries) };
+    ghost invariant = { λ u. (vec_len u.states ≡ length u.names) × AreAscending u.names };
 }
 
 impl Units {
@@ -107,9 +85,119 @@ impl Units {
     {
         Units {
             alloc,
-            entries: BTreeMap::new(alloc),
+            names: Names::new(),
+            states: Vec::new(alloc),
             finder: Finder::new(alloc),
             awaited: Awaited::new(alloc),
+        }
+    }
+
+    /// These rows.
+    fn made(alloc: Global, names: Names, states: Vec<UnitState>) -> Units
+        requires len { vec_len states ≡ length names }
+        requires ascending { AreAscending names }
+        ensures names { result.names ≡ names }
+        ensures held { result.held ≡ units_by names states.items }
+    {
+        Units {
+            alloc,
+            names,
+            finder: Finder::of(alloc, &states),
+            awaited: Awaited::of(alloc, &states),
+            states,
+        }
+    }
+
+    /// What the map holds of units, by these names.
+    fn over(
+        alloc: Global,
+        names: Names,
+        entries: &BTreeMap<UnitName, UnitState>,
+    ) -> Result<Units, AllocError>
+        ensures names { IfOk result (λ u. u.names ≡ names) }
+        ensures held { IfOk result (λ u. AreTidyUnits (maps.from_entries {R = slice_cmp nat_cmp} entries.now.entries)
+            → ((x : List ℕ) → IsApart names x → state_of_unit (maps.from_entries {R = slice_cmp nat_cmp} entries.now.entries) x ≡ dead_unit)
+            → u.held ≡ maps.from_entries {R = slice_cmp nat_cmp} entries.now.entries) }
+    {
+        let states = unit_rows_in(alloc, &names, entries)?;
+        Ok(Units::made(alloc, names, states))
+    }
+
+    /// What the map holds of units, by the names that it has.
+    pub(crate) fn of_map(
+        alloc: Global,
+        entries: &BTreeMap<UnitName, UnitState>,
+    ) -> Result<Units, AllocError>
+        ensures { IfOk result (λ u. AreTidyUnits (maps.from_entries {R = slice_cmp nat_cmp} entries.now.entries)
+            → u.held ≡ maps.from_entries {R = slice_cmp nat_cmp} entries.now.entries) }
+    {
+        let mut keys = Vec::new(alloc);
+        push_keys(&mut keys, entries)?;
+        let names = Names::of(alloc, &keys)?;
+        let units = Units::over(alloc, names, entries)?;
+        Ok(units)
+    }
+
+    /// The units by name, of which it holds anything.
+    pub(crate) fn to_map(&self) -> Result<BTreeMap<UnitName, UnitState>, AllocError>
+        ensures map { IfOk result (λ m. maps.from_entries {R = slice_cmp nat_cmp} m.entries ≡ self.now.held) }
+        ensures tidy { AreTidyUnits self.now.held }
+    {
+        let entries = unit_map_of(self.alloc, &self.names, &self.states)?;
+        Ok(entries)
+    }
+
+    /// The same by other names, where each unit has one of which it holds anything.
+    pub fn renumbered(&self, names: &Names) -> Result<Units, AllocError>
+        ensures names { IfOk result (λ u. u.names ≡ names.now) }
+        ensures held { IfOk result (λ u. ((x : List ℕ) → IsApart names.now x → state_of_unit self.now.held x ≡ dead_unit) → u.held ≡ self.now.held) }
+    {
+        let entries = self.to_map()?;
+        let names = names.copy()?;
+        let units = Units::over(self.alloc, names, &entries)?;
+        Ok(units)
+    }
+
+    /// The names with their numbers.
+    pub fn numbers(&self) -> &Names
+        ensures names { result.now ≡ self.now.names }
+        ensures ascending { AreAscending self.now.names }
+    {
+        &self.names
+    }
+
+    /// How each unit stands, by number.
+    pub fn rows(&self) -> &[UnitState]
+        ensures held { units_by self.now.names result.now ≡ self.now.held }
+        ensures len { length result.now ≡ length self.now.names }
+        ensures ascending { AreAscending self.now.names }
+    {
+        self.states.as_slice()
+    }
+
+    /// How the unit with this number stands; past the last one a dead unit. It takes no memory.
+    pub fn at(&self, i: usize) -> UnitState
+        ensures { i < length self.now.names → result ≡ state_of_unit self.now.held (name_at self.now.names i) }
+    {
+        row_in(&self.states, i)
+    }
+
+    /// Exchanges how the unit with this number stands with what is given; past the last one nothing changes. It needs no memory.
+    pub fn swap(&mut self, i: usize, state: &mut UnitState)
+        ensures names { self.new.names ≡ self.old.names }
+        ensures held { self.new.held ≡ unit_put self.old.names self.old.held i state.old }
+        ensures back { unit_put self.new.names self.new.held i state.new ≡ self.old.held }
+    {
+        if i < self.states.len() {
+            let before = self.states[i];
+            put(
+                &mut self.states,
+                &mut self.finder,
+                &mut self.awaited,
+                i,
+                *state,
+            );
+            *state = before;
         }
     }
 
@@ -118,8 +206,8 @@ impl Units {
         ensures state { result ≡ state_of_unit self.now.held unit.now }
         ensures tidy { AreTidyUnits self.now.held }
     {
-        match self.entries.get(unit) {
-            Some(state) => *state,
+        match self.names.number(unit) {
+            Some(i) => self.states[i],
             None => UnitState::DEAD,
         }
     }
@@ -128,14 +216,15 @@ impl Units {
     pub fn holds(&self, unit: &UnitName) -> bool
         ensures { result ≡ is_some (maps.get self.now.held unit.now) }
     {
-        self.entries.contains_key(unit)
+        !self.get(unit).holds_nothing()
     }
 
     /// Adds the names of the units of which it holds anything behind the others.
     pub(crate) fn push_names(&self, names: &mut Vec<UnitName>) -> Result<(), AllocError>
         ensures { OnOk result (names.new.items ≡ names.old.items ++ maps.keys self.now.held) }
     {
-        push_keys(names, &self.entries)
+        push_held_units(names, &self.names, &self.states)?;
+        Ok(())
     }
 
     /// The units of which it holds anything, by name.
@@ -147,43 +236,47 @@ impl Units {
         Ok(names)
     }
 
+    /// The same with how a unit stands that has no number, with all numbers anew.
+    fn with(&self, unit: &UnitName, state: &UnitState) -> Result<Units, AllocError>
+        ensures { IfOk result (λ u. u.held ≡ with_unit self.now.held unit.now state.now) }
+    {
+        let mut entries = self.to_map()?;
+        hold(&mut entries, unit, state)?;
+        let names = names_with(self.alloc, &self.names, unit)?;
+        let units = Units::over(self.alloc, names, &entries)?;
+        Ok(units)
+    }
+
     /// Sets how the unit stands; a dead one of which nothing is known isn't held. Where memory is refused, all is as before.
     pub fn set(&mut self, unit: &UnitName, state: UnitState) -> Result<(), AllocError>
         ensures ok { OnOk result (self.new.held ≡ with_unit self.old.held unit.now state) }
         ensures err { OnErr result (self.new ≡ self.old) }
     {
-        put(
-            &mut self.entries,
-            &mut self.finder,
-            &mut self.awaited,
-            unit,
-            state,
-        )?;
+        let mut state = state;
+        match self.names.number(unit) {
+            Some(i) => self.swap(i, &mut state),
+            None => *self = self.with(unit, &state)?,
+        }
         Ok(())
     }
 
-    /// The first unit by name that has the number.
-    fn first_with(&self, number: u64) -> Option<&UnitName>
-        ensures { MatchOption result (IsOver self.now.held number) (λ unit. IsProcessOf self.now.held number unit.now) }
+    /// The first row that has the number.
+    fn place(&self, number: u64) -> Option<usize>
+        ensures { MatchOption result (IsOver self.now.held number) (λ i. (i < length self.now.names) × IsProcessOf self.now.held number (name_at self.now.names i)) }
     {
-        for (unit, state) in self.entries.iter() {
-            if state.has_number(number) {
-                return Some(unit);
-            }
-        }
-        None
+        self.finder.row(&self.states, number)
     }
 
     /// The unit of the live process with this number; of several the one with the least name. It takes no memory.
     pub fn process(&self, number: u64) -> Option<&UnitName>
         ensures { MatchOption result (IsOver self.now.held number) (λ unit. IsProcessOf self.now.held number unit.now) }
     {
-        if self.finder.is_shared {
-            return self.first_with(number);
-        }
-        match self.finder.names.get(&number) {
-            Some(unit) if state_in(&self.entries, unit).has_number(number) => Some(unit),
-            Some(_) | None => None,
+        match self.place(number) {
+            Some(i) => match self.names.name(i) {
+                Some(unit) => Some(unit),
+                None => unreachable!(),
+            },
+            None => None,
         }
     }
 
@@ -198,12 +291,7 @@ impl Units {
     pub fn deadlines(&self) -> Result<Timers, AllocError>
         ensures { IfOk result (λ timers. AreDeadlines self.now.held timers) }
     {
-        let mut timers = Timers::new(self.alloc);
-        for (unit, state) in self.entries.iter() {
-            if let Some(deadline) = state.deadline {
-                timers.set(unit.copy()?, deadline)?;
-            }
-        }
+        let timers = deadlines_of(self.alloc, &self.names, &self.states)?;
         Ok(timers)
     }
 
@@ -211,63 +299,35 @@ impl Units {
     pub fn is_same(&self, other: &Units) -> bool
         ensures { IsTrue result ↔ (self.now.held ≡ other.now.held) }
     {
-        self.entries.len() == other.entries.len() && self.entries == other.entries
+        units_told_by(&self.names, &self.states, other)
+            && units_told_by(&other.names, &other.states, self)
     }
 
     /// The same again.
     pub fn copy(&self) -> Result<Units, AllocError>
         ensures { IfOk result (λ u. u ≡ self.now) }
     {
-        let entries = self.entries.clone()?;
-        Ok(Units {
-            alloc: self.alloc,
-            finder: Finder::of(self.alloc, &entries)?,
-            awaited: Awaited::of(self.alloc, &entries)?,
-            entries,
-        })
+        let names = self.names.copy()?;
+        Ok(Units::made(self.alloc, names, self.states.clone()?))
     }
 }
 
-/// Tells a job of this kind, if it is pending, behind the others.
-fn push_job(
-    shown: &mut Vec<JobShown>,
-    unit: &UnitName,
-    kind: JobKind,
-    job: Option<JobState>,
-) -> Result<(), AllocError>
-    ensures { OnOk result (map job_of shown.new.items ≡ map job_of shown.old.items ++ job_shown unit.now kind job) }
-{
-    let Some(state) = job else {
-        return Ok(());
-    };
-    let unit = unit.copy()?;
-    shown.push(JobShown { unit, kind, state })?;
-    Ok(())
-}
-
-/// Tells the pending jobs of a unit behind the others, its stop job first.
-fn push_jobs(shown: &mut Vec<JobShown>, unit: &UnitName, jobs: UnitJobs) -> Result<(), AllocError>
-    ensures { OnOk result (map job_of shown.new.items ≡ map job_of shown.old.items ++ jobs_shown_of unit.now jobs) }
-{
-    push_job(shown, unit, JobKind::Stop, jobs.stop)?;
-    push_job(shown, unit, JobKind::Start, jobs.start)
-}
-
-/// The pending jobs of units, by name: those of which a job is pending.
+/// The pending jobs of units, by the numbers of their names: also those of which no job is pending may have one.
 #[derive(Drop)]
 pub struct Pending {
     alloc: Global,
-    pub(crate) entries: BTreeMap<UnitName, UnitJobs>,
+    names: Names,
+    jobs: Vec<UnitJobs>,
 }
 
 impl Model for Pending {
-    ghost Value = { Table jobs.UnitJobs };
+    ghost Value = { Table unit_jobs.UnitJobs };
 
     ghost coded = { Prim.hlevel (codes, maps.code) };
 
-    ghost view = { λ p. table_of (maps.from_entries p.entries.entries) };
+    ghost view = { λ p. record { names = p.names; held = jobs_by p.names p.jobs.items } };
 
-    ghost invariant = { λ p. AreTidyJobs (maps.from_entries p.entries.entries) };
+    ghost invariant = { λ p. (vec_len p.jobs ≡ length p.names) × AreAscending p.names };
 }
 
 impl Pending {
@@ -277,7 +337,99 @@ impl Pending {
     {
         Pending {
             alloc,
-            entries: BTreeMap::new(alloc),
+            names: Names::new(),
+            jobs: Vec::new(alloc),
+        }
+    }
+
+    /// The jobs of these rows, each of the unit with its number; none where there are more or fewer than names.
+    pub fn of(alloc: Global, names: &Names, jobs: Vec<UnitJobs>) -> Result<Pending, AllocError>
+        ensures names { vec_len jobs ≡ length names.now → IfOk result (λ p. p.names ≡ names.now) }
+        ensures held { vec_len jobs ≡ length names.now → IfOk result (λ p. p.held ≡ jobs_by names.now jobs.items) }
+    {
+        if jobs.len() != names.len() {
+            return Ok(Pending::new(alloc));
+        }
+        let names = names.copy()?;
+        Ok(Pending { alloc, names, jobs })
+    }
+
+    /// The jobs of the map, by these names.
+    fn over(
+        alloc: Global,
+        names: Names,
+        entries: &BTreeMap<UnitName, UnitJobs>,
+    ) -> Result<Pending, AllocError>
+        ensures names { IfOk result (λ p. p.names ≡ names) }
+        ensures held { IfOk result (λ p. AreTidyJobs (maps.from_entries {R = slice_cmp nat_cmp} entries.now.entries)
+            → ((x : List ℕ) → IsApart names x → jobs_of_unit (maps.from_entries {R = slice_cmp nat_cmp} entries.now.entries) x ≡ no_jobs)
+            → p.held ≡ maps.from_entries {R = slice_cmp nat_cmp} entries.now.entries) }
+    {
+        let jobs = job_rows_in(alloc, &names, entries)?;
+        Ok(Pending { alloc, names, jobs })
+    }
+
+    /// The jobs of the map, by the names that it has.
+    pub(crate) fn of_map(
+        alloc: Global,
+        entries: &BTreeMap<UnitName, UnitJobs>,
+    ) -> Result<Pending, AllocError>
+        ensures { IfOk result (λ p. AreTidyJobs (maps.from_entries {R = slice_cmp nat_cmp} entries.now.entries)
+            → p.held ≡ maps.from_entries {R = slice_cmp nat_cmp} entries.now.entries) }
+    {
+        let mut keys = Vec::new(alloc);
+        push_keys(&mut keys, entries)?;
+        let names = Names::of(alloc, &keys)?;
+        let pending = Pending::over(alloc, names, entries)?;
+        Ok(pending)
+    }
+
+    /// The jobs by name, of the units of which one is pending.
+    fn to_map(&self) -> Result<BTreeMap<UnitName, UnitJobs>, AllocError>
+        ensures map { IfOk result (λ m. maps.from_entries {R = slice_cmp nat_cmp} m.entries ≡ self.now.held) }
+        ensures tidy { AreTidyJobs self.now.held }
+    {
+        let entries = job_map_of(self.alloc, &self.names, &self.jobs)?;
+        Ok(entries)
+    }
+
+    /// The same by other names, where each unit has one of which a job is pending.
+    pub fn renumbered(&self, names: &Names) -> Result<Pending, AllocError>
+        ensures names { IfOk result (λ p. p.names ≡ names.now) }
+        ensures held { IfOk result (λ p. ((x : List ℕ) → IsApart names.now x → jobs_of_unit self.now.held x ≡ no_jobs) → p.held ≡ self.now.held) }
+    {
+        let entries = self.to_map()?;
+        let names = names.copy()?;
+        let pending = Pending::over(self.alloc, names, &entries)?;
+        Ok(pending)
+    }
+
+    /// The names with their numbers.
+    pub fn numbers(&self) -> &Names
+        ensures names { result.now ≡ self.now.names }
+        ensures ascending { AreAscending self.now.names }
+        ensures tidy { AreTidyJobs self.now.held }
+    {
+        &self.names
+    }
+
+    /// The pending jobs of each unit, by number.
+    pub fn rows(&self) -> &[UnitJobs]
+        ensures held { jobs_by self.now.names result.now ≡ self.now.held }
+        ensures len { length result.now ≡ length self.now.names }
+        ensures ascending { AreAscending self.now.names }
+    {
+        self.jobs.as_slice()
+    }
+
+    /// Exchanges the pending jobs of the unit with this number with those that are given; past the last one nothing changes. It takes no memory.
+    pub fn swap(&mut self, i: usize, jobs: &mut UnitJobs)
+        ensures names { self.new.names ≡ self.old.names }
+        ensures held { self.new.held ≡ jobs_put self.old.names self.old.held i jobs.old }
+        ensures back { jobs_put self.new.names self.new.held i jobs.new ≡ self.old.held }
+    {
+        if i < self.jobs.len() {
+            mem::swap(&mut self.jobs[i], jobs);
         }
     }
 
@@ -286,8 +438,8 @@ impl Pending {
         ensures jobs { result ≡ jobs_of_unit self.now.held unit.now }
         ensures tidy { AreTidyJobs self.now.held }
     {
-        match self.entries.get(unit) {
-            Some(jobs) => *jobs,
+        match self.names.number(unit) {
+            Some(i) => self.jobs[i],
             None => UnitJobs::NONE,
         }
     }
@@ -296,14 +448,26 @@ impl Pending {
     pub fn holds(&self, unit: &UnitName) -> bool
         ensures { result ≡ is_some (maps.get self.now.held unit.now) }
     {
-        self.entries.contains_key(unit)
+        self.get(unit).has_job()
     }
 
     /// Adds the names of the units of which a job is pending behind the others.
     pub(crate) fn push_names(&self, names: &mut Vec<UnitName>) -> Result<(), AllocError>
         ensures { OnOk result (names.new.items ≡ names.old.items ++ maps.keys self.now.held) }
     {
-        push_keys(names, &self.entries)
+        push_held_jobs(names, &self.names, &self.jobs)?;
+        Ok(())
+    }
+
+    /// The same with the jobs of a unit that has no number, with all numbers anew.
+    fn with(&self, unit: &UnitName, jobs: UnitJobs) -> Result<Pending, AllocError>
+        ensures { IfOk result (λ p. p.held ≡ with_jobs self.now.held unit.now jobs) }
+    {
+        let mut entries = self.to_map()?;
+        hold_jobs(&mut entries, unit, jobs)?;
+        let names = names_with(self.alloc, &self.names, unit)?;
+        let pending = Pending::over(self.alloc, names, &entries)?;
+        Ok(pending)
     }
 
     /// Sets the pending jobs of the unit. Where memory is refused, all is as before.
@@ -311,10 +475,10 @@ impl Pending {
         ensures ok { OnOk result (self.new.held ≡ with_jobs self.old.held unit.now jobs) }
         ensures err { OnErr result (self.new ≡ self.old) }
     {
-        if jobs.has_job() {
-            self.entries.insert(unit.copy()?, jobs)?;
-        } else {
-            self.entries.remove(unit);
+        let mut jobs = jobs;
+        match self.names.number(unit) {
+            Some(i) => self.swap(i, &mut jobs),
+            None => *self = self.with(unit, jobs)?,
         }
         Ok(())
     }
@@ -323,10 +487,7 @@ impl Pending {
     pub fn shown(&self) -> Result<Vec<JobShown>, AllocError>
         ensures { IfOk result (λ shown. map job_of shown.items ≡ jobs_shown self.now.held) }
     {
-        let mut shown = Vec::new(self.alloc);
-        for (unit, jobs) in self.entries.iter() {
-            push_jobs(&mut shown, unit, *jobs)?;
-        }
+        let shown = shown_of(self.alloc, &self.names, &self.jobs)?;
         Ok(shown)
     }
 
@@ -334,7 +495,8 @@ impl Pending {
     pub fn is_same(&self, other: &Pending) -> bool
         ensures { IsTrue result ↔ (self.now.held ≡ other.now.held) }
     {
-        self.entries.len() == other.entries.len() && self.entries == other.entries
+        jobs_told_by(&self.names, &self.jobs, other)
+            && jobs_told_by(&other.names, &other.jobs, self)
     }
 
     /// The same again.
@@ -343,7 +505,8 @@ impl Pending {
     {
         Ok(Pending {
             alloc: self.alloc,
-            entries: self.entries.clone()?,
+            names: self.names.copy()?,
+            jobs: self.jobs.clone()?,
         })
     }
 }

@@ -8,6 +8,7 @@ mod messages;
 mod places;
 mod serving;
 mod telling;
+mod um_bin;
 
 use checking::check;
 use messages::{DEVICE, REFUSED, USAGE, ctl_fault, report, status_of, tell_create};
@@ -20,10 +21,11 @@ use std::net::Net;
 use std::process::{ExitCode, Processes};
 use std::time::Clock;
 use std::{env, io};
+use um_bin::{memory, read_line};
 use um_create::{Layout, create_store};
 use um_ctl::{Told, Words, ask, meaning_line, shown};
-use um_line::{CreateLine, CtlLine, Line, read_line};
-use um_memory::{Ending, Fault, memory};
+use um_line::{CreateLine, CtlLine, Line};
+use um_memory::{Ending, Fault};
 use um_runner::{Folder, FolderFault, RunnerLine};
 
 fn serve_memory<R: Input + Print>(rt: &R, alloc: Global) -> Result<u8, Fault> {

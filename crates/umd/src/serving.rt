@@ -4,6 +4,7 @@ use crate::lines::Lines;
 use crate::messages::{DEVICE, REFUSED, tell_ending};
 use crate::places::{Taken, lacks, take_places};
 use crate::telling::{News, Tally, Telling};
+use crate::um_bin::serve;
 use std::alloc::{AllocError, Global};
 use std::fs::{File, Files};
 use std::net::Net;
@@ -16,7 +17,7 @@ use um_line::ServeLine;
 use um_manager::Manager;
 use um_model::{Deadline, Moment};
 use um_sector::Disk;
-use um_serve::{Buffered, Pace, serve};
+use um_serve::{Buffered, Pace};
 use um_state::BootId;
 use um_wire::Refusal;
 

@@ -68,8 +68,8 @@ pub returns-clause-changed : goal.returns-clause-changed
 returns-clause-changed c =
     let s = state_of c.args.state.now in
     let tree = c.in_ok-tree.field-0.tree in
-    installs_to s s c.in_ok-with_tree.field-0.state c.args.verb c.args.unit.now tree refl
-    (subst (λ t. Installs t c.args.verb c.args.unit.now tree) c.tree.ensures c.in_ok-tree.ensures.installed) c.in_ok-with_tree.ensures
+    installs_to s s c.in_ok-served.served.state c.args.verb c.args.unit.now tree refl
+    (subst (λ t. Installs t c.args.verb c.args.unit.now tree) c.tree.ensures c.in_ok-tree.ensures.installed) c.in_ok-served.ensures
 
 pub returns-clause-refused : goal.returns-clause-refused
 returns-clause-refused c =

@@ -1,4 +1,4 @@
-use Rattle.std.proofs.Common.{◌≢◌, ◌∙◌, rules, sym, ap, subst}
+use Rattle.std.proofs.Common.{◌≢◌, ◌∙◌, refl, rules, sym, ap, subst}
 use Rattle.um_model.specs.Machine as model
 use Rattle.um_model.specs.Refusals.{Refused}
 use Rattle.um_state.specs.View.{state_of}
@@ -7,6 +7,7 @@ use Rattle.um_wire.specs.declared.refusal.Refusal.TheVariants.{NoMemory}
 use Rattle.um_engine.proofs.Causes.{free_to_reload, reloads_to}
 use Rattle.um_engine.specs.Known.{KnownView, KnowsFor}
 use Rattle.um_engine.proofs.KnownLaws.{knows_loaded}
+use Rattle.um_engine.proofs.PlannedLaws.{refuses_on}
 use Rattle.um_engine.proofs.commands.reloaded.Goals as goal
 
 pub returns-in_err-known-clause-refused : goal.returns-in_err-known-clause-refused
@@ -16,8 +17,8 @@ returns-in_err-known-clause-refused c =
     λ differs. (subst (λ t. model.CausesOfLoad s t (refused_of c.in_err-known.field-0.0)) c.tree.ensures (c.in_err-known.ensures.refused differs)) in
     search (rules, step)
 
-pub with-requires : goal.with-requires
-with-requires c =
+pub numbered-requires : goal.numbered-requires
+numbered-requires c =
     let s = state_of c.args.state.now in
     let k : KnownView = c.in_ok-known.known in
     subst (λ (x : KnownView). KnowsFor x (state_of c.reload.new.self)) (sym c.in_ok-known-2.ensures.ok)
@@ -27,10 +28,15 @@ with-requires c =
 pub returns-clause-changed : goal.returns-clause-changed
 returns-clause-changed c =
     let s = state_of c.args.state.now in
-    subst (model.Changes s model.DaemonReload) (sym c.with.ensures.state)
+    subst (model.Changes s model.DaemonReload) (sym c.in_ok-numbered.ensures.state)
     (reloads_to s (state_of c.in_ok-changed.changed) (state_of c.reload.new.self) c.in_ok-changed.ensures c.in_ok-reload.ensures.ok)
 
 pub returns-clause-refused : goal.returns-clause-refused
 returns-clause-refused c =
     let s = state_of c.args.state.now in
     free_to_reload s (subst (λ t. (r : Refused) → ¬ model.CausesOfLoad s t r) c.tree.ensures c.in_ok-known.ensures.refused)
+
+pub returns-in_err-reload-clause-refused : goal.returns-in_err-reload-clause-refused
+returns-in_err-reload-clause-refused c =
+    refuses_on (model.Refuses (state_of c.args.state.now) model.DaemonReload) c.from_residual-in_err-reload.result NoMemory c.from_residual-in_err-reload.ensures.1
+    (λ differs. absurd (differs refl))

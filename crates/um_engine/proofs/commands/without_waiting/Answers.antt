@@ -1,32 +1,48 @@
-use Rattle.std.proofs.Common.{◌≡◌, ◌∙◌, sym, ap, subst}
-use Rattle.um_model.specs.Jobs.{cancelled, jobs_of_unit}
+use Rattle.std.proofs.Common.{◌≡◌, ◌≢◌, ◌∙◌, ap, subst}
 use Rattle.um_model.specs.Machine as model
-use Rattle.um_model.specs.Refusals.{Refused}
 use Rattle.um_model.specs.Machine.{State}
-use Rattle.um_model.specs.Units.{unit_named}
-use Rattle.um_state.specs.View.{state_of}
+use Rattle.um_model.specs.Refusals.{Refused}
+use Rattle.um_wire.specs.Refusal.{refused_of}
+use Rattle.um_wire.specs.declared.refusal.Refusal.TheVariants.{NoMemory}
 use Rattle.um_engine.specs.Known.{KnownView}
-use Rattle.um_answer.specs.Loaded.{Loads}
-use Rattle.um_engine.proofs.Causes.{cancels_to}
+use Rattle.um_engine.proofs.CancelLaws.{cancels_none, cancels_so, cancels_some}
+use Rattle.um_engine.proofs.PlannedLaws.{asked_so, refuses_on}
 use Rattle.um_engine.proofs.commands.without_waiting.Goals as goal
 
 pub returns-clause-changed : goal.returns-clause-changed
 returns-clause-changed c =
-    let s : State = c.args.served.now.state in
-    let known : KnownView = c.args.served.now.known in
+    let v = c.args.served.now in
+    let s : State = v.state in
+    let unit = c.in_ok-leads.leads.unit in
+    let graph : c.graph.result.now ≡ v.known.graph = c.graph.ensures ∙ ap (λ (k : KnownView). k.graph) c.known.ensures.known in
+    let tree : c.loaded.result.now ≡ s.loaded = c.loaded.ensures ∙ ap (λ (x : State). x.loaded) c.state-state.ensures.state in
+    let leads : unit ≡ model.unit_asked s c.args.asked.now =
+    asked_so v.known s c.graph.result.now c.loaded.result.now c.args.asked.now unit c.known.ensures.knows graph tree c.in_ok-leads.ensures.unit in
+    cancels_so v c.args.moment c.args.asked.now unit c.in_ok-work.work c.in_ok-work.ensures.begins leads c.cancel_waiting.new.work c.in_ok-cancel_waiting.ensures.state
+
+pub returns-in_err-cancel_waiting-clause-refused : goal.returns-in_err-cancel_waiting-clause-refused
+returns-in_err-cancel_waiting-clause-refused c =
+    let v = c.args.served.now in
+    let s : State = v.state in
     let asked = c.args.asked.now in
     let unit = c.in_ok-leads.leads.unit in
-    let graph : c.graph-graph.result.now ≡ known.graph = c.graph-graph.ensures ∙ ap (λ (k : KnownView). k.graph) c.known.ensures.known in
+    let graph : c.graph.result.now ≡ v.known.graph = c.graph.ensures ∙ ap (λ (k : KnownView). k.graph) c.known.ensures.known in
     let tree : c.loaded.result.now ≡ s.loaded = c.loaded.ensures ∙ ap (λ (x : State). x.loaded) c.state-state.ensures.state in
-    let loads : Loads c.graph-graph.result.now c.loaded.result.now =
-    subst (λ g. Loads g c.loaded.result.now) (sym graph) (subst (Loads known.graph) (sym tree) c.known.ensures.knows.made.of.loaded) in
-    let leads : unit ≡ model.unit_asked s asked = c.in_ok-leads.ensures.unit loads ∙ ap (λ t. unit_named t asked) tree in
-    let state : state_of c.state-state.result.now ≡ s = c.state-state.ensures.state in
-    let jobs : c.in_ok-left.left ≡ cancelled (model.jobs_asked s asked) =
-    c.in_ok-left.ensures.left ∙ ap cancelled (ap (λ (x : State). jobs_of_unit x.pending unit) state ∙ ap (jobs_of_unit s.pending) leads) in
-    cancels_to s asked (state_of c.in_ok-changed.changed) (state_of c.set_jobs.new.self) unit c.in_ok-left.left
-    (c.in_ok-changed.ensures ∙ c.state-state.ensures.state) leads jobs c.in_ok-set_jobs.ensures.ok
+    let leads : unit ≡ model.unit_asked s asked = asked_so v.known s c.graph.result.now c.loaded.result.now asked unit c.known.ensures.knows graph tree c.in_ok-leads.ensures.unit in
+    let there : (q : Refused) → ¬ model.IsMissing s asked q = subst (λ (x : State). (q : Refused) → ¬ model.IsMissing x asked q) c.state-state.ensures.state c.in_ok-check_missing.ensures in
+    let e = c.in_err-cancel_waiting.field-0.0 in
+    let step : e ≢ NoMemory → model.Refuses s (model.Cancel asked) (refused_of e) =
+    λ differs. cancels_none v c.args.moment asked unit c.in_ok-work.work c.in_ok-work.ensures.begins leads there (refused_of e) (c.in_err-cancel_waiting.ensures.refused differs) in
+    refuses_on (model.Refuses s (model.Cancel asked)) c.from_residual-in_err-cancel_waiting.result e c.from_residual-in_err-cancel_waiting.ensures.1 step
 
 pub returns-clause-refused : goal.returns-clause-refused
 returns-clause-refused c =
-    subst (λ (x : State). (r : Refused) → model.Refuses x (model.Cancel c.args.asked.now) r → ⊥) c.state-state.ensures.state c.in_ok-left.ensures.refused
+    let v = c.args.served.now in
+    let s : State = v.state in
+    let asked = c.args.asked.now in
+    let unit = c.in_ok-leads.leads.unit in
+    let graph : c.graph.result.now ≡ v.known.graph = c.graph.ensures ∙ ap (λ (k : KnownView). k.graph) c.known.ensures.known in
+    let tree : c.loaded.result.now ≡ s.loaded = c.loaded.ensures ∙ ap (λ (x : State). x.loaded) c.state-state.ensures.state in
+    let leads : unit ≡ model.unit_asked s asked = asked_so v.known s c.graph.result.now c.loaded.result.now asked unit c.known.ensures.knows graph tree c.in_ok-leads.ensures.unit in
+    let there : (q : Refused) → ¬ model.IsMissing s asked q = subst (λ (x : State). (q : Refused) → ¬ model.IsMissing x asked q) c.state-state.ensures.state c.in_ok-check_missing.ensures in
+    cancels_some v c.args.moment asked unit c.in_ok-work.work c.in_ok-work.ensures.begins leads there c.in_ok-cancel_waiting.ensures.refused

@@ -1,16 +1,17 @@
-use Rattle.std.proofs.Common.{map, ap}
-use Rattle.um_state.specs.View.{state_of, action_of}
-use Rattle.um_engine.proofs.Ticks.{follows_upon, serves_copy}
+use Rattle.std.proofs.Common.{◌∙◌, Contains, ap, map, subst, sym}
+use Rattle.um_falling.specs.Work.{WorkView}
+use Rattle.um_graph.specs.Graph.{GraphView, IsNumberOf}
+use Rattle.um_state.specs.View.{action_of}
+use Rattle.um_engine.proofs.DoneLaws.{happened_rows}
 use Rattle.um_engine.proofs.happenings.after_happening.Goals as goal
 
+pub number_of-number-requires : goal.number_of-number-requires
+number_of-number-requires c =
+    subst (λ (g : GraphView). Contains g.names c.args.unit.now) (sym (c.graph.ensures.graph ∙ ap (λ (z : WorkView). z.graph) c.in_ok-work.ensures.begins)) c.requires
+
 pub returns : goal.returns
-returns c = λ serves known.
-    let s = state_of c.args.state.now in
-    let copy = state_of c.in_ok-after.after in
-    let happened = c.in_ok-happen.ensures.happens (serves_copy c.args.graph.now s copy c.in_ok-after.ensures serves) known in
-    let settled = c.in_ok-settle.ensures happened.1 in (
-      follows_upon c.args.moment s copy (state_of c.happen.new.state) (state_of c.settle.new.state) c.args.unit.now c.args.event
-          (map action_of c.new-actions.result.items) (map action_of c.happen.new.actions.items) (map action_of c.settle.new.actions.items)
-          c.in_ok-after.ensures (ap (map action_of) c.new-actions.ensures.items) happened.0 settled.0,
-      settled.1,
-    )
+returns c =
+    let number = subst (λ g. IsNumberOf g c.number_of-number.result c.args.unit.now) c.graph.ensures.graph c.number_of-number.ensures in
+    happened_rows c.args.served.now c.args.moment c.args.unit.now c.args.event c.in_ok-work.work c.happen.new.work c.settle.new.work c.in_ok-delta.delta
+    (map action_of c.in_ok-delta.actions.items) c.in_ok-work.ensures.begins c.in_ok-happen.ensures.keeps (c.in_ok-happen.ensures.happens c.args.unit.now number)
+    c.in_ok-settle.ensures.keeps c.in_ok-settle.ensures.settles c.in_ok-delta.ensures.after c.in_ok-delta.ensures.count c.in_ok-delta.ensures.actions

@@ -1,35 +1,31 @@
 use Rattle.std.proofs.Common.{◌∙◌, map, sym, ap, subst, true≢false}
-use Rattle.um_state.specs.View.{state_of, action_of}
-use Rattle.um_engine.proofs.Ticks.{serves_copy, tick_follows, tick_idle, tick_acts, none_due_idle}
+use Rattle.um_model.specs.Machine.{State}
 use Rattle.um_state.specs.Due.{NoneDue}
+use Rattle.um_state.specs.View.{action_of}
+use Rattle.um_engine.proofs.DoneLaws.{tick_goes, tick_rests}
+use Rattle.um_engine.proofs.Ticks.{none_due_idle}
 use Rattle.um_engine.proofs.happenings.after_tick.Goals as goal
 
-pub returns-then-none_due-clause-met : goal.returns-then-none_due-clause-met
-returns-then-none_due-clause-met c = λ serves. (
-  none_due_idle c.args.moment (state_of c.args.state.now) (subst (NoneDue c.args.moment) c.units.ensures (c.none_due.ensures.0 c.if-none_due.true)),
-  ap (map action_of) c.new-actions.ensures.items,
+pub returns-then-none_due : goal.returns-then-none_due
+returns-then-none_due c = (
+  none_due_idle c.args.moment c.args.served.now.state
+      (subst (λ (s : State). NoneDue c.args.moment s.units) c.state-state.ensures.state (subst (NoneDue c.args.moment) c.units.ensures (c.none_due.ensures.0 c.if-none_due.true))),
+  ap (map action_of) c.new.ensures.items,
 )
 
-pub returns-then-is_idle-clause-met : goal.returns-then-is_idle-clause-met
-returns-then-is_idle-clause-met c = λ serves.
-    let serves_after = serves_copy c.args.graph.now (state_of c.args.state.now) (state_of c.in_ok-after.after) c.in_ok-after.ensures serves in
-    let idle = rw c.as_slice.ensures.value at (c.is_idle.ensures.0 c.if-is_idle.true) in (
-      tick_idle c.args.moment (state_of c.args.state.now) (state_of c.in_ok-after.after) (state_of c.fire.new.state) (map action_of c.new-actions.result.items)
-          (map action_of c.fire.new.actions.items) c.in_ok-after.ensures (ap (map action_of) c.new-actions.ensures.items) (c.in_ok-fire.ensures serves_after).0 idle.0 idle.1,
-      idle.0,
-    )
+pub returns-then-is_idle : goal.returns-then-is_idle
+returns-then-is_idle c =
+    let idle = rw c.as_slice.ensures.value at (c.is_idle.ensures.0 c.if-is_idle.true) in
+    tick_rests c.args.served.now c.args.moment c.in_ok-work.work c.fire.new.work c.in_ok-delta.delta (map action_of c.in_ok-delta.actions.items) c.in_ok-work.ensures.begins
+    c.in_ok-fire.ensures.keeps c.in_ok-fire.ensures.follows c.in_ok-delta.ensures.after c.in_ok-delta.ensures.count c.in_ok-delta.ensures.actions idle.1
+    (c.keeps_next-is_next.ensures.0 idle.0 ∙ ap (λ (s : State). s.next) c.state-state.ensures.state) idle.2
 
-pub returns-clause-met : goal.returns-clause-met
-returns-clause-met c = λ serves.
-    let serves_after = serves_copy c.args.graph.now (state_of c.args.state.now) (state_of c.in_ok-after.after) c.in_ok-after.ensures serves in
-    let follows =
-    tick_follows c.args.moment (state_of c.args.state.now) (state_of c.in_ok-after.after) (state_of c.fire.new.state) (map action_of c.new-actions.result.items)
-    (map action_of c.fire.new.actions.items) c.in_ok-after.ensures (ap (map action_of) c.new-actions.ensures.items) (c.in_ok-fire.ensures serves_after).0 in (
-      tick_acts c.args.moment (state_of c.args.state.now) (state_of c.fire.new.state) (map action_of c.fire.new.actions.items) follows
-          (λ none same. true≢false (sym (c.is_idle.ensures.1 (rw c.as_slice.ensures.value (none, same))) ∙ c.if-is_idle.false)),
-      follows,
-    )
-
-pub returns-clause-serves : goal.returns-clause-serves
-returns-clause-serves c = λ serves.
-    (c.in_ok-fire.ensures (serves_copy c.args.graph.now (state_of c.args.state.now) (state_of c.in_ok-after.after) c.in_ok-after.ensures serves)).1
+pub returns : goal.returns
+returns c =
+    tick_goes c.args.served.now c.args.moment c.in_ok-work.work c.fire.new.work c.in_ok-delta.delta (map action_of c.in_ok-delta.actions.items) c.in_ok-work.ensures.begins
+    c.in_ok-fire.ensures.keeps c.in_ok-fire.ensures.follows c.in_ok-delta.ensures.after c.in_ok-delta.ensures.count c.in_ok-delta.ensures.actions
+    (λ none next nothing.
+    true≢false
+    (sym (c.is_idle.ensures.1
+    (c.keeps_next-is_next.ensures.1 (next ∙ sym (ap (λ (s : State). s.next) c.state-state.ensures.state)), none, rw c.as_slice.ensures.value nothing))
+    ∙ c.if-is_idle.false))

@@ -1,17 +1,30 @@
-use Rattle.std.proofs.Common.{◌∙◌, ap, arith, length}
+use Rattle.std.proofs.Common.{◌≡◌, ◌∙◌, false, length, replicate, sym, ap, subst, arith}
+use Rattle.um_model.specs.Service.{active_state_of}
+use Rattle.um_graph.specs.Graph.{GraphView, IsGraph}
 use Rattle.um_state.specs.View.{state_of}
+use Rattle.um_engine.specs.Filled.{is_deactivating}
+use Rattle.um_engine.proofs.NumberedLaws.{pends_by}
 use Rattle.um_engine.proofs.ReadyLaws.{none_told, told_all, told_more}
 use Rattle.um_engine.proofs.numbered.jobs_in.Goals as goal
 
 pub loop-unit-init : goal.loop-unit-init
 loop-unit-init c =
-    let items = c.deref.ensures.value in
-    none_told c.args.graph.now (state_of c.args.state.now) c.in_ok-jobs.jobs c.in_ok-pending.pending.items c.pending_by_number.ensures.graph c.in_ok-jobs.ensures.graph
-    c.in_ok-pending.ensures.len c.in_ok-pending.ensures.each (c.in_ok-jobs.ensures.whole (ap length items ∙ c.in_ok-pending.ensures.len) ∙ items) c.in_ok-jobs.ensures.held
+    let w = c.args.work.now in
+    let pending = c.pending.result.now in
+    let graph : IsGraph w.graph = c.graph-graph.ensures.serves.graph in
+    none_told w.graph (state_of w.now) c.in_ok-jobs.jobs pending graph (c.in_ok-jobs.ensures.graph ∙ c.graph-graph.ensures.graph)
+    c.pending.ensures.len (pends_by w.graph (state_of w.now) pending graph c.pending.ensures.held)
+    (c.in_ok-jobs.ensures.whole (c.pending.ensures.len ∙ ap (λ (g : GraphView). length g.names) (sym c.graph-graph.ensures.graph)))
+    (subst (λ (g : GraphView). c.in_ok-jobs.jobs.held ≡ replicate (length g.names) false) c.graph-graph.ensures.graph c.in_ok-jobs.ensures.held)
 
 pub loop-unit-preserved : goal.loop-unit-preserved
 loop-unit-preserved c =
-    told_more c.args.graph.now (state_of c.args.state.now) c.loop-unit.unit c.loop-unit.jobs c.loop-unit.invariant c.deactivates.result c.hold.new.self c.deactivates.ensures c.hold.ensures
+    let w = c.args.work.now in
+    told_more w.graph (state_of w.now) c.loop-unit.unit c.loop-unit.jobs c.loop-unit.invariant c.is_deactivating.result c.hold.new.self
+    (λ name number. c.is_deactivating.ensures ∙ ap (λ u. is_deactivating (active_state_of u.sub)) (c.unit.ensures.state name number)) c.hold.ensures
 
 pub returns : goal.returns
-returns c = told_all c.args.graph.now (state_of c.args.state.now) c.loop-unit.unit c.loop-unit.jobs c.loop-unit.invariant (omega (arith, c.loop-unit-test.false))
+returns c =
+    let w = c.args.work.now in
+    told_all w.graph (state_of w.now) c.loop-unit.unit c.loop-unit.jobs c.loop-unit.invariant
+    (omega (arith, c.loop-unit-test.false, c.len-unit-end.ensures.len, ap (λ (g : GraphView). length g.names) c.graph-graph.ensures.graph))

@@ -3,4 +3,4 @@ use Rattle.um_engine.specs.Filled.{TellsBelow}
 use Rattle.um_engine.proofs.numbered.jobs_in.Given as goal
 
 abbrev pub invariant-loop-unit : goal.invariant-loop-unit
-invariant-loop-unit l = TellsBelow l.graph (state_of l.state) l.unit l.jobs
+invariant-loop-unit l = TellsBelow l.work.graph (state_of l.work.now) l.unit l.jobs

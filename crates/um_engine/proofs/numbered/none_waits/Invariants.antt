@@ -7,4 +7,4 @@ use Rattle.um_engine.proofs.numbered.none_waits.Given as goal
 
 -- of none so far one waits
 abbrev pub invariant-loop-unit : goal.invariant-loop-unit
-invariant-loop-unit l = (i : ℕ) → i < l.unit → (x : List ℕ) → IsNumberOf l.graph i x → has_waiting (jobs_of_unit (state_of l.state).pending x) ≡ false
+invariant-loop-unit l = (i : ℕ) → i < l.unit → (x : List ℕ) → IsNumberOf l.work.graph i x → has_waiting (jobs_of_unit (state_of l.work.now).pending x) ≡ false

@@ -5,4 +5,4 @@ use Rattle.um_engine.proofs.TellingLaws.{TellsFirst}
 use Rattle.um_engine.proofs.numbered.tell_all.Given as goal
 
 abbrev pub invariant-loop-unit : goal.invariant-loop-unit
-invariant-loop-unit l = (before : State) → Tells l.graph before l.initial.jobs → TellsFirst l.graph (state_of l.state) l.unit l.jobs
+invariant-loop-unit l = (before : State) → Tells l.work.graph before l.initial.jobs → TellsFirst l.work.graph (state_of l.work.now) l.unit l.jobs

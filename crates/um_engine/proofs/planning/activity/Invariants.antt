@@ -8,5 +8,5 @@ use Rattle.um_engine.proofs.planning.activity.Given as goal
 abbrev pub invariant-loop-unit : goal.invariant-loop-unit
 invariant-loop-unit l = record {
   long : vec_len l.activity ≡ l.unit;
-  each : (i : ℕ) → i < l.unit → (x : List ℕ) → IsNumberOf l.graph i x → activity_at l.activity.items i ≡ active_state_of (state_of_unit (state_of l.state).units x).sub;
+  each : (i : ℕ) → i < l.unit → (x : List ℕ) → IsNumberOf l.work.graph i x → activity_at l.activity.items i ≡ active_state_of (state_of_unit (state_of l.work.now).units x).sub;
 }

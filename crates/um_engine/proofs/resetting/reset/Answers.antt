@@ -1,17 +1,27 @@
-use Rattle.std.proofs.Common.{◌∙◌, sym, true≢false, map}
-use Rattle.um_state.specs.View.{state_of, action_of}
+use Rattle.std.proofs.Common.{◌∙◌, sym, true≢false}
+use Rattle.um_state.specs.View.{state_of}
+use Rattle.um_falling.proofs.WorkLaws.{keeps_all}
 use Rattle.um_engine.proofs.ResetLaws.{resets_none, resets_one}
 use Rattle.um_engine.proofs.resetting.reset.Goals as goal
 
-pub returns-then-not-holds : goal.returns-then-not-holds
-returns-then-not-holds c = λ serves. (
-  resets_none c.args.moment (state_of c.args.state.now) c.args.unit.now (λ held. true≢false (sym (c.holds.ensures.1 held) ∙ c.if-not-holds.true)) (map action_of c.args.actions.now.items),
-  serves,
-)
+pub returns-in_default-clause-resets : goal.returns-in_default-clause-resets
+returns-in_default-clause-resets c =
+    let w = c.args.work.now in
+    resets_none w.moment (state_of w.now) c.args.unit.now (λ held. c.in_default.ensures (c.graph.ensures.serves.held c.args.unit.now held)) w.actions
 
-pub returns : goal.returns
-returns c = λ serves.
-    let happened = c.in_ok-happen.ensures.happens serves (serves.held c.args.unit.now (c.holds.ensures.0 c.if-not-holds.false)) in (
-      resets_one c.args.moment c.args.unit.now (state_of c.args.state.now) (state_of c.happen.new.state) (map action_of c.args.actions.now.items) (map action_of c.happen.new.actions.items) happened.0,
-      happened.1,
-    )
+pub returns-in_default-clause-keeps : goal.returns-in_default-clause-keeps
+returns-in_default-clause-keeps c = keeps_all c.args.work.now
+
+pub returns-then-not-holds-clause-resets : goal.returns-then-not-holds-clause-resets
+returns-then-not-holds-clause-resets c =
+    let w = c.args.work.now in
+    resets_none w.moment (state_of w.now) c.args.unit.now (λ held. true≢false (sym ((c.holds.ensures c.args.unit.now c.in-Some.ensures).1 held) ∙ c.if-not-holds.true)) w.actions
+
+pub returns-then-not-holds-clause-keeps : goal.returns-then-not-holds-clause-keeps
+returns-then-not-holds-clause-keeps c = keeps_all c.args.work.now
+
+pub returns-clause-resets : goal.returns-clause-resets
+returns-clause-resets c =
+    let w = c.args.work.now in
+    let v = c.happen.new.work in
+    resets_one w.moment c.args.unit.now (state_of w.now) (state_of v.now) w.actions v.actions (c.in_ok-happen.ensures.happens c.args.unit.now c.in-Some.ensures)

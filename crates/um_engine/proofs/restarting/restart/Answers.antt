@@ -1,38 +1,55 @@
-use Rattle.std.proofs.Common.{◌≡◌, ◌∙◌, ap, false, sym, true≢false, rules}
+use Rattle.std.proofs.Common.{◌≡◌, ◌∙◌, ap, false, subst, sym, true≢false, rules}
 use Rattle.um_model.specs.Jobs.{has_job}
 use Rattle.um_model.specs.Machine.{with_plan, with_start_alone}
 use Rattle.um_state.specs.View.{state_of}
+use Rattle.um_falling.specs.Over.{Serves}
+use Rattle.um_falling.proofs.AlongLaws.{known_by}
+use Rattle.um_falling.proofs.WorkLaws.{keeps_all}
+use Rattle.um_engine.specs.Planned.{ArePending}
 use Rattle.um_engine.proofs.RestartLaws.{pends_alone, restarts_none, restarts_not, restarts_so, serves_alone}
 use Rattle.um_engine.proofs.restarting.restart.Goals as goal
 
-pub returns-then-has_job : goal.returns-then-has_job
-returns-then-has_job c = λ serves known.
-    (restarts_not c.args.graph.now (state_of c.args.state.now) c.args.unit.now c.get.result (sym (rw c.pending.ensures at c.get.ensures.jobs)) (search rules), serves)
+pub returns-then-has_job-clause-state : goal.returns-then-has_job-clause-state
+returns-then-has_job-clause-state c = λ name number.
+    let w = c.args.work.now in
+    restarts_not w.graph (state_of w.now) name c.jobs.result (sym (c.jobs.ensures.jobs name number)) (search rules)
 
-pub returns-then-not-branch : goal.returns-then-not-branch
-returns-then-not-branch c = λ serves known.
-    let g = c.args.graph.now in
-    let s = state_of c.args.state.now in
-    let unit = c.args.unit.now in
-    let is = sym (rw c.pending.ensures at c.get.ensures.jobs) in
-    let none : has_job c.get.result ≡ false = search rules in
-    let alone = serves_alone g s unit c.get.result is none serves known c.in_ok-jobs.jobs c.put.new.self c.in-Some.number c.in_ok-jobs.ensures c.in-Some.ensures c.put.ensures in
-    let pends = pends_alone g s unit c.get.result is none serves known c.in_ok-jobs.jobs c.put.new.self c.in-Some.number c.in_ok-jobs.ensures c.in-Some.ensures c.put.ensures in
-    let free = c.in_ok-are_free.ensures (with_start_alone s unit) alone pends in (
-      restarts_none g s unit c.get.result is none serves known c.in_ok-jobs.jobs c.put.new.self c.in-Some.number c.in_ok-jobs.ensures c.in-Some.ensures c.put.ensures
-          (λ f. true≢false (sym (free.1 f) ∙ c.if-not-branch.true)),
-      serves,
-    )
+pub returns-then-has_job-clause-keeps : goal.returns-then-has_job-clause-keeps
+returns-then-has_job-clause-keeps c = keeps_all c.args.work.now
 
-pub returns : goal.returns
-returns c = λ serves known.
-    let g = c.args.graph.now in
-    let s = state_of c.args.state.now in
-    let unit = c.args.unit.now in
-    let is = sym (rw c.pending.ensures at c.get.ensures.jobs) in
-    let none : has_job c.get.result ≡ false = search rules in
-    let alone = serves_alone g s unit c.get.result is none serves known c.in_ok-jobs.jobs c.put.new.self c.in-Some.number c.in_ok-jobs.ensures c.in-Some.ensures c.put.ensures in
-    let pends = pends_alone g s unit c.get.result is none serves known c.in_ok-jobs.jobs c.put.new.self c.in-Some.number c.in_ok-jobs.ensures c.in-Some.ensures c.put.ensures in
-    let free = c.in_ok-are_free.ensures (with_start_alone s unit) alone pends in
-    restarts_so g s unit c.get.result is none serves known c.in_ok-jobs.jobs c.put.new.self c.in-Some.number c.in_ok-jobs.ensures c.in-Some.ensures c.put.ensures
-    (free.0 c.if-not-branch.false) (state_of c.set_jobs.new.self) (c.in_ok-set_jobs.ensures.ok ∙ ap (with_plan s unit) c.get-2.ensures)
+pub returns-then-not-branch-clause-state : goal.returns-then-not-branch-clause-state
+returns-then-not-branch-clause-state c = λ name number.
+    let w = c.args.work.now in
+    let g = w.graph in
+    let s = state_of w.now in
+    let is = sym (c.jobs.ensures.jobs name number) in
+    let none : has_job c.jobs.result ≡ false = search rules in
+    let known = known_by g c.args.unit name number in
+    let serves = c.graph.ensures.serves in
+    let shown = sym c.graph.ensures.graph in
+    let alone = serves_alone g s name c.jobs.result is none serves known c.in_ok-jobs.jobs c.put.new.self c.args.unit c.in_ok-jobs.ensures number c.put.ensures in
+    let pends = pends_alone g s name c.jobs.result is none serves known c.in_ok-jobs.jobs c.put.new.self c.args.unit c.in_ok-jobs.ensures number c.put.ensures in
+    let free = c.in_ok-are_free.ensures (with_start_alone s name) (subst (λ h. Serves h (with_start_alone s name)) shown alone)
+    (subst (λ h. ArePending h (with_start_alone s name) c.put.new.self.units) shown pends) in
+    restarts_none g s name c.jobs.result is none serves known c.in_ok-jobs.jobs c.put.new.self c.args.unit c.in_ok-jobs.ensures number c.put.ensures
+    (λ f. true≢false (sym (free.1 f) ∙ c.if-not-branch.true))
+
+pub returns-then-not-branch-clause-keeps : goal.returns-then-not-branch-clause-keeps
+returns-then-not-branch-clause-keeps c = keeps_all c.args.work.now
+
+pub returns-clause-state : goal.returns-clause-state
+returns-clause-state c = λ name number.
+    let w = c.args.work.now in
+    let g = w.graph in
+    let s = state_of w.now in
+    let is = sym (c.jobs.ensures.jobs name number) in
+    let none : has_job c.jobs.result ≡ false = search rules in
+    let known = known_by g c.args.unit name number in
+    let serves = c.graph.ensures.serves in
+    let shown = sym c.graph.ensures.graph in
+    let alone = serves_alone g s name c.jobs.result is none serves known c.in_ok-jobs.jobs c.put.new.self c.args.unit c.in_ok-jobs.ensures number c.put.ensures in
+    let pends = pends_alone g s name c.jobs.result is none serves known c.in_ok-jobs.jobs c.put.new.self c.args.unit c.in_ok-jobs.ensures number c.put.ensures in
+    let free = c.in_ok-are_free.ensures (with_start_alone s name) (subst (λ h. Serves h (with_start_alone s name)) shown alone)
+    (subst (λ h. ArePending h (with_start_alone s name) c.put.new.self.units) shown pends) in
+    restarts_so g s name c.jobs.result is none serves known c.in_ok-jobs.jobs c.put.new.self c.args.unit c.in_ok-jobs.ensures number c.put.ensures
+    (free.0 c.if-not-branch.false) (state_of c.set_jobs.new.self.now) (c.set_jobs.ensures.state name number ∙ ap (with_plan s name) c.get.ensures)

@@ -1,8 +1,13 @@
-use Rattle.std.proofs.Common.{map}
-use Rattle.um_engine.proofs.Steps.{none_fires, fires_more, tick_fires}
+use Rattle.std.proofs.Common.{subst}
 use Rattle.um_model.proofs.TimersLaws.{fewer_timers}
-use Rattle.um_state.specs.View.{state_of, action_of}
+use Rattle.um_state.specs.View.{state_of}
+use Rattle.um_engine.specs.Engine.{IsDue, NoneIsDue}
+use Rattle.um_engine.proofs.Steps.{tick_fires}
+use Rattle.um_engine.proofs.WorkedLaws.{firing_done, firing_first, firing_more}
 use Rattle.um_engine.proofs.settling.fire.Goals as goal
+
+pub timers-init : goal.timers-init
+timers-init c = firing_first c.args.work.now c.args.timers
 
 pub timers-smaller : goal.timers-smaller
 timers-smaller c =
@@ -10,22 +15,19 @@ timers-smaller c =
     fewer_timers c.timers.timers c.clear.new.self c.in-Some.due.deadline c.in-Some.due.unit c.clear.ensures due.0.has
 
 pub timers-preserved : goal.timers-preserved
-timers-preserved c = λ serves.
-    let (whole, serves_now) = c.timers.invariant serves in
-    let (fires, serves_on) = c.in_ok-fire_one.ensures serves_now in
-    let due = rw c.in-Some.is at c.in_ok-due.ensures in (
-      λ v after later.
-          whole v after
-          (fires_more c.args.moment c.timers.timers c.in-Some.due.deadline c.in-Some.due.unit (state_of c.timers.state) (state_of c.fire_one.new.state) v
-          (map action_of c.timers.actions.items) (map action_of c.fire_one.new.actions.items) after due fires (rw c.clear.ensures at later)),
-      serves_on,
-    )
+timers-preserved c =
+    let u = c.args.work.now in
+    let due = rw c.in-Some.is at c.in_ok-due.ensures in
+    firing_more u c.timers.work c.args.timers c.timers.timers c.timers.invariant c.fire_one.new.work c.clear.new.self c.in-Some.due.deadline c.in-Some.due.unit
+    (subst (λ m. IsDue m c.timers.timers c.in-Some.due.deadline c.in-Some.due.unit) c.moment-moment.ensures due) c.clear.ensures c.in_ok-fire_one.ensures.keeps c.in_ok-fire_one.ensures.fires
 
-pub returns : goal.returns
-returns c = λ serves.
-    let (whole, serves_now) = c.timers.invariant serves in (
-      tick_fires c.args.moment c.in_ok-timers.timers (state_of c.args.state.now) (state_of c.timers.state) (map action_of c.args.actions.now.items)
-          (map action_of c.timers.actions.items) (rw c.units.ensures at c.in_ok-timers.ensures)
-          (whole _ _ (none_fires c.args.moment c.timers.timers (state_of c.timers.state) (map action_of c.timers.actions.items) (rw c.in_default.is at c.in_ok-due.ensures))),
-      serves_now,
-    )
+pub returns-clause-follows : goal.returns-clause-follows
+returns-clause-follows c =
+    let u = c.args.work.now in
+    let v = c.timers.work in
+    let none = rw c.in_default.is at c.in_ok-due.ensures in
+    tick_fires u.moment c.args.timers (state_of u.now) (state_of v.now) u.actions v.actions c.requires
+    (firing_done u v c.args.timers c.timers.timers c.timers.invariant (subst (λ m. NoneIsDue m c.timers.timers) c.moment-moment.ensures none))
+
+pub returns-clause-keeps : goal.returns-clause-keeps
+returns-clause-keeps c = c.timers.invariant.keeps

@@ -11,7 +11,7 @@ abbrev kind_of : Option LoadedUnit → UnitKind
 kind_of found = (option_map_or (λ l. l.settings.service) found (default_settings Simple)).kind
 
 pub returns-in-Some : goal.returns-in-Some
-returns-in-Some c = λ s serves known. ap (λ (x : ServiceSettings). x.kind) c.deref.ensures ∙ ap kind_of (c.in-Some.ensures s serves known)
+returns-in-Some c = λ s name serves known. ap (λ (x : ServiceSettings). x.kind) c.deref.ensures ∙ ap kind_of (c.in-Some.ensures s name serves known)
 
 pub returns-in-None : goal.returns-in-None
-returns-in-None c = λ s serves known. ap kind_of (c.in-None.ensures s serves known)
+returns-in-None c = λ s name serves known. ap kind_of (c.in-None.ensures s name serves known)

@@ -12,14 +12,14 @@ absent = record { unit = 0; kinds = record { 0 = 0 } }
 
 pub loop-place-init : goal.loop-place-init
 loop-place-init c = record {
-  list = none_past (state_of c.args.state.now) c.args.graph.now c.args.row.now _ c.args.list.now.items (search rules);
+  list = none_past (state_of c.args.work.now.now) c.args.work.now.graph c.args.row.now _ c.args.list.now.items (search rules);
   within = omega arith;
 }
 
 pub loop-place-preserved-then-is_going : goal.loop-place-preserved-then-is_going
 loop-place-preserved-then-is_going c =
-    let s = state_of c.args.state.now in
-    let g = c.args.graph.now in
+    let s = state_of c.args.work.now.now in
+    let g = c.args.work.now.graph in
     let row = c.args.row.now in
     let p = c.loop-place.place - 1 in
     let is : c.loop-place.place ≡ suc p = omega (arith, c.loop-place-test.true) in
@@ -36,8 +36,8 @@ loop-place-preserved-then-is_going c =
 
 pub loop-place-preserved : goal.loop-place-preserved
 loop-place-preserved c =
-    let s = state_of c.args.state.now in
-    let g = c.args.graph.now in
+    let s = state_of c.args.work.now.now in
+    let g = c.args.work.now.graph in
     let row = c.args.row.now in
     let p = c.loop-place.place - 1 in
     let is : c.loop-place.place ≡ suc p = omega (arith, c.loop-place-test.true) in
@@ -60,8 +60,8 @@ loop-place-preserved c =
 
 pub returns : goal.returns
 returns c =
-    let s = state_of c.args.state.now in
-    let g = c.args.graph.now in
+    let s = state_of c.args.work.now.now in
+    let g = c.args.work.now.graph in
     let row = c.args.row.now in
     let none : c.loop-place.place ≡ 0 = omega (arith, c.loop-place-test.false) in
     c.loop-place.invariant.list

@@ -6,7 +6,7 @@ use Rattle.um_falling.proofs.falling.push_bound.Given as goal
 -- those from this place on are before the others
 abbrev pub invariant-loop-place : goal.invariant-loop-place
 invariant-loop-place l = record {
-  list : l.list.items ≡ falling_in (state_of l.state) l.graph (drop l.place l.row) ++ l.fn.list.items;
+  list : l.list.items ≡ falling_in (state_of l.work.now) l.work.graph (drop l.place l.row) ++ l.fn.list.items;
   within : l.place ≤ length l.row;
 }
 

@@ -1,9 +1,9 @@
-use Rattle.std.proofs.Common.{◌≡◌, ◌∙◌, ◌++◌, ℕ, List, [], true, cond, Result, Ok, Err, OnOk, sym, ap}
+use Rattle.std.proofs.Common.{◌≡◌, ◌∙◌, ◌++◌, ℕ, List, [], true, cond, Result, Ok, Err, OnOk, sym, ap, subst}
+use Rattle.std.proofs.lemmas.Option.{same_Some}
 use Rattle.um_graph.specs.Graph.{GraphView, IsNumberOf, row_of}
 use Rattle.um_graph.specs.declared.row.Neighbour.{Neighbour}
 use Rattle.um_model.specs.Machine.{State}
 use Rattle.um_model.specs.Transitions.{comes_to_rest}
-use Rattle.um_model.specs.Service.{state_of_unit}
 use Rattle.um_model.specs.declared.service.SubState.{SubState}
 use Rattle.um_model.specs.declared.service.UnitState.{UnitState}
 use Rattle.um_falling.specs.Falling.{AddsFalling, falling_from, sub_of}
@@ -25,9 +25,14 @@ adds_row g s before name around list after row_is rests e unit is =
 
 pub returns : goal.returns
 returns c =
+    let v = c.args.work.now in
     then_ok c.push_bound.result
-    (adds_row c.args.graph.now (state_of c.args.state.now) c.args.before c.args.unit.now c.neighbours_of.result.now c.args.list.now.items c.push_bound.new.list.items
-    c.neighbours_of.ensures.row
-    (ap (λ us. comes_to_rest c.args.before (state_of_unit us c.args.unit.now).sub) (sym c.units.ensures)
-    ∙ ap (λ (u : UnitState). comes_to_rest c.args.before u.sub) (sym c.get.ensures.state) ∙ (sym c.comes_to_rest.ensures ∙ c.if-not-comes_to_rest.false)))
+    (λ e name number.
+    let named = subst (λ g. IsNumberOf g c.args.unit c.in-Some.name.now) c.graph.ensures.graph (sym (rw c.in-Some.is at c.name.ensures)) in
+    let same = same_Some c.in-Some.name.now name (sym named ∙ number) in
+    subst (λ n. AddsFalling v.graph (state_of v.now) c.args.before n c.args.list.now.items c.push_bound.new.list.items) same
+    (adds_row v.graph (state_of v.now) c.args.before c.in-Some.name.now c.neighbours_of.result.now c.args.list.now.items c.push_bound.new.list.items
+    (subst (λ g. (unit : ℕ) → IsNumberOf g unit c.in-Some.name.now → c.neighbours_of.result.now ≡ row_of g.rows unit) c.graph-2.ensures.graph c.neighbours_of.ensures.row)
+    (ap (λ (u : UnitState). comes_to_rest c.args.before u.sub) (sym (c.unit.ensures.state c.in-Some.name.now named)) ∙ (sym c.comes_to_rest.ensures ∙ c.if-not-comes_to_rest.false))
+    e))
     c.push_bound.ensures

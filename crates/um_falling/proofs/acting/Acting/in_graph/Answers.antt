@@ -7,7 +7,7 @@ abbrev with_settings : ServiceSettings → Acts
 with_settings s = record { settings = s; loadable = false }
 
 pub returns-in-Some : goal.returns-in-Some
-returns-in-Some c = λ s serves known. ap acts_as (c.in-Some.ensures s serves known)
+returns-in-Some c = λ s name serves known. ap acts_as (c.in-Some.ensures s name serves known)
 
 pub returns-in-None : goal.returns-in-None
-returns-in-None c = λ s serves known. ap with_settings c.requires ∙ ap acts_as (c.in-None.ensures s serves known)
+returns-in-None c = λ s name serves known. ap with_settings c.requires ∙ ap acts_as (c.in-None.ensures s name serves known)

@@ -6,5 +6,5 @@ returns-clause-keeps c = λ other n told. c.add_number-2.ensures.keeps other n (
 
 pub returns-clause-told : goal.returns-clause-told
 returns-clause-told c =
-    told_both c.add_number-2.result c.add_number.new.self c.add_number-2.new.self c.args.unit.now c.args.state.now c.in_ok-add_number.ensures.told
-    (λ n told. c.add_number-2.ensures.keeps c.args.unit.now n told) c.add_number-2.ensures.told
+    told_both c.add_number.new.self c.add_number-2.new.self c.args.row c.args.state.now c.add_number.ensures.told
+    (λ n told. c.add_number-2.ensures.keeps c.args.row n told) c.add_number-2.ensures.told

@@ -1,17 +1,13 @@
-use Rattle.std.proofs.Common.{◌∙◌, sym, subst}
-use Rattle.um_state.proofs.FindingLaws.{AllTold, finds_all}
+use Rattle.std.proofs.Common.{arith, subst}
+use Rattle.um_state.proofs.FindingLaws.{FindsBelow, finds_more, finds_all, row_is}
 use Rattle.um_state.proofs.finder.Finder.of.Goals as goal
 
-pub loop-unit-init : goal.loop-unit-init
-loop-unit-init c = λ more keep rest. rest
+pub loop-i-init : goal.loop-i-init
+loop-i-init c = λ i n h has. absurd (omega (arith, h))
 
-pub loop-unit-preserved : goal.loop-unit-preserved
-loop-unit-preserved c = λ more keep rest.
-    c.loop-unit.invariant more (λ unit n told. keep unit n (c.add.ensures.keeps unit n told))
-    (subst (AllTold more) (sym c.in-Some.ensures.steps) ((λ n has. keep c.in-Some.unit.now n (c.in_ok-add.ensures.told n has)), rest))
+pub loop-i-preserved : goal.loop-i-preserved
+loop-i-preserved c =
+    finds_more c.args.rows.now c.loop-i.finder c.add.new.self c.loop-i.i c.index-rows-i.result (row_is c.args.rows.now c.loop-i.i c.index-rows-i.result (omega arith) c.index-rows-i.is) c.loop-i.invariant c.add.ensures.keeps c.add.ensures.told
 
 pub returns : goal.returns
-returns c =
-    let all = c.into_iter-unit-iterator.ensures.into_iter_gives ∙ c.iter-unit-items.ensures.rest in
-    let told = c.loop-unit.invariant c.loop-unit.finder (λ unit n t. t) (subst (AllTold c.loop-unit.finder) (sym c.in-None.ensures.steps.0) tt) in
-    finds_all c.args.entries.now c.loop-unit.finder c.iter-unit-items.ensures.ordered (subst (AllTold c.loop-unit.finder) all told)
+returns c = finds_all c.args.rows.now c.loop-i.finder (subst (FindsBelow c.args.rows.now c.loop-i.finder) (omega arith) c.loop-i.invariant)

@@ -1,12 +1,10 @@
 use Rattle.std.proofs.Common.{subst}
 use Rattle.um_model.specs.Bytes.{FitList}
-use Rattle.um_model.specs.Jobs.{AreTidyJobs}
 use Rattle.um_model.proofs.Forms.{FitJob}
-use Rattle.um_state.proofs.HeldLaws.{same_held}
 use Rattle.um_state.proofs.job_bytes.PendingCanon.put.Goals as goal
 
 pub returns-clause-fits : goal.returns-clause-fits
 returns-clause-fits c = record {
   jobs = subst (FitList FitJob) c.in_ok-jobs.ensures c.in_ok-put.ensures.fits;
-  tidy = subst AreTidyJobs (same_held c.self.view_is) c.self.invariant;
+  tidy = c.numbers.ensures.tidy;
 }

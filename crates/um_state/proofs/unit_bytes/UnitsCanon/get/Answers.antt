@@ -1,4 +1,4 @@
-use Rattle.std.proofs.Common.{rules, ◌≡◌, true, false, Some, drop, ap, ◌∙◌}
+use Rattle.std.proofs.Common.{rules, ◌≡◌, true, false, Some, drop, ap, sym, ◌∙◌}
 use Rattle.um_model.proofs.BytesLaws.{at_some}
 use Rattle.um_model.proofs.NameMaps.{seen}
 use Rattle.um_model.proofs.StateSpellingsLaws.{known_is_tidy}
@@ -20,9 +20,6 @@ returns-clause-read c =
     let units = seen c.in-Some.entries in
     let read = at_some _ bytes _ _ c.in-Some.entries c.in-Some.n c.in_ok-entries.ensures.read c.in-Some.is in
     let known : are_known units ≡ true = search rules in
+    let same = c.in_ok-units.ensures (known_is_tidy units known) in
     units_here bytes units (drop c.in-Some.n bytes) (read ∙ ap (λ m. Some (m, drop c.in-Some.n bytes)) (same_map c.in-Some.entries.entries)) known
-
-pub invariant_of-result-2 : goal.invariant_of-result-2
-invariant_of-result-2 c =
-    let is : are_known (seen c.in-Some.entries) ≡ true = search rules in
-    known_is_tidy (seen c.in-Some.entries) is
+    ∙ ap (λ m. Some (m, drop c.in-Some.n bytes)) (sym same)

@@ -1,6 +1,7 @@
-use Rattle.um_model.proofs.NameMaps.{get_seen}
-use Rattle.um_state.proofs.HeldLaws.{same_held}
+use Rattle.std.proofs.Common.{◌∙◌, ap}
+use Rattle.um_model.specs.Jobs.{has_job}
+use Rattle.um_state.proofs.HeldLaws.{jobs_there}
 use Rattle.um_state.proofs.units.Pending.holds.Goals as goal
 
 pub returns : goal.returns
-returns c = rw (← same_held c.self.view_is, get_seen c.self.inside.entries c.args.unit.now) c.contains_key.ensures
+returns c = c.has_job.ensures ∙ (ap has_job c.get.ensures.jobs ∙ jobs_there c.args.self.now.held c.get.ensures.tidy c.args.unit.now)

@@ -1,26 +1,16 @@
-use Rattle.std.proofs.Common.{◌≡◌, ◌∙◌, ap, sym, length, arith}
-use Rattle.std.specs.Cmp.{unsigned_Decides}
-use Rattle.std.specs.FinMap as map
-use Rattle.std.proofs.lemmas.Bool.Decides.{nat_tests}
-use Rattle.std.proofs.lemmas.Map.Lookups.{btree_map_eq-Decides}
-use Rattle.std.proofs.lemmas.Slice.Eq.{bytes_eq-Decides}
-use Rattle.um_model.proofs.NameMaps.{same_entries}
-use Rattle.um_model.proofs.SameUnits.{unit_decides}
-use Rattle.um_state.proofs.HeldLaws.{same_held}
+use Rattle.um_model.specs.Service.{dead_unit, with_unit}
+use Rattle.um_state.proofs.PutLaws.{units_put}
+use Rattle.um_state.proofs.SameLaws.{both_told, not_told}
 use Rattle.um_state.proofs.units.Units.is_same.Goals as goal
 
-pub returns-then-len : goal.returns-then-len
-returns-then-len c =
-    let d = btree_map_eq-Decides bytes_eq-Decides unit_decides c.self.inside.entries c.other.inside.entries c.eq.result c.eq.ensures in (
-      λ t. sym (same_held c.self.view_is) ∙ (ap map.from_entries (d.0 t) ∙ same_held c.other.view_is),
-      λ e. d.1 (same_entries c.self.inside.entries c.other.inside.entries c.len.ensures.ordered c.len-2.ensures.ordered (same_held c.self.view_is ∙ (e ∙ sym (same_held c.other.view_is)))),
-    )
+pub returns-then-units_told_by : goal.returns-then-units_told_by
+returns-then-units_told_by c =
+    both_told dead_unit with_unit units_put c.args.self.now c.args.other.now c.self.inside.names c.other.inside.names c.self.inside.states.items c.other.inside.states.items c.self.view_is c.other.view_is
+    c.self.invariant.1 c.other.invariant.1 c.deref.result.now c.deref.ensures.value c.units_told_by.result c.units_told_by.ensures
+    c.deref-then-units_told_by.result.now c.deref-then-units_told_by.ensures.value c.units_told_by-then-units_told_by.result c.units_told_by-then-units_told_by.ensures c.if-units_told_by.true
 
-pub returns-else-len : goal.returns-else-len
-returns-else-len c = (
-  λ t. absurd (c.if-len.false ((unsigned_Decides c.len.result c.len-2.result).0 t)),
-  λ e.
-      let same = same_entries c.self.inside.entries c.other.inside.entries c.len.ensures.ordered c.len-2.ensures.ordered (same_held c.self.view_is ∙ (e ∙ sym (same_held c.other.view_is))) in
-      let lengths : c.len.result ≡ c.len-2.result = c.len.ensures.len ∙ (ap length same ∙ sym c.len-2.ensures.len) in
-      grind (arith, nat_tests),
-)
+pub returns-else-units_told_by : goal.returns-else-units_told_by
+returns-else-units_told_by c =
+    not_told dead_unit with_unit units_put c.args.self.now c.args.other.now c.self.inside.names c.other.inside.names c.self.inside.states.items c.other.inside.states.items c.self.view_is c.other.view_is
+    c.self.invariant.1 c.other.invariant.1 c.deref.result.now c.deref.ensures.value c.units_told_by.result c.units_told_by.ensures
+    c.if-units_told_by.false

@@ -1,0 +1,21 @@
+use Rattle.std.proofs.Common.{◌∙◌, ap, map, subst, sym}
+use Rattle.um_model.specs.Standing.{Standing}
+use Rattle.um_state.specs.View.{state_of, action_of}
+use Rattle.um_falling.specs.Over.{Serves}
+use Rattle.um_falling.specs.Work.{Keeps}
+use Rattle.um_falling.proofs.WorkLaws.{keeps_set, seen_as, serves_next}
+use Rattle.um_falling.proofs.work.Work.set_next.Goals as goal
+
+pub invariant_of-self : goal.invariant_of-self
+invariant_of-self c =
+    let x = c.self.inside in
+    let serves = serves_next x.graph.now (state_of x.rows.now) c.self.invariant.1 c.args.next in
+    (ap (λ (s : Standing). s.names) c.set_next.ensures.now ∙ c.self.invariant.0, subst (λ (s : Standing). Serves x.graph.now (state_of s)) (sym c.set_next.ensures.now) serves)
+
+pub returns-clause-keeps : goal.returns-clause-keeps
+returns-clause-keeps c =
+    let x = c.self.inside in
+    let then = c.set_next.new.self in
+    let serves = serves_next x.graph.now (state_of x.rows.now) c.self.invariant.1 c.args.next in
+    subst (λ b. Keeps c.args.self.now (seen_as x.graph.now b then.now x.moment (map action_of x.actions.items))) (sym c.set_next.ensures.base)
+    (keeps_set c.args.self.now c.self.inside.graph.now c.self.inside.rows.base c.self.inside.rows.now c.self.inside.moment (map action_of c.self.inside.actions.items) c.self.view_is c.self.invariant.0 then.now (λ _. subst (λ (s : Standing). Serves x.graph.now (state_of s)) (sym c.set_next.ensures.now) serves))

@@ -1,0 +1,16 @@
+use Rattle.std.proofs.Common.{map}
+use Rattle.um_model.specs.Machine.{State}
+use Rattle.um_model.specs.Service.{AreTidyUnits, state_of_unit}
+use Rattle.std.proofs.Common.{subst}
+use Rattle.um_state.specs.View.{state_of, action_of}
+use Rattle.um_falling.specs.Work.{WorkView}
+use Rattle.um_falling.proofs.WorkLaws.{told_by}
+use Rattle.um_falling.proofs.work.Work.unit.Goals as goal
+
+pub returns-clause-state : goal.returns-clause-state
+returns-clause-state c =
+    told_by c.args.self.now c.self.inside.graph.now c.self.inside.rows.base c.self.inside.rows.now c.self.inside.moment (map action_of c.self.inside.actions.items) c.self.view_is c.self.invariant.0
+    (λ (s : State) name. state_of_unit s.units name) c.args.unit c.unit.result c.unit.ensures.state
+
+pub returns-clause-tidy : goal.returns-clause-tidy
+returns-clause-tidy c = subst (λ (w : WorkView). AreTidyUnits (state_of w.now).units) c.self.view_is c.unit.ensures.tidy

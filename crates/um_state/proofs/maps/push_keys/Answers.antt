@@ -1,0 +1,10 @@
+use Rattle.std.proofs.Common.{◌∙◌, ◌++◌, append-nil, map, ap, sym}
+use Rattle.um_model.proofs.NameMaps.{entries_kept}
+use Rattle.um_state.proofs.maps.push_keys.Goals as goal
+
+pub returns : goal.returns
+returns g c =
+    let all = c.into_iter-name-iterator.ensures.into_iter_gives ∙ c.iter-name-items.ensures.rest in
+    let told = c.loop-name.names.items in
+    let done = sym (ap (λ rest. told ++ map (λ e. e.0) rest) c.in-None.ensures.steps.0) ∙ c.loop-name.invariant in
+    sym (append-nil told) ∙ (done ∙ ap (λ rest. c.args.names.now.items ++ map (λ e. e.0) rest) (all ∙ sym (entries_kept c.args.entries.now c.iter-name-items.ensures.ordered)))

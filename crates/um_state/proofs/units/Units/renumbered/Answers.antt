@@ -1,0 +1,9 @@
+use Rattle.std.proofs.Common.{◌∙◌, ap, sym, subst}
+use Rattle.um_model.specs.Service.{AreTidyUnits, state_of_unit}
+use Rattle.um_name.specs.Names.{IsApart}
+use Rattle.um_state.proofs.units.Units.renumbered.Goals as goal
+
+pub returns-clause-held : goal.returns-clause-held
+returns-clause-held c apart =
+    let same = c.in_ok-entries.ensures.map in
+    c.in_ok-units.ensures.held (subst AreTidyUnits (sym same) c.to_map.ensures.tidy) (λ x a. ap (λ m. state_of_unit m x) same ∙ apart x (subst (λ ns. IsApart ns x) c.in_ok-names.ensures.same a)) ∙ same

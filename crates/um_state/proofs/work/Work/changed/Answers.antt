@@ -1,0 +1,22 @@
+use Rattle.std.proofs.Common.{◌∙◌, ◌≡◌, arith, length, vec_len}
+use Rattle.um_state.specs.Working.{changed}
+use Rattle.um_state.proofs.WorkLaws.{work_after, work_counts}
+use Rattle.um_state.proofs.work.Work.changed.Goals as goal
+
+pub returns-clause-after : goal.returns-clause-after
+returns-clause-after c =
+    let s = c.self.inside in
+    let was = s.was in
+    let made = c.in_ok-rows.ensures ∙ (λ i. changed was.units.now was.jobs.now (c.deref.ensures.value i) (c.deref-2.ensures.value i) (length (c.deref.ensures.value i))) in
+    let are = c.self.invariant.2 in
+    work_after c.args.self.now s.base.now s.units.items s.jobs.items s.next c.self.view_is are.ascending
+    was.units.now was.jobs.now are.units are.pending are.units_len are.jobs_len (omega arith) (omega arith) c.in_ok-rows.rows.items made
+
+pub returns-clause-count : goal.returns-clause-count
+returns-clause-count c =
+    let s = c.self.inside in
+    let was = s.was in
+    let made = c.in_ok-rows.ensures ∙ (λ i. changed was.units.now was.jobs.now (c.deref.ensures.value i) (c.deref-2.ensures.value i) (length (c.deref.ensures.value i))) in
+    let are = c.self.invariant.2 in
+    work_counts c.args.self.now s.base.now s.units.items s.jobs.items s.next c.self.view_is are.ascending
+    was.units.now was.jobs.now are.units are.pending are.units_len are.jobs_len (omega arith) (omega arith) c.in_ok-rows.rows.items made (vec_len c.in_ok-rows.rows) (omega arith)
