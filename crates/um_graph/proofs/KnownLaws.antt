@@ -155,7 +155,7 @@ module _ (tree : Tree) (extra : List (List ℕ)) where
   -- ---- a name is followed
   module _ (old new : Loaded) (left after : List (List ℕ)) (told later : List Told) (name : List ℕ) (l : Loading)
       (updates : sorted.Updates (slice_cmp nat_cmp) old new name (Some l)) (is : loading_of l ≡ load tree name)
-      (lefts : after ≡ left ++ flat_map (ends_left old) (told_in tree name)) (tolds : later ≡ told ++ told_in tree name) where
+      (lefts : after ≡ left ++ flat_map (ends_left new) (told_in tree name)) (tolds : later ≡ told ++ told_in tree name) where
     here : loading_at new name ≡ Some l
     here = updates.0 name ∙ ap (λ b. cond b (Some l) (loading_at old name)) ((eq_by_cmp_equiv nat_list_cmp_total).refl name)
 
@@ -176,7 +176,7 @@ module _ (tree : Tree) (extra : List (List ℕ)) where
     ]
 
     from_left : (x : List ℕ) → Contains left x → IsMet new after x
-    from_left x c = inr (subst (λ xs. Contains xs x) (sym lefts) (Contains-append_left left (flat_map (ends_left old) (told_in tree name)) x c))
+    from_left x c = inr (subst (λ xs. Contains xs x) (sym lefts) (Contains-append_left left (flat_map (ends_left new) (told_in tree name)) x c))
 
     still_met : (x : List ℕ) → IsMet old (left ++ name ∷ []) x → IsMet new after x
     still_met x (inl f) = inl (still_followed x f)
@@ -185,9 +185,9 @@ module _ (tree : Tree) (extra : List (List ℕ)) where
       | inr e ↦ inl (subst (IsFollowed new) e here_followed)
     ]
 
-    end_met : (x : List ℕ) → IsFollowed old x ⊎ Contains (flat_map (ends_left old) (told_in tree name)) x → IsMet new after x
-    end_met x (inl f) = inl (still_followed x f)
-    end_met x (inr c) = inr (subst (λ xs. Contains xs x) (sym lefts) (Contains-append_right left (flat_map (ends_left old) (told_in tree name)) x c))
+    end_met : (x : List ℕ) → IsFollowed new x ⊎ Contains (flat_map (ends_left new) (told_in tree name)) x → IsMet new after x
+    end_met x (inl f) = inl f
+    end_met x (inr c) = inr (subst (λ xs. Contains xs x) (sym lefts) (Contains-append_right left (flat_map (ends_left new) (told_in tree name)) x c))
 
     pub followed : IsUnderWay tree extra old (left ++ name ∷ []) told → IsUnderWay tree extra new after later
     followed w = record {
@@ -208,7 +208,7 @@ module _ (tree : Tree) (extra : List (List ℕ)) where
       ];
       ends = λ t c. elim (Contains-append_cases told (told_in tree name) t (subst (λ ts. Contains ts t) tolds c)) as (λ _. IsMet new after t.from × IsMet new after t.to) [
         | inl a ↦ let e = w.ends t a in (still_met t.from e.0, still_met t.to e.1)
-        | inr b ↦ let e = ends_met old (told_in tree name) t b in (end_met t.from e.0, end_met t.to e.1)
+        | inr b ↦ let e = ends_met new (told_in tree name) t b in (end_met t.from e.0, end_met t.to e.1)
       ];
     }
       where
@@ -233,9 +233,9 @@ module _ (tree : Tree) (extra : List (List ℕ)) where
           | inl s ↦ subst Known s name_known
           | inr s ↦ w.known x (inl (ap is_some (sym s) ∙ f))
         ]
-        known_still x (inr c) = elim (Contains-append_cases left (flat_map (ends_left old) (told_in tree name)) x (subst (λ xs. Contains xs x) lefts c)) as (λ _. Known x) [
+        known_still x (inr c) = elim (Contains-append_cases left (flat_map (ends_left new) (told_in tree name)) x (subst (λ xs. Contains xs x) lefts c)) as (λ _. Known x) [
           | inl a ↦ w.known x (inr (Contains-append_left left (name ∷ []) x a))
-          | inr b ↦ new_end x (ends_are old (told_in tree name) x b)
+          | inr b ↦ new_end x (ends_are new (told_in tree name) x b)
         ]
 
   -- ---- the end: what is known was followed

@@ -39,6 +39,21 @@ pub(crate) struct Known {
     pub(crate) told: Vec<Told>,
 }
 
+/// What the settings of the unit tell, if it can be loaded.
+fn told_where_loaded(
+    alloc: Global,
+    resolved: &mut Resolved<'_>,
+    loading: &Loading,
+) -> Result<Vec<Told>, AllocError>
+    ensures told { IfOk result (λ told. told.items ≡ told_where resolved.old (loadable_of (loading_of loading.now))) }
+    ensures tree { resolved.new ≡ resolved.old }
+{
+    match loadable(loading) {
+        Some(unit) => told_by(alloc, resolved, unit),
+        None => Ok(Vec::new(alloc)),
+    }
+}
+
 impl Known {
     /// The name is to be followed, unless it was.
     fn meet(&mut self, name: &UnitName) -> Result<(), AllocError>
@@ -121,27 +136,6 @@ impl Known {
         None
     }
 
-    /// What the settings of the unit tell is kept, if it can be loaded.
-    fn take_unit(
-        &mut self,
-        alloc: Global,
-        resolved: &mut Resolved<'_>,
-        loading: &Loading,
-    ) -> Result<(), AllocError>
-        requires { AreFollowed self.old.loaded self.old.followed }
-        ensures left { OnOk result (self.new.left.items
-            ≡ self.old.left.items ++ flat_map (ends_left self.old.loaded) (told_where resolved.old (loadable_of (loading_of loading.now)))) }
-        ensures loaded { OnOk result (self.new.loaded ≡ self.old.loaded) }
-        ensures told { OnOk result (self.new.told.items ≡ self.old.told.items ++ told_where resolved.old (loadable_of (loading_of loading.now))) }
-        ensures followed { OnOk result (self.new.followed ≡ self.old.followed) }
-        ensures tree { resolved.new ≡ resolved.old }
-    {
-        if let Some(unit) = loadable(loading) {
-            self.take(told_by(alloc, resolved, unit)?)?;
-        }
-        Ok(())
-    }
-
     /// Follows a name: its unit is loaded, once. Tells how many were by then.
     fn follow(
         &mut self,
@@ -160,9 +154,10 @@ impl Known {
         ensures tree { resolved.new ≡ resolved.old }
     {
         let loading = load(alloc, resolved.tree(), &name)?;
-        self.take_unit(alloc, resolved, &loading)?;
+        let told = told_where_loaded(alloc, resolved, &loading)?;
         self.followed.insert(name.copy()?)?;
         self.loaded.insert(name, loading)?;
+        self.take(told)?;
         Ok(self.loaded.len())
     }
 

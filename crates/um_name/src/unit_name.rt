@@ -1,5 +1,6 @@
 ghost use Rattle.std.specs.Prelude.{◌≡◌, ℕ, List, true, false, IfOk, IfErr, MatchOption, string_bytes, option_copied};
 ghost use Rattle.std.specs.List.{list_all};
+ghost use Rattle.std.specs.Rc.{rc_str_bytes};
 ghost use Rattle.um_model.specs.Names as names;
 ghost use Rattle.um_model.specs.Refusals.{bad_name};
 ghost use Rattle.um_name.specs.UnitName.{IsSound};
@@ -9,6 +10,7 @@ ghost use Rattle.um_wire.specs.declared.refusal.Refusal.TheVariants.{NoMemory};
 use crate::suffixes::suffix_of;
 use std::alloc::{AllocError, Global};
 use std::marker::Model;
+use std::rc::RcStr;
 use um_model::Suffix;
 use um_wire::{Refusal, bad_name};
 
@@ -16,19 +18,20 @@ use um_wire::{Refusal, bad_name};
 const LIMIT: usize = 255;
 
 /// The name of a unit, as `app@blue.service`: a prefix, optionally `@` and an instance, and a suffix, at most 255 bytes in
-/// all (systemd.unit(5), "Description").
+/// all (systemd.unit(5), "Description"). Copies share their text.
 #[derive(Drop)]
 pub struct UnitName {
-    text: String,
+    alloc: Global,
+    text: RcStr,
     suffix: Suffix,
 }
 
 impl Model for UnitName {
     ghost Value = { List ℕ };
 
-    ghost view = { λ n. string_bytes n.text };
+    ghost view = { λ n. rc_str_bytes n.text };
 
-    ghost invariant = { λ n. IsSound (string_bytes n.text) n.suffix };
+    ghost invariant = { λ n. IsSound (rc_str_bytes n.text) n.suffix };
 }
 
 fn is_instance_byte(b: u8) -> bool
@@ -91,10 +94,11 @@ impl UnitName {
         ensures { IfOk result (λ name. name ≡ names.named text.now) }
     {
         match named_suffix(text) {
-            Some(suffix) => {
-                let text = String::from_str(alloc, text)?;
-                Ok(Some(UnitName { text, suffix }))
-            }
+            Some(suffix) => Ok(Some(UnitName {
+                alloc,
+                text: RcStr::from_str(alloc, text)?,
+                suffix,
+            })),
             None => Ok(None),
         }
     }
@@ -157,12 +161,16 @@ impl UnitName {
     pub fn with_instance(&self, instance: &str) -> Result<Option<UnitName>, AllocError>
         ensures { IfOk result (λ name. name ≡ names.named (names.with_instance self.now instance.now)) }
     {
-        let mut text = String::from_str(*self.text.allocator(), self.prefix())?;
+        let mut text = String::from_str(self.alloc, self.prefix())?;
         text.push('@')?;
         text.push_str(instance)?;
         text.push_str(self.suffix.text())?;
         match named_suffix(text.as_str()) {
-            Some(suffix) => Ok(Some(UnitName { text, suffix })),
+            Some(suffix) => Ok(Some(UnitName {
+                alloc: self.alloc,
+                text: RcStr::from_string(text)?,
+                suffix,
+            })),
             None => Ok(None),
         }
     }
@@ -172,6 +180,7 @@ impl UnitName {
         ensures { IfOk result (λ name. name ≡ self.now) }
     {
         Ok(UnitName {
+            alloc: self.alloc,
             text: self.text.clone()?,
             suffix: self.suffix,
         })
@@ -181,7 +190,7 @@ impl UnitName {
     pub fn text(&self) -> Result<String, AllocError>
         ensures { IfOk result (λ text. string_bytes text ≡ self.now) }
     {
-        Ok(self.text.clone()?)
+        String::from_str(self.alloc, self.as_str())
     }
 
     /// What stands before the suffix.

@@ -18,20 +18,22 @@ pub returns-clause-whole : goal.returns-clause-whole
 returns-clause-whole c extra w =
     let tree = c.args.resolved.now in
     let old = c.args.self.now in
+    let new = c.insert-2.new.self in
     let loading = c.in_ok-loading.loading in
     let loads : loading_of loading ≡ load tree c.args.name = c.in_ok-loading.ensures ∙ ap (λ t. load t c.args.name) c.tree.ensures in
-    followed tree extra old.loaded c.insert-2.new.self old.left.items c.take_unit.new.self.left.items old.told.items c.take_unit.new.self.told.items c.args.name loading
-    (subst (λ m. sorted.Updates (slice_cmp nat_cmp) m c.insert-2.new.self c.args.name (Some loading)) c.in_ok-take_unit.ensures.loaded c.in_ok-insert-2.ensures.updates)
+    let tells : c.in_ok-told.told.items ≡ told_where tree (loadable_of (load tree c.args.name)) = c.in_ok-told.ensures ∙ ap (λ l. told_where tree (loadable_of l)) loads in
+    subst (λ m. IsUnderWay tree extra m c.take.new.self.left.items c.take.new.self.told.items) (sym c.in_ok-take.ensures.loaded)
+    (followed tree extra old.loaded new old.left.items c.take.new.self.left.items old.told.items c.take.new.self.told.items c.args.name loading
+    c.in_ok-insert-2.ensures.updates
     loads
-    (c.in_ok-take_unit.ensures.left ∙ ap (λ l. old.left.items ++ flat_map (ends_left old.loaded) (told_where tree (loadable_of l))) loads)
-    (c.in_ok-take_unit.ensures.told ∙ ap (λ l. old.told.items ++ told_where tree (loadable_of l)) loads)
-    w
+    (c.in_ok-take.ensures.left ∙ ap (λ ts. old.left.items ++ flat_map (ends_left new) ts) tells)
+    (c.in_ok-take.ensures.told ∙ ap (λ ts. old.told.items ++ ts) tells)
+    w)
 
 pub returns-clause-followed : goal.returns-clause-followed
 returns-clause-followed c =
     let old = c.args.self.now in
     let loading = c.in_ok-loading.loading in
     one_followed old.loaded c.insert-2.new.self old.followed c.insert.new.self c.args.name loading c.requires
-    (λ x. c.in_ok-insert.ensures.updates.0 x ∙ (ap (λ n. cond (bytes_eq n x) true (contains bytes_eq c.take_unit.new.self.followed x)) c.in_ok-copy.ensures
-    ∙ ap (λ s. cond (bytes_eq c.args.name x) true (contains bytes_eq s x)) c.in_ok-take_unit.ensures.followed))
-    (subst (λ m. sorted.Updates (slice_cmp nat_cmp) m c.insert-2.new.self c.args.name (Some loading)) c.in_ok-take_unit.ensures.loaded c.in_ok-insert-2.ensures.updates).0
+    (λ x. c.in_ok-insert.ensures.updates.0 x ∙ ap (λ n. cond (bytes_eq n x) true (contains bytes_eq old.followed x)) c.in_ok-copy.ensures)
+    c.in_ok-insert-2.ensures.updates.0

@@ -55,3 +55,6 @@ mod state;
 mod texts;
 #[cfg(test)]
 mod unit_files;
+
+/// The rows are its tests; by itself the program does nothing.
+fn main() {}

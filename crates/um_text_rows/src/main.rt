@@ -25,3 +25,6 @@ mod unit;
 mod value;
 #[cfg(test)]
 mod words;
+
+/// The rows are its tests; by itself the program does nothing.
+fn main() {}
