@@ -33,30 +33,10 @@ final_noted call calls kept fits n t =
     ∙ joined (was_absent calls n) (is_absence n call) (has_started calls n) (is_start n call)
     (kept n) (fits n).0 (fits n).1 (not_both n call) (sym (list_any-append (is_absence n) calls (call ∷ [])) ∙ t)
 
-pub fits_signal : (number : ℕ) (signal : Signal) (calls : List Call) → Fits (Signalled number signal) calls
-fits_signal number signal calls n = (λ _. refl, λ t. absurd (true≢false (sym t)))
-
-pub fits_forgot : (number : ℕ) (calls : List Call) → Fits (Forgot number) calls
-fits_forgot number calls n = (λ _. refl, λ t. absurd (true≢false (sym t)))
-
-pub fits_forgot_others : (live : List ℕ) (calls : List Call) → Fits (ForgotOthers live) calls
-fits_forgot_others live calls n = (λ _. refl, λ t. absurd (true≢false (sym t)))
-
-pub fits_asked : (number : ℕ) (claim : Bool) (told : Option Fate) (calls : List Call) → (tells_absent told ≡ true → has_started calls number ≡ false) → Fits (Asked number claim told) calls
-fits_asked number claim told calls h n = (λ _. refl, λ t. let p = and_parts _ _ t in subst (λ m. has_started calls m ≡ false) (eqb-true number n p.1) (h p.0))
-
 at_number : (number n : ℕ) (b : Bool) (calls : List Call) → (e : Bool) → eqb number n ≡ e → (b ≡ true → was_absent calls number ≡ false) → was_absent calls n ≡ true → (b && e) ≡ false
 at_number number n false calls e same h t = refl
 at_number number n true calls false same h t = refl
 at_number number n true calls true same h t = absurd (true≢false (sym t ∙ subst (λ m. was_absent calls m ≡ false) (eqb-true number n same) (h refl)))
-
-pub fits_spawn : (spawn : Spawn) (taken b : Bool) (calls : List Call) → (b ≡ true → was_absent calls spawn.number ≡ false) → Fits (Spawned spawn taken b) calls
-fits_spawn spawn taken b calls h n = (λ t. at_number spawn.number n b calls (eqb spawn.number n) refl h t, λ t. absurd (true≢false (sym t)))
-
-pub no_absence : (burns absent : Bool) → not (burns || absent) ≡ true → absent ≡ false
-no_absence true absent t = absurd (true≢false (sym t))
-no_absence false true t = absurd (true≢false (sym t))
-no_absence false false t = refl
 
 pub kept_if : (b : Bool) (call : told.Call) (calls new : List told.Call) → new ≡ cond b (calls ++ call ∷ []) calls → IsFinal (calls_of calls) → Fits (call_of call) (calls_of calls) → IsFinal (calls_of new)
 kept_if true call calls new e kept fits = subst (λ xs. IsFinal (calls_of xs)) (sym e) (subst IsFinal (sym (map-append call_of calls (call ∷ []))) (final_noted (call_of call) (calls_of calls) kept fits))

@@ -70,15 +70,6 @@ removes_none_to s u path e same refused differs = (sym (ap (λ (x : State). remo
 ok_err : {A : Type 0} (r : Result A Refused) (a : A) (e : Refused) → r ≡ Ok a → r ≡ Err e → ⊥
 ok_err r a e h k = cc
 
-pub free_to_put : (s : State) (path text : List ℕ) (tree : Tree) → put_file s.tree path text ≡ Ok tree → (r : Refused) → Refuses s (model.PutFile path text) r → ⊥
-free_to_put s path text tree ok r e = ok_err (put_file s.tree path text) tree r ok e
-
-pub free_to_link : (s : State) (path target : List ℕ) (tree : Tree) → put_link s.tree path target ≡ Ok tree → (r : Refused) → Refuses s (model.PutLink path target) r → ⊥
-free_to_link s path target tree ok r e = ok_err (put_link s.tree path target) tree r ok e
-
-pub free_to_remove : (s : State) (path : List ℕ) (tree : Tree) → remove_at s.tree path ≡ Ok tree → (r : Refused) → Refuses s (model.Remove path) r → ⊥
-free_to_remove s path tree ok r e = ok_err (remove_at s.tree path) tree r ok e
-
 pub free_to_reload : (s : State) → ((r : Refused) → ¬ model.CausesOfLoad s s.tree r) → (r : Refused) → Refuses s model.DaemonReload r → ⊥
 free_to_reload s free r h = free r h
 
@@ -182,9 +173,6 @@ refuses_there s verb asked wanted (Err e) cause = λ differs. not_there s verb a
 -- ---- the waiting jobs of a unit
 
 module _ (s : State) (asked : List ℕ) where
-  pub by_missing : (r : Refused) → IsMissing s asked r → Refuses s (model.Cancel asked) r
-  by_missing r h = at_first h
-
   pub by_none_waiting : (r : Refused) → ((q : Refused) → ¬ IsMissing s asked q) → HasNoneWaiting s asked r → Refuses s (model.Cancel asked) r
   by_none_waiting r there h = at_second there h
 
@@ -211,13 +199,6 @@ pub some_waits : (s : State) (asked unit : List ℕ) (jobs : UnitJobs) → unit 
     → ((r : Refused) → ¬ ((has_waiting jobs ≡ false) × (r ≡ no_such_job unit))) → (r : Refused) → ¬ HasNoneWaiting s asked r
 some_waits s asked unit jobs is held waits r h =
     waits r (ap has_waiting (held ∙ ap (jobs_of_unit s.pending) is) ∙ none_told (model.jobs_asked s asked) h.none, h.refusal ∙ ap no_such_job (sym is))
-
--- a cancel is refused as the cancel of the waiting jobs is, where the unit isn't missing
-pub cancel_refused : {X : Type 0} (s : State) (asked unit : List ℕ) (jobs : UnitJobs) → unit ≡ model.unit_asked s asked → jobs ≡ jobs_of_unit s.pending unit
-    → ((q : Refused) → ¬ IsMissing s asked q) → (result : Result X Refusal) → RefusesBy (λ r. (has_waiting jobs ≡ false) × (r ≡ no_such_job unit)) result
-    → RefusesBy (Refuses s (model.Cancel asked)) result
-cancel_refused s asked unit jobs is held there (Ok left) waits = free_to_cancel s asked there (some_waits s asked unit jobs is held waits)
-cancel_refused s asked unit jobs is held there (Err e) none = λ differs. by_none_waiting s asked _ there (none_waits s asked unit jobs is held _ (none differs))
 
 -- ---- enabling and its kin
 

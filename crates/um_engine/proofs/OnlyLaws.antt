@@ -56,9 +56,6 @@ of_no_store refusal.OtherLayout of = absurd (beyond 22 (of (λ e. cc)) (omega ar
 pub declined_of_no_store : (size t : ℕ) (s : State) (command : Command) (e : Refusal) → (e ≢ NoMemory → Declines size t s command (refused_of e)) → is_of_store e ≡ false
 declined_of_no_store size t s command e declines = of_no_store e (λ differs. declined_of_command size t s command (refused_of e) (declines differs))
 
-pub memory_of_no_store : (e : Refusal) → e ≡ NoMemory → is_of_store e ≡ false
-memory_of_no_store e is = subst (λ x. is_of_store x ≡ false) (sym is) refl
-
 -- ---- a state that is served
 
 pub served_servable : (size : ℕ) (s v : State) (tree : Tree) → tree ≡ s.loaded → ((r : Refused) → ¬ CausesOfLoad s tree r) → v ≡ s → ¬ IsTooHeavy size v → IsServable size s

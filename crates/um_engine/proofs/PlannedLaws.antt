@@ -183,16 +183,10 @@ module _ (s : State) (verb : UnitVerb) (asked : List ℕ) (mode : JobMode) (unit
   demanded_asked : (demand : Option Demand) → demand ≡ demand_of verb (active_state_of (state_of_unit s.units unit).sub) → demand_of verb (active_asked s asked) ≡ demand
   demanded_asked demand is = ap (λ x. demand_of verb (active_state_of (state_of_unit s.units x).sub)) (sym same) ∙ sym is
 
-  pub refused_crowded : (r : Refused) → IsCrowded s.loaded (IsHeldOr s unit) r → Refuses s (model.ForUnit verb asked mode) r
-  refused_crowded r h = by_crowd s verb asked mode r (subst (λ x. IsCrowded s.loaded (IsHeldOr s x) r) same h)
-
   -- where nothing is demanded
   module _ (is : None ≡ demand_of verb (active_state_of (state_of_unit s.units unit).sub)) (few : (q : Refused) → ¬ IsCrowded s.loaded (IsHeldOr s unit) q) where
     pub absent_at_rest : (r : Refused) → IsNotThere s verb asked r → Refuses s (model.ForUnit verb asked mode) r
     absent_at_rest r h = by_absence s verb asked mode r (few_at_rest s verb asked mode (few_asked few) (demanded_asked None is)) h
-
-    pub free_at_rest : ((q : Refused) → ¬ IsNotThere s verb asked q) → (r : Refused) → ¬ Refuses s (model.ForUnit verb asked mode) r
-    free_at_rest = free_to_rest s verb asked mode (few_asked few) (demanded_asked None is)
 
     pub rests_asked : (u : State) → u ≡ s → Changes s (model.ForUnit verb asked mode) u
     rests_asked u = rests_so s verb asked mode u (demanded_asked None is)

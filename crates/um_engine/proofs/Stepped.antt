@@ -121,17 +121,6 @@ pub declined_for_cause : (size t : ℕ) (s : State) (command : Command) (e : Ref
     → Declines size t s command (refused_of e)
 declined_for_cause size t s command e refuses differs = for_cause (refuses differs)
 
-pub declined_for_room : (size t : ℕ) (s u : State) (command : Command) (actions : List Action) (e : Refusal) → TakesEffect t s (Commanded command) actions u
-    → (e ≢ NoMemory → (refused_of e ≡ no_room) × IsTooHeavy size u) → e ≢ NoMemory → Declines size t s command (refused_of e)
-declined_for_room size t s u command actions e takes heavy differs =
-    let (is, h) = heavy differs in subst (Declines size t s command) (sym is) (for_room takes h)
-
--- a refusal that is handed on is declined as the one that it is
-pub declined_is : {X : Type 0} (size t : ℕ) (s : State) (command : Command) (result : Result X Refusal) (e : Refusal) → IsErrAnd result (λ f. f ≡ e)
-    → (e ≢ NoMemory → Declines size t s command (refused_of e)) → IfErr result (λ f. f ≢ NoMemory → Declines size t s command (refused_of f))
-declined_is size t s command (Ok done) e h step = absurd h
-declined_is size t s command (Err f) e h step = subst (λ g. g ≢ NoMemory → Declines size t s command (refused_of g)) (sym h) step
-
 -- jobs that begin leave the tree in hand, and with it what is answered
 pub same_answer : (t : ℕ) (event : Event) (s u v : State) (first all : List Action) (reply : Reply) → reply ≡ reply_after event s.tree u.tree
     → Adds (model.Settles t u) first v all → reply ≡ reply_after event s.tree v.tree

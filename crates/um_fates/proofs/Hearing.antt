@@ -14,9 +14,6 @@ joined_tales claims [] ns (f ∷ fs) gs p q = absurd p
 joined_tales claims (m ∷ ms) ns [] gs p q = absurd p
 joined_tales claims (m ∷ ms) ns (f ∷ fs) gs p q = (p.0, p.1, joined_tales claims ms ns fs gs p.2 q)
 
-pub heard_nobody : (absent : End) (moment : ℕ) (claims : ℕ → Bool) (h w : Bool) (past : List Call) (before : List Input) → Heard absent moment claims h w past past [] before before
-heard_nobody absent moment claims h w past before = record { told = []; of_live = tt; inputs_are = sym (append-nil before); past_is = λ honest whole. sym (append-nil past) }
-
 -- where the history that is whole in the end was so in the middle
 pub heard_more : (absent : End) (moment : ℕ) (claims : ℕ → Bool) (h k v w : Bool) (a b c : List Call) (ms ns : List ℕ) (x y z : List Input) → (IsTrue h → IsTrue k) → (IsTrue w → IsTrue v)
     → Heard absent moment claims h v a b ms x y → Heard absent moment claims k w b c ns y z → Heard absent moment claims h w a c (ms ++ ns) x z

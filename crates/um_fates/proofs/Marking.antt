@@ -26,12 +26,6 @@ and_true : (a : Bool) → (a && true) ≡ a
 and_true true = refl
 and_true false = refl
 
-and_all : (a b c d : Bool) → ((a && b) && (c && d)) ≡ ((a && c) && (b && d))
-and_all true true c d = refl
-and_all true false true d = refl
-and_all true false false d = refl
-and_all false b c d = refl
-
 -- what isn't in a list differs from each in it
 pub differs : (n : ℕ) (ns : List ℕ) → has n ns ≡ false → list_all (λ m. not (m == n)) ns ≡ true
 differs n [] e = refl

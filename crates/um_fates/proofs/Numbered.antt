@@ -52,10 +52,6 @@ same_told true b e = sym e
 same_told false true e = absurd (true≢false (sym e))
 same_told false false e = refl
 
-same_is : (a b : Bool) → a ≡ b → is_same a b ≡ true
-same_is true b e = sym e
-same_is false b e = ap not (sym e)
-
 -- ---- one unit
 
 at_front : (n : ℕ) (ns : List ℕ) → has n (n ∷ ns) ≡ true
@@ -148,19 +144,6 @@ by_name units unit = live_numbers (state_of_unit units unit)
 
 abbrev agrees : ByUnit UnitState → ℕ → List ℕ × UnitState → Bool
 agrees units n e = is_same (has n (by_name units e.0)) (has n (live_numbers e.1))
-
-all_agree : (units : ByUnit UnitState) (n : ℕ) (es : Entries) → list_all (agrees units n) es ≡ true
-    → has n (flat_map (by_name units) (each (λ e. e.0) es)) ≡ has n (flat_map (λ e. live_numbers e.1) es)
-all_agree units n [] all = refl
-all_agree units n (e ∷ es) all =
-    list_any-append (λ m. m == n) (by_name units e.0) (flat_map (by_name units) (each (λ e. e.0) es))
-    ∙ ap (λ b. b || has n (flat_map (by_name units) (each (λ e. e.0) es))) (same_told (has n (by_name units e.0)) (has n (live_numbers e.1)) (left_true (agrees units n e) (list_all (agrees units n) es) all))
-    ∙ ap (λ b. has n (live_numbers e.1) || b) (all_agree units n es (right_true (agrees units n e) (list_all (agrees units n) es) all))
-    ∙ sym (list_any-append (λ m. m == n) (live_numbers e.1) (flat_map (λ e. live_numbers e.1) es))
-
--- the numbers of the units by name are those of all entries
-pub named_live : (units : ByUnit UnitState) (n : ℕ) → has n (flat_map (λ unit. live_numbers (state_of_unit units unit)) (map.keys units)) ≡ is_live units n
-named_live units n = all_agree units n (map.entries units) (from_each (agrees units n) units (λ k v at. same_is (has n (by_name units k)) (has n (live_numbers v)) (ap (λ u. has n (live_numbers u)) (at_unit units k v at))))
 
 -- ---- none twice
 

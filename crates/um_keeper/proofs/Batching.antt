@@ -90,28 +90,15 @@ pub appended : (more all : List Answer) (answer : Answer) (rest : List Answer) �
 appended more all answer rest is = ap (λ l. l ++ rest) is ∙ append_assoc more (answer ∷ []) rest
 
 module _ {size : ℕ} {s t : State} {input : Input} {left more : List Input} {answer : Answer} (is : left ≡ input ∷ more) (answered : Answered size s input answer t) where
-  pub one_answered : {n : ℕ} {rest : List Answer} {u : State} → n ≡ size → AreAnswered n t more rest u → AreAnswered size s left (answer ∷ rest) u
-  one_answered {rest = rest} {u} same others = subst (λ l. AreAnswered size s l (answer ∷ rest) u) (sym is)
-      (and_next answered (subst (λ n. AreAnswered n t more rest u) same others))
 
   -- what a crash leaves meanwhile
   module _ {old mid new : Past} {layout l : Layout} {h h' : Bool} (on : size ≡ body_limit layout) (same : l ≡ layout) (honest : h' ≡ h)
       (one : IsTrue h → During old mid (IsBegun layout s (where_step answer input))) where
-    one_lost : {some : List Input} → (IsTrue h' → During mid new (IsBegun l t some)) → IsTrue h → During old new (IsBegun layout s (where_step answer input ++ some))
-    one_lost {some} others sure = taken_on (subst (λ n. Answered n s input answer t) on answered) (one sure)
-        (subst (λ (z : Layout). During mid new (IsBegun z t some)) same (others (honest ∙ sure)))
-
-    pub one_begun : (rest : List Answer) → (IsTrue h' → During mid new (IsBegun l t (taken more rest))) → IsTrue h → During old new (IsBegun layout s (taken left (answer ∷ rest)))
-    one_begun rest others sure = subst (λ z. During old new (IsBegun layout s (taken z (answer ∷ rest)))) (sym is) (one_lost others sure)
 
 -- ---- what is to be recorded
 
 pub idle_left : (s : State) {left more : List Input} {input : Input} → left ≡ input ∷ more → AllByRecursion (IsIdle s) left → IsIdle s input × AllByRecursion (IsIdle s) more
 idle_left s is all = subst (AllByRecursion (IsIdle s)) is all
-
-pub unrecorded_left : (s : State) {left more : List Input} {input : Input} (answer : Answer) (rest : List Answer) → left ≡ input ∷ more → NeedNoRecord s left (answer ∷ rest)
-    → (IsIdle s input ⊎ IsRefusal answer) × NeedNoRecord s more rest
-unrecorded_left s answer rest is all = subst (λ l. NeedNoRecord s l (answer ∷ rest)) is all
 
 -- a record that isn't needed for an answer that is denied isn't needed for that which was meant
 undenied : (answer : Answer) → IsRefusal (denied answer) → IsRefusal answer

@@ -25,12 +25,6 @@ err_from (Err e) p = p
 pub err_same : {T E : Type 0} (P : E → Type 0) (result : Result T E) (e : E) → IsErrAnd result (λ y. y ≡ e) → P e → IfErr result P
 err_same P result e is p = let (y, r, q) = err_from_is_err_and result is in subst (λ x. IfErr x P) (sym r) (subst P (sym q) p)
 
--- the device didn't fail
-pub not_device : {T : Type 0} (result : Result T Refusal) (e : Refusal) (old new : ℕ) → IsErrAnd result (λ y. y ≡ e) → ¬ (e ≡ Device) → new ≡ old → CountsDevice result old new
-not_device result e old new is differs same =
-    let (y, r, q) = err_from_is_err_and result is in
-    subst (λ x. CountsDevice x old new) (sym r) (inr (subst (λ z. ¬ (z ≡ Device)) (sym q) differs, same))
-
 -- what follows of the value at Ok
 pub if_ok_from : {T E : Type 0} (result : Result T E) (P Q : T → Type 0) → ((x : T) → P x → Q x) → IfOk result P → IfOk result Q
 if_ok_from (Ok x) P Q f p = f x p

@@ -8,26 +8,6 @@ use Rattle.um_memory.specs.declared.frames.Piece.TheVariants.{Frame, End}
 use Rattle.um_model.specs.Frames.{frame_limit, in_header, in_body}
 use Rattle.um_model.specs.declared.frames.Ending.TheVariants.{Between, Inside, TooLong}
 
--- nothing was left
-pub comes_between : (a b : Option (List ℕ)) (h : List ℕ) → Consumes a b h → IsAtEnd b → h ≡ [] → Comes (End Between) a b
-comes_between None b h c e n = tt
-comes_between (Some xs) None h c e n = absurd c
-comes_between (Some xs) (Some ys) h c e n = c ∙ ap (λ l. l ++ ys) n ∙ e
-
--- some bytes of a length were left
-pub comes_short : (a b : Option (List ℕ)) (h : List ℕ) → Consumes a b h → IsAtEnd b → 0 < length h → length h < 4 → Comes (End Inside) a b
-comes_short None b h c e low high = tt
-comes_short (Some xs) None h c e low high = absurd c
-comes_short (Some xs) (Some ys) h c e low high =
-    let same : xs ≡ h = c ∙ ap (λ l. h ++ l) e ∙ append-nil h in
-    in_header (rw same low) (rw same high)
-
--- a length past the limit came
-pub comes_too_long : (a b : Option (List ℕ)) (h : List ℕ) → Consumes a b h → length h ≡ 4 → frame_limit < big_number 4 h → Comes (End TooLong) a b
-comes_too_long None b h c four long = tt
-comes_too_long (Some xs) None h c four long = absurd c
-comes_too_long (Some xs) (Some ys) h c four long = record { header = h; rest = ys; four = four; long = long; whole = c }
-
 partial_body : (a b d : Option (List ℕ)) (h t : List ℕ) → Consumes a b h → Consumes b d t → IsAtEnd d → length h ≡ 4 → big_number 4 h ≤ frame_limit
     → length t < big_number 4 h → Comes (End Inside) a d
 partial_body None b d h t p q e four low short = tt

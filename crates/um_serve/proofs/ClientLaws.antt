@@ -135,9 +135,6 @@ own_to k (Some t) w (Some v) said says = (v, refl, own_where w.is_over k w t.out
 
 -- ---- what is said in a round
 
-not_lt : (k n : ℕ) → n ≤ k → k < n → ⊥
-not_lt k n ge lt = omega (arith, ge, lt)
-
 above : (n k : ℕ) (ts : List Session) (old : List Waits) (said : List Event) (new : List Waits) → n ≤ k → SaysBelow n ts old said new → taken_of k said ≡ []
 unfolding SaysBelow
 above zero k ts old said new ge says = ap (taken_of k) says
