@@ -1,14 +1,17 @@
 -- A scan of the units finds the least deadline past a moment.
 use Rattle.std.specs.Option.{MatchOption}
-use Rattle.std.proofs.Common.{◌≡◌, ◌<◌, ◌≤◌, ◌++◌, ◌∷◌, [], ◌∙◌, ◌||◌, ◌&&◌, ℕ, List, map as each, Bool, true, false, nat_le, cond, Option, Some, None, unwrap_or, refl, sym, ap, subst, inl, inr, arith, true≢false}
-use Rattle.std.specs.FinMap as map
-use Rattle.std.specs.List.{list_all}
+use Rattle.std.proofs.Common.{◌≡◌, ◌<◌, ◌≤◌, ◌∙◌, ◌+◌, ◌||◌, ℕ, List, Bool, true, false, nat_le, cond, Option, Some, None, length, refl, sym, ap, subst, inl, inr, arith, true≢false}
 use Rattle.std.proofs.lemmas.Bool.{cases_lt}
 use Rattle.std.proofs.lemmas.Bool.Decides.{nat_tests}
+use Rattle.std.proofs.lemmas.List.{get_or_past}
 use Rattle.std.proofs.lemmas.Option.{same_Some, none-some}
-use Rattle.um_model.proofs.EntriesLaws.{at_each}
-use Rattle.um_model.specs.Service.{ByUnit, state_of_unit, dead_unit}
+use Rattle.um_model.specs.Service.{state_of_unit, dead_unit}
+use Rattle.um_model.specs.Standing.{Table}
 use Rattle.um_model.specs.declared.service.UnitState.{UnitState}
+use Rattle.um_name.specs.Names.{AreAscending, name_at}
+use Rattle.um_state.specs.Finding.{row_at}
+use Rattle.um_state.specs.Tables.{units_by}
+use Rattle.um_state.proofs.FindingLaws.{of_each, told_row}
 use Rattle.um_serve.specs.Scan.{sooner, sooner_past}
 use Rattle.um_serve.specs.Sleep.{NoneAfter, IsNextAfter}
 
@@ -18,16 +21,13 @@ is_kept moment next None = true
 is_kept moment None (Some d) = nat_le d moment
 is_kept moment (Some n) (Some d) = nat_le d moment || nat_le n d
 
--- the deadline of a unit
-abbrev pub of_unit : ByUnit UnitState → List ℕ → Option ℕ
-of_unit units unit = (state_of_unit units unit).deadline
+-- none of the first rows has a deadline past the moment that is sooner
+abbrev pub AreKept : List UnitState → ℕ → Option ℕ → ℕ → Type 0
+AreKept rows moment next count = (i : ℕ) → i < count → is_kept moment next (row_at rows i).deadline ≡ true
 
--- what was found so far stands at a unit, past the moment
-abbrev pub IsFound : ByUnit UnitState → ℕ → Option ℕ → Type 0
-IsFound units moment next = (d : ℕ) → next ≡ Some d → (unit : List ℕ) × (of_unit units unit ≡ Some d) × (moment < d)
-
-abbrev all_kept : ByUnit UnitState → ℕ → Option ℕ → List (List ℕ) → Bool
-all_kept units moment next names = list_all (λ unit. is_kept moment next (of_unit units unit)) names
+-- what was found so far stands in a row, past the moment
+abbrev pub IsFound : List UnitState → ℕ → Option ℕ → Type 0
+IsFound rows moment next = (d : ℕ) → next ≡ Some d → (i : ℕ) × (i < length rows) × ((row_at rows i).deadline ≡ Some d) × (moment < d)
 
 or_true : (a : Bool) → (a || true) ≡ true
 or_true true = refl
@@ -68,23 +68,7 @@ from_none : (moment d : ℕ) (o : Option ℕ) → is_kept moment None o ≡ true
 from_none moment d None kept = refl
 from_none moment d (Some x) kept = ap (λ b. b || nat_le d x) kept
 
-both_true : (a b c d : Bool) → (a ≡ true → c ≡ true) → (b ≡ true → d ≡ true) → (a && b) ≡ true → (c && d) ≡ true
-both_true true true c d here rest e = ap (λ x. x && d) (here refl) ∙ rest refl
-both_true true false c d here rest e = absurd (true≢false (sym e))
-both_true false b c d here rest e = absurd (true≢false (sym e))
-
-each_kept : (f : List ℕ → Option ℕ) (moment : ℕ) (next later : Option ℕ) (names : List (List ℕ)) → ((o : Option ℕ) → is_kept moment next o ≡ true → is_kept moment later o ≡ true)
-    → list_all (λ unit. is_kept moment next (f unit)) names ≡ true → list_all (λ unit. is_kept moment later (f unit)) names ≡ true
-each_kept f moment next later [] keeps all = refl
-each_kept f moment next later (name ∷ names) keeps all =
-    both_true (is_kept moment next (f name)) (list_all (λ unit. is_kept moment next (f unit)) names) (is_kept moment later (f name))
-    (list_all (λ unit. is_kept moment later (f unit)) names) (keeps (f name)) (each_kept f moment next later names keeps) all
-
-one_more : (f : List ℕ → Bool) (names : List (List ℕ)) (name : List ℕ) → list_all f names ≡ true → f name ≡ true → list_all f (names ++ name ∷ []) ≡ true
-one_more f [] name all here = ap (λ b. b && true) here
-one_more f (n ∷ names) name all here = both_true (f n) (list_all f names) (f n) (list_all f (names ++ name ∷ [])) (λ e. e) (λ more. one_more f names name more here) all
-
--- one more unit is kept, and so are those before it
+-- one more row is kept, and so are those before it
 next_one : (moment : ℕ) (next : Option ℕ) (o : Option ℕ)
     → ((p : Option ℕ) → is_kept moment next p ≡ true → is_kept moment (sooner_past moment next o) p ≡ true) × (is_kept moment (sooner_past moment next o) o ≡ true)
 next_one moment next None = ((λ p kept. kept), refl)
@@ -112,60 +96,75 @@ next_one moment (Some n) (Some d) = elim (cases_lt moment d) [
       (sym (passes moment d (Some n) le)) ((λ p kept. kept), ap (λ b. b || nat_le n d) (le_true d moment le))
 ]
 
-pub kept_more : (units : ByUnit UnitState) (moment : ℕ) (next : Option ℕ) (names : List (List ℕ)) (name : List ℕ)
-    → list_all (λ unit. is_kept moment next (of_unit units unit)) names ≡ true
-    → list_all (λ unit. is_kept moment (sooner_past moment next (of_unit units name)) (of_unit units unit)) (names ++ name ∷ []) ≡ true
-kept_more units moment next names name all =
-    let later = sooner_past moment next (of_unit units name) in
-    let one = next_one moment next (of_unit units name) in
-    one_more (λ unit. is_kept moment later (of_unit units unit)) names name (each_kept (of_unit units) moment next later names one.0 all) one.1
+pub kept_more : (rows : List UnitState) (moment : ℕ) (next : Option ℕ) (i : ℕ) → AreKept rows moment next i
+    → AreKept rows moment (sooner_past moment next (row_at rows i).deadline) (i + 1)
+kept_more rows moment next i kept j lt =
+    let later = sooner_past moment next (row_at rows i).deadline in
+    let one = next_one moment next (row_at rows i).deadline in
+    elim (cases_lt j i) as (λ _. is_kept moment later (row_at rows j).deadline ≡ true) [
+      | inl less ↦ one.0 (row_at rows j).deadline (kept j less)
+      | inr le ↦ let same : i ≡ j = omega (arith, lt, le) in subst (λ k. is_kept moment later (row_at rows k).deadline ≡ true) same one.1
+    ]
 
-found_at : (units : ByUnit UnitState) (moment : ℕ) (next : Option ℕ) (name : List ℕ) (o : Option ℕ) → of_unit units name ≡ o → IsFound units moment next
-    → IsFound units moment (sooner_past moment next o)
-found_at units moment next name None at found = found
-found_at units moment None name (Some d) at found = elim (cases_lt moment d) [
-  | inl lt ↦ λ e is. (let same = same_Some d e (sym (counts moment d None lt) ∙ is) in (name, at ∙ ap Some same, subst (λ n. moment < n) same lt))
+found_at : (rows : List UnitState) (moment : ℕ) (next : Option ℕ) (i : ℕ) → i < length rows → (o : Option ℕ) → (row_at rows i).deadline ≡ o → IsFound rows moment next
+    → IsFound rows moment (sooner_past moment next o)
+found_at rows moment next i within None at found = found
+found_at rows moment None i within (Some d) at found = elim (cases_lt moment d) [
+  | inl lt ↦ λ e is. (let same = same_Some d e (sym (counts moment d None lt) ∙ is) in (i, within, at ∙ ap Some same, subst (λ n. moment < n) same lt))
   | inr le ↦ λ e is. found e (sym (passes moment d None le) ∙ is)
 ]
-found_at units moment (Some n) name (Some d) at found = elim (cases_lt moment d) [
+found_at rows moment (Some n) i within (Some d) at found = elim (cases_lt moment d) [
   | inl lt ↦
       elim (cases_lt d n) [
-        | inl less ↦ λ e is. (let same = same_Some d e (sym (counts moment d (Some n) lt ∙ gives_way n d less) ∙ is) in (name, at ∙ ap Some same, subst (λ n. moment < n) same lt))
+        | inl less ↦ λ e is. (let same = same_Some d e (sym (counts moment d (Some n) lt ∙ gives_way n d less) ∙ is) in (i, within, at ∙ ap Some same, subst (λ n. moment < n) same lt))
         | inr more ↦ λ e is. found e (sym (counts moment d (Some n) lt ∙ stays n d more) ∙ is)
       ]
   | inr le ↦ λ e is. found e (sym (passes moment d (Some n) le) ∙ is)
 ]
 
-pub found_more : (units : ByUnit UnitState) (moment : ℕ) (next : Option ℕ) (name : List ℕ) → IsFound units moment next
-    → IsFound units moment (sooner_past moment next (of_unit units name))
-found_more units moment next name found = found_at units moment next name (of_unit units name) refl found
+pub found_more : (rows : List UnitState) (moment : ℕ) (next : Option ℕ) (i : ℕ) → i < length rows → IsFound rows moment next
+    → IsFound rows moment (sooner_past moment next (row_at rows i).deadline)
+found_more rows moment next i within found = found_at rows moment next i within (row_at rows i).deadline refl found
 
 -- ---- all units
-
-in_entries : (f : List ℕ → Bool) (es : List (List ℕ × UnitState)) → list_all f (each (λ e. e.0) es) ≡ list_all (λ e. f e.0) es
-in_entries f [] = refl
-in_entries f (e ∷ es) = ap (λ b. f e.0 && b) (in_entries f es)
-
-kept_at : (units : ByUnit UnitState) (moment : ℕ) (next : Option ℕ) → list_all (λ unit. is_kept moment next (of_unit units unit)) (map.keys units) ≡ true
-    → (unit : List ℕ) (o : Option UnitState) → map.get units unit ≡ o → (d : ℕ) → of_unit units unit ≡ Some d → is_kept moment next (Some d) ≡ true
-kept_at units moment next all unit None at d is = absurd (none-some d (ap (λ (o : Option UnitState). (unwrap_or o dead_unit).deadline) (sym at) ∙ is))
-kept_at units moment next all unit (Some u) at d is =
-    ap (is_kept moment next) (sym is)
-    ∙ at_each (λ e. is_kept moment next (of_unit units e.0)) units (sym (in_entries (λ unit. is_kept moment next (of_unit units unit)) (map.entries units)) ∙ all) unit u at
 
 either_le : (a b : Bool) → (a || b) ≡ true → a ≡ false → b ≡ true
 either_le true b e f = absurd (true≢false f)
 either_le false b e f = e
 
--- what a scan of all units found is the next deadline
-pub next_of : (units : ByUnit UnitState) (moment : ℕ) (next : Option ℕ) → list_all (λ unit. is_kept moment next (of_unit units unit)) (map.keys units) ≡ true
-    → IsFound units moment next → MatchOption next (NoneAfter units moment) (IsNextAfter units moment)
-next_of units moment None all found = λ unit d is. le_of d moment (kept_at units moment None all unit (map.get units unit) refl d is)
-next_of units moment (Some n) all found =
-    let it = found n refl in
-    record {
-      unit = it.0;
-      waits = it.1;
-      past = it.2;
-      least = λ other later is lt. le_of n later (either_le (nat_le later moment) (nat_le n later) (kept_at units moment (Some n) all other (map.get units other) refl later is) (le_false later moment lt));
-    }
+module _ (t : Table UnitState) (rows : List UnitState) (held : units_by t.names rows ≡ t.held) (len : length rows ≡ length t.names) (sorted : AreAscending t.names)
+    (moment : ℕ) (next : Option ℕ) (kept : AreKept rows moment next (length rows)) where
+  seen : record { names = t.names; held = units_by t.names rows } ≡ t
+  seen = ap (λ h. record { names = t.names; held = h }) held
+
+  abbrev IsKeptHere : UnitState → Type 0
+  IsKeptHere u = (d : ℕ) → u.deadline ≡ Some d → is_kept moment next (Some d) ≡ true
+
+  of_dead : IsKeptHere dead_unit
+  of_dead d is = absurd (none-some d is)
+
+  of_row : (i : ℕ) → IsKeptHere (row_at rows i)
+  of_row i = elim (cases_lt i (length rows)) as (λ _. IsKeptHere (row_at rows i)) [
+    | inl lt ↦ λ d is. ap (is_kept moment next) (sym is) ∙ kept i lt
+    | inr le ↦ subst IsKeptHere (sym (get_or_past rows i dead_unit le)) of_dead
+  ]
+
+  kept_at : (unit : List ℕ) → IsKeptHere (state_of_unit t.held unit)
+  kept_at = of_each t t.names rows seen sorted IsKeptHere of_dead of_row
+
+  of_found : (n : ℕ) → next ≡ Some n → IsFound rows moment next → IsNextAfter t.held moment n
+  of_found n is found =
+      let it = found n is in
+      record {
+        unit = name_at t.names it.0;
+        waits = ap (λ (u : UnitState). u.deadline) (sym (told_row t t.names rows seen sorted it.0 (subst (λ l. it.0 < l) len it.1))) ∙ it.2.0;
+        past = it.2.1;
+        least = λ other later waits lt.
+            le_of n later (either_le (nat_le later moment) (nat_le n later) (ap (λ o. is_kept moment o (Some later)) (sym is) ∙ kept_at other later waits) (le_false later moment lt));
+      }
+
+-- what a scan of all rows found is the next deadline
+pub next_of : (t : Table UnitState) (rows : List UnitState) → units_by t.names rows ≡ t.held → length rows ≡ length t.names → AreAscending t.names
+    → (moment : ℕ) (next : Option ℕ) → AreKept rows moment next (length rows) → IsFound rows moment next → MatchOption next (NoneAfter t.held moment) (IsNextAfter t.held moment)
+next_of t rows held len sorted moment None kept found = λ unit d is. le_of d moment (kept_at t rows held len sorted moment None kept unit d is)
+next_of t rows held len sorted moment (Some n) kept found = of_found t rows held len sorted moment (Some n) kept n refl found

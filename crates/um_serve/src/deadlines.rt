@@ -1,10 +1,9 @@
 //! Which deadline comes next.
 
-ghost use Rattle.std.specs.Prelude.{◌≡◌, MatchOption, IfOk};
+ghost use Rattle.std.specs.Prelude.{◌≡◌, MatchOption};
 ghost use Rattle.um_serve.specs.Scan.{sooner_past};
 ghost use Rattle.um_serve.specs.Sleep.{NoneAfter, IsNextAfter};
 
-use std::alloc::AllocError;
 use um_model::{Deadline, Moment};
 use um_state::Units;
 
@@ -28,14 +27,13 @@ fn sooner_past(
     }
 }
 
-/// The least deadline past a moment that a unit has; none where none has one.
-pub fn next_deadline(units: &Units, moment: Moment) -> Result<Option<Deadline>, AllocError>
-    ensures { IfOk result (λ next. MatchOption next (NoneAfter units.now.held moment) (IsNextAfter units.now.held moment)) }
+/// The least deadline past a moment that a unit has; none where none has one. It takes no memory.
+pub fn next_deadline(units: &Units, moment: Moment) -> Option<Deadline>
+    ensures { MatchOption result (NoneAfter units.now.held moment) (IsNextAfter units.now.held moment) }
 {
-    let names = units.names()?;
     let mut next = None;
-    for unit in &names {
-        next = sooner_past(moment, next, units.get(unit).deadline);
+    for unit in units.rows() {
+        next = sooner_past(moment, next, unit.deadline);
     }
-    Ok(next)
+    next
 }

@@ -145,7 +145,7 @@ impl<G: Gate> Buffered<G> {
     ) -> Result<Option<Deadline>, AllocError>
         ensures { IfOk result (λ deadline. IsSleptFor (state_in manager.now.keeper) self.now.turned deadline) }
     {
-        next_deadline(manager.state().units(), self.turned)
+        Ok(next_deadline(manager.state().units(), self.turned))
     }
 
     /// An accept and a read of each open connection; of those that are held back nothing is read. Where there is no room for what a read may give
