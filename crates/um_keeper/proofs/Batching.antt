@@ -83,17 +83,9 @@ pub back_append : (xs ys : List Back) (s : Standing) → state_before_all (xs ++
 back_append [] ys s = refl
 back_append (x ∷ xs) ys s = ap (state_before x) (back_append xs ys s)
 
--- ---- one input of those that are left
-
 -- the answers with one more, and those behind it
 pub appended : (more all : List Answer) (answer : Answer) (rest : List Answer) → all ≡ more ++ answer ∷ [] → all ++ rest ≡ more ++ (answer ∷ rest)
 appended more all answer rest is = ap (λ l. l ++ rest) is ∙ append_assoc more (answer ∷ []) rest
-
-module _ {size : ℕ} {s t : State} {input : Input} {left more : List Input} {answer : Answer} (is : left ≡ input ∷ more) (answered : Answered size s input answer t) where
-
-  -- what a crash leaves meanwhile
-  module _ {old mid new : Past} {layout l : Layout} {h h' : Bool} (on : size ≡ body_limit layout) (same : l ≡ layout) (honest : h' ≡ h)
-      (one : IsTrue h → During old mid (IsBegun layout s (where_step answer input))) where
 
 -- ---- what is to be recorded
 
