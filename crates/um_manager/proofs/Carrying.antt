@@ -14,6 +14,13 @@ use Rattle.um_model.specs.declared.service.UnitState.{UnitState}
 use Rattle.um_fates.specs.Live.{has, is_live, HasFewLive}
 use Rattle.um_manager.specs.Orders.{Grew}
 
+-- a history that is whole after a call was so before it
+pub keeps_whole : {T : Type 0} (result : Result T ChildFault) (old new : Bool) → KeepsWhole result old new → IsTrue new → IsTrue old
+keeps_whole (Ok x) old new same whole = subst (λ b. IsTrue b) same whole
+keeps_whole (Err fault.NoMemory) old new same whole = subst (λ b. IsTrue b) same whole
+keeps_whole (Err fault.TooLong) old new same whole = subst (λ b. IsTrue b) same whole
+keeps_whole (Err fault.Device) old new kept whole = kept whole
+
 cons≢nil : {X : Type 0} {x : X} {xs : List X} → x ∷ xs ≡ [] → ⊥
 cons≢nil e = cc
 
@@ -39,6 +46,15 @@ grew_more units a b c k l m xs ys p q = record {
       ∙ ap (λ b. has n k || b) (sym (list_any-append _ (refused p.given) (refused q.given)) ∙ ap (has n) (sym (flat_map-append refusals_in p.given q.given)));
 }
 
+-- an order that was taken
+pub grew_taken : (units : ByUnit UnitState) (a b : List Call) (s : Spawn) (starts : Bool) (marks : List ℕ) → b ≡ a ++ Spawned s true starts ∷ [] → Grew units a b marks marks (spawn_action s ∷ [])
+grew_taken units a b s starts marks e = record {
+  given = Spawned s true starts ∷ [];
+  past_is = e;
+  orders_are = refl;
+  no_tale = refl;
+  kept = refl;
+  marks_are = λ few n h. sym (or_false (has n marks));
 }
 
 -- one that was refused
@@ -53,6 +69,14 @@ grew_refused units a b s starts k m e marked = record {
   marks_are = marked;
 }
 
+pub grew_signal : (units : ByUnit UnitState) (a b : List Call) (n : ℕ) (signal : Signal) (marks : List ℕ) → b ≡ a ++ Signalled n signal ∷ [] → Grew units a b marks marks (SendSignal n signal ∷ [])
+grew_signal units a b n signal marks e = record {
+  given = Signalled n signal ∷ [];
+  past_is = e;
+  orders_are = refl;
+  no_tale = refl;
+  kept = refl;
+  marks_are = λ few n h. sym (or_false (has n marks));
 }
 
 -- where no order was given, no fate was asked and nothing was let go there was no call
