@@ -157,8 +157,8 @@ module _ (t : Table UnitState) (rows : List UnitState) (held : units_by t.names 
       let it = found n is in
       record {
         unit = name_at t.names it.0;
-        waits = ap (λ (u : UnitState). u.deadline) (sym (told_row t t.names rows seen sorted it.0 (subst (λ l. it.0 < l) len it.1))) ∙ it.2.0;
-        past = it.2.1;
+        waits = ap (λ (u : UnitState). u.deadline) (sym (told_row t t.names rows seen sorted it.0 (subst (λ l. it.0 < l) len it.1))) ∙ it.2;
+        past = it.3;
         least = λ other later waits lt.
             le_of n later (either_le (nat_le later moment) (nat_le n later) (ap (λ o. is_kept moment o (Some later)) (sym is) ∙ kept_at other later waits) (le_false later moment lt));
       }
