@@ -1,5 +1,5 @@
 -- The set of the names that were followed: with one name more, and of a state of the search that is the same one.
-use Rattle.std.proofs.Common.{◌≡◌, ◌⊎◌, ◌++◌, ◌∷◌, ◌∙◌, ℕ, Bool, true, false, true≢false, cond, List, [], Contains, Some, is_some, refl, sym, ap, subst, inl, inr}
+use Rattle.std.proofs.Common.{◌≡◌, ◌++◌, ◌∷◌, ◌∙◌, ℕ, Bool, true, false, true≢false, cond, List, [], Contains, Some, is_some, refl, sym, ap, subst, inl, inr}
 use Rattle.std.specs.Cmp.{eq_by_cmp_equiv}
 use Rattle.std.specs.Cmp.Lexicographic.{slice_cmp, nat_list_cmp_total}
 use Rattle.std.specs.HashSet.{HashSet, contains}

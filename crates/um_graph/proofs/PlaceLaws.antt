@@ -1,5 +1,5 @@
 -- Names that ascend: the place of a name is its number, and one list alone has just these names.
-use Rattle.std.proofs.Common.{◌≡◌, ◌⊎◌, ◌<◌, ◌||◌, ◌∙◌, ℕ, suc, Bool, true, false, true≢false, cond, List, [], ◌∷◌, length, AllPairs, Contains, IfSome, MatchOption, Option, Some, None, option_map, slice_get, Less, Greater, Ordering, refl, sym, ap, subst, inl, inr, arith}
+use Rattle.std.proofs.Common.{◌≡◌, ◌⊎◌, ◌<◌, ◌||◌, ◌∙◌, ℕ, suc, Bool, true, false, true≢false, cond, List, [], ◌∷◌, length, AllPairs, Contains, IfSome, MatchOption, Option, Some, None, option_map, slice_get, refl, sym, ap, subst, inl, inr, arith}
 use Rattle.std.specs.List.{list_any}
 use Rattle.std.specs.Str.{bytes_eq}
 use Rattle.std.proofs.lemmas.Option.{slice_get-get_or}

@@ -1,4 +1,4 @@
-use Rattle.std.proofs.Common.{map, Some, ap, ◌∙◌}
+use Rattle.std.proofs.Common.{Some, ap, ◌∙◌}
 use Rattle.std.proofs.lemmas.List.{take_all}
 use Rattle.um_unit.specs.Sources.{all_assigned}
 use Rattle.um_unit.proofs.assignments.assignments.Goals as goal

@@ -1,4 +1,4 @@
-use Rattle.std.proofs.Common.{◌≡◌, ◌∙◌, ap, map, sym}
+use Rattle.std.proofs.Common.{◌∙◌, ap, map, sym}
 use Rattle.um_model.specs.Units as model
 use Rattle.um_resolve.specs.View.{resolution_of, unit_file_of}
 use Rattle.um_unit.specs.View.{loading_with}

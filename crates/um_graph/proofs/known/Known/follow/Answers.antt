@@ -1,9 +1,6 @@
-use Rattle.std.proofs.Common.{◌≡◌, ◌++◌, ◌∙◌, true, cond, Some, ap, subst, sym}
-use Rattle.std.specs.BTreeMap as sorted
-use Rattle.std.specs.Cmp.Lexicographic.{slice_cmp}
+use Rattle.std.proofs.Common.{◌≡◌, ◌++◌, ◌∙◌, true, cond, ap, subst, sym}
 use Rattle.std.specs.HashSet.{contains}
 use Rattle.std.specs.List.{flat_map}
-use Rattle.std.specs.Ordering.{nat_cmp}
 use Rattle.std.specs.Str.{bytes_eq}
 use Rattle.um_model.specs.Dependencies.{loadable_of}
 use Rattle.um_model.specs.Units.{load}
@@ -42,7 +39,7 @@ pub returns-clause-followed : goal.returns-clause-followed
 returns-clause-followed c =
     let old = c.args.self.now in
     let follows = one_followed old.loaded c.insert-2.new.self old.followed c.insert.new.self c.args.name c.in_ok-loading.loading c.requires
-        (λ x. c.in_ok-insert.ensures.updates.0 x ∙ ap (λ n. cond (bytes_eq n x) true (contains bytes_eq old.followed x)) c.in_ok-copy.ensures)
-        c.in_ok-insert-2.ensures.updates.0 in
+    (λ x. c.in_ok-insert.ensures.updates.0 x ∙ ap (λ n. cond (bytes_eq n x) true (contains bytes_eq old.followed x)) c.in_ok-copy.ensures)
+    c.in_ok-insert-2.ensures.updates.0 in
     subst (λ m. AreFollowed m c.take.new.self.followed) (sym c.in_ok-take.ensures.loaded)
     (subst (λ f. AreFollowed c.insert-2.new.self f) (sym c.in_ok-take.ensures.followed) follows)
