@@ -1,8 +1,8 @@
 -- The job that begins next by the graph is the one that begins next by the tree.
-use Rattle.std.proofs.Common.{◌≡◌, ◌≢◌, ◌∙◌, ◌+◌, ◌<◌, ◌≤◌, ℕ, Bool, true, false, ◌||◌, true≢false, List, length, replicate, set, sum_by, Contains, Option, Some, None, Result, Ok, Err, IsOk, ◌↔◌, MatchOption, slice_get, unwrap_or, refl, sym, ap, subst, inl, inr, arith}
+use Rattle.std.proofs.Common.{◌≡◌, ◌≢◌, ◌∙◌, ◌+◌, ◌<◌, ◌≤◌, ℕ, Bool, true, false, ◌||◌, true≢false, List, length, set, sum_by, Contains, Option, Some, None, Result, Ok, Err, IsOk, ◌↔◌, MatchOption, slice_get, unwrap_or, refl, sym, ap, subst, inl, inr, arith}
 use Rattle.std.proofs.lemmas.Bool.{cases_lt}
 use Rattle.std.proofs.lemmas.Grind.{get_or-set_at}
-use Rattle.std.proofs.lemmas.List.{get_or-set_other, get_or_past, length-replicate, length-set}
+use Rattle.std.proofs.lemmas.List.{get_or-set_other, get_or_past, length-set}
 use Rattle.std.proofs.lemmas.Option.{none-some, same_Some}
 use Rattle.std.specs.FinMap as map
 use Rattle.um_model.specs.Jobs.{Job, BeginsNext, ComesBefore, GoesBefore, IsReady, IsToldBefore, cancelled, job_of, jobs_of_unit, no_jobs, with_job, with_jobs, of_one_unit, starts, state_of_job, stops, stops_then_starts, stops_then_starts_before}
@@ -36,14 +36,14 @@ use Rattle.um_falling.proofs.TakenLaws.{before_by, stands_by}
 
 -- ---- the jobs by number are filled
 
--- as they are made: of no unit is told whether it counts as deactivating
+-- as they are filled in: of no unit is told whether it counts as deactivating
 pub none_told : (g : GraphView) (s : State) (v : JobsView) (pending : List UnitJobs) → IsGraph g → v.graph ≡ g → length pending ≡ length g.names → ArePending g s pending
-    → v.units ≡ pending → v.held ≡ replicate (length g.names) false → TellsBelow g s 0 v
-none_told g s v pending graph same long pends e f = record {
+    → v.units ≡ pending → length v.held ≡ length g.names → TellsBelow g s 0 v
+none_told g s v pending graph same long pends e wide = record {
   graph = graph;
   same = same;
   long = ap length e ∙ long;
-  wide = ap length f ∙ length-replicate (length g.names) false;
+  wide = wide;
   jobs = subst (ArePending g s) (sym e) pends;
   held = λ i unit below. absurd (omega (arith, below));
 }
