@@ -19,7 +19,7 @@ use Rattle.um_graph.specs.Graph.{GraphView}
 use Rattle.um_falling.specs.Work.{WorkView}
 use Rattle.um_falling.proofs.AlongLaws.{pending_apart, units_apart}
 use Rattle.um_engine.specs.Known.{KnownView, KnowsFor}
-use Rattle.um_engine.specs.Served.{ServedView, begun_at, standing_of}
+use Rattle.um_engine.specs.Served.{ServedView, begun_at, standing_of, trees_weight}
 use Rattle.um_engine.proofs.KnownLaws.{knows_still}
 
 module _ (k : KnownView) where
@@ -66,6 +66,21 @@ module _ (k : KnownView) where
 
   pub back_knows : (d : Delta) (s : Standing) → Stands s → Stands (delta_before d s)
   back_knows d s h = timed_knows d.clock d.next (rows_before d.rows.items s) (before_knows d.rows.items s h)
+
+  -- their trees weigh what they did
+  after_weighs : (rows : List Row) (s : Standing) → trees_weight (rows_after rows s).state ≡ trees_weight s.state
+  after_weighs [] s = refl
+  after_weighs (r ∷ rows) s = after_weighs rows (put_row r s)
+
+  before_weighs : (rows : List Row) (s : Standing) → trees_weight (rows_before rows s).state ≡ trees_weight s.state
+  before_weighs [] s = refl
+  before_weighs (r ∷ rows) s = before_weighs rows s
+
+  pub delta_weighs : (d : Delta) (s t : Standing) (n : ℕ) → t ≡ delta_after d s → n ≡ trees_weight s.state → n ≡ trees_weight t.state
+  delta_weighs d s t n is so = so ∙ (sym (after_weighs d.rows.items (timed d.clock d.next s)) ∙ ap (λ (x : Standing). trees_weight x.state) (sym is))
+
+  pub undo_weighs : (d : Delta) (s t : Standing) (n : ℕ) → t ≡ delta_before d s → n ≡ trees_weight s.state → n ≡ trees_weight t.state
+  undo_weighs d s t n is so = so ∙ (sym (before_weighs d.rows.items s) ∙ ap (λ (x : Standing). trees_weight x.state) (sym is))
 
   -- the standing of what is served is that of its state
   pub standing_so : (s : Standing) → s.names ≡ k.graph.names → standing_of (record { state = s.state; known = k }) ≡ s

@@ -1,9 +1,10 @@
 -- A state with what is known of its units, and the standing that both make.
 -- Follows no manual page: it is how the engine keeps what it knows of units.
 -- The engine, its steps and the ways back stand on this file.
-use Rattle.std.specs.Prelude.{◌≡◌, ℕ, []}
+use Rattle.std.specs.Prelude.{◌≡◌, ◌+◌, ℕ, []}
 use Rattle.um_model.specs.Machine.{State}
 use Rattle.um_model.specs.Standing.{Standing}
+use Rattle.um_model.specs.Weight.{tree_weight}
 use Rattle.um_falling.specs.Work.{WorkView}
 use Rattle.um_graph.specs.Graph.{GraphView}
 use Rattle.um_state.specs.View.{state_of}
@@ -16,6 +17,10 @@ pub record ServedView : Type 0 where
 -- the names that have a number are those of the graph
 abbrev pub standing_of : ServedView → Standing
 standing_of v = record { state = v.state; names = v.known.graph.names }
+
+-- what the trees of a state weigh together
+abbrev pub trees_weight : State → ℕ
+trees_weight s = tree_weight s.tree + tree_weight s.loaded
 
 -- a step in work that begins in this standing, at the moment
 abbrev pub begun_at : Standing → GraphView → ℕ → WorkView

@@ -38,11 +38,11 @@ fn units(alloc: Global, served: &Served) -> Result<usize, AllocError>
     count_of(alloc, state.loaded(), &held)
 }
 
-/// What a state weighs with trees of these weights and so many units; nothing where the number would be too great for a `u64`.
-fn weight(tree: u64, loaded: u64, units: usize) -> Option<u64>
-    ensures { MatchOption result (2 ^ 64 ≤ 256 + tree + loaded + 2048 * units) (λ w. w ≡ 256 + tree + loaded + 2048 * units) }
+/// What a state weighs with trees that weigh so much and so many units; nothing where the number would be too great for a `u64`.
+fn weight(trees: u64, units: usize) -> Option<u64>
+    ensures { MatchOption result (2 ^ 64 ≤ 256 + trees + 2048 * units) (λ w. w ≡ 256 + trees + 2048 * units) }
 {
-    let trees = tree.checked_add(loaded)?.checked_add(BASE_WEIGHT)?;
+    let trees = trees.checked_add(BASE_WEIGHT)?;
     let units = UNIT_WEIGHT.checked_mul(units as u64)?;
     trees.checked_add(units)
 }
@@ -53,8 +53,7 @@ pub fn check_room(alloc: Global, served: &Served, size: u64) -> Result<(), Refus
     ensures refused { IfErr result (λ e. ¬ (e ≡ NoMemory) → (refused_of e ≡ no_room) × IsTooHeavy size served.now.state) }
 {
     let units = units(alloc, served)?;
-    let state = served.state();
-    match weight(state.tree().weight(), state.loaded().weight(), units) {
+    match weight(served.trees_weight(), units) {
         Some(weight) if weight <= size => Ok(()),
         _ => Err(Refusal::NoRoom),
     }
@@ -129,8 +128,7 @@ pub fn check_room_in(
     ensures refused { IfErr result (λ e. ¬ (e ≡ NoMemory) → (refused_of e ≡ no_room) × IsTooHeavy size (state_of work.now.now)) }
 {
     let units = units_in(alloc, served, work)?;
-    let state = served.state();
-    match weight(state.tree().weight(), state.loaded().weight(), units) {
+    match weight(served.trees_weight(), units) {
         Some(weight) if weight <= size => Ok(()),
         _ => Err(Refusal::NoRoom),
     }

@@ -4,7 +4,7 @@ ghost use Rattle.std.specs.Prelude.{◌≡◌, IfOk, Some};
 ghost use Rattle.std.specs.Coded.{codes};
 ghost use Rattle.std.specs.FinMap as maps;
 ghost use Rattle.um_engine.specs.Known.{IsGraphFor, KnowsFor};
-ghost use Rattle.um_engine.specs.Served.{ServedView, WorksOn, begun_at, standing_of};
+ghost use Rattle.um_engine.specs.Served.{ServedView, WorksOn, begun_at, standing_of, trees_weight};
 ghost use Rattle.um_model.specs.Machine.{IsHeld, IsHeldOr, IsCrowded};
 ghost use Rattle.um_state.specs.Deltas.{delta_after, delta_before};
 ghost use Rattle.um_state.specs.View.{state_of};
@@ -27,6 +27,8 @@ use um_wire::Refusal;
 pub struct Served {
     state: State,
     known: Rc<Known>,
+    /// What the trees weigh together: a step by rows leaves them as they are, so it doesn't go over them.
+    trees: u64,
 }
 
 impl Model for Served {
@@ -36,7 +38,7 @@ impl Model for Served {
 
     ghost view = { λ s. record { state = state_of s.state; known = s.known.value } };
 
-    ghost invariant = { λ s. (s.state.names ≡ s.known.value.graph.names) × KnowsFor s.known.value (state_of s.state) };
+    ghost invariant = { λ s. (s.state.names ≡ s.known.value.graph.names) × KnowsFor s.known.value (state_of s.state) × (s.trees ≡ trees_weight (state_of s.state)) };
 }
 
 impl Served {
@@ -59,9 +61,11 @@ impl Served {
     {
         let mut numbered = state;
         numbered.number(known.names())?;
+        let trees = numbered.tree().weight() + numbered.loaded().weight();
         Ok(Served {
             state: numbered,
             known,
+            trees,
         })
     }
 
@@ -109,6 +113,13 @@ impl Served {
         ensures knows { KnowsFor self.now.known self.now.state }
     {
         &self.state
+    }
+
+    /// What its trees weigh together (`Tree::weight`). It takes no memory, and goes over no tree.
+    pub fn trees_weight(&self) -> u64
+        ensures { result ≡ trees_weight self.now.state }
+    {
+        self.trees
     }
 
     /// What is known of the units.
