@@ -27,6 +27,8 @@ const SPAWNS: &str =
 
 const ALL_DEAD: [SubState; 3] = [SubState::Dead; 3];
 
+const SECOND_ENDED: [SubState; 3] = [SubState::Running, SubState::Dead, SubState::Running];
+
 /// The command at so many microseconds.
 fn obeyed(rt: &impl Abort, micros: u64, command: Command) -> Input {
     Input::new(at(rt, micros), Event::Commanded(command))
@@ -78,18 +80,71 @@ fn take(
     (told(rt, actions.as_slice()), back)
 }
 
+/// Takes the step, which tells so many rows: the way back.
+fn leave(
+    rt: &(impl AllocGlobal + Abort),
+    engine: &mut Engine,
+    input: Input,
+    rows: Option<usize>,
+    shows: &str,
+) -> Back {
+    let (_, back) = take(rt, engine, &input, rows, shows);
+    back
+}
+
+/// Takes the step, which tells so many rows.
+fn step(
+    rt: &(impl AllocGlobal + Abort),
+    engine: &mut Engine,
+    input: Input,
+    rows: Option<usize>,
+    shows: &str,
+) {
+    let _taken = take(rt, engine, &input, rows, shows);
+}
+
+/// Takes a step that changes so many rows and asks this of processes: the way back.
+fn ask(
+    rt: &(impl AllocGlobal + Abort),
+    engine: &mut Engine,
+    input: Input,
+    rows: usize,
+    wanted: &str,
+) -> Back {
+    let (asked, back) = take(rt, engine, &input, Some(rows), "rows of what is asked");
+    same(rt, asked.as_str(), wanted);
+    back
+}
+
+/// The file of a service is put.
+fn add(rt: &(impl AllocGlobal + Abort), engine: &mut Engine, path: &str, content: &str) {
+    step(rt, engine, put(rt, path, content), None, path);
+}
+
+/// The units get known.
+fn load(rt: &(impl AllocGlobal + Abort), engine: &mut Engine) {
+    step(rt, engine, reload(rt), None, "units get known");
+}
+
 /// An engine with the three services, of which the first pulls in the others, as a reload has loaded them at the moment 5.
 fn three(rt: &(impl AllocGlobal + Abort)) -> Engine {
     let mut engine = engine_in(rt, State::empty(rt.alloc()));
-    for (path, content) in [
-        ("lib/a.service", PULLS_IN_TWO),
-        ("lib/b.service", SLEEPS),
-        ("lib/c.service", SLEEPS),
-    ] {
-        let _put = take(rt, &mut engine, &put(rt, path, content), None, "a file");
-    }
-    let _loaded = take(rt, &mut engine, &reload(rt), None, "units get known");
+    add(rt, &mut engine, "lib/a.service", PULLS_IN_TWO);
+    add(rt, &mut engine, "lib/b.service", SLEEPS);
+    add(rt, &mut engine, "lib/c.service", SLEEPS);
+    load(rt, &mut engine);
     engine
+}
+
+/// The three start at the moment 9: the way back.
+fn start_three(rt: &(impl AllocGlobal + Abort), engine: &mut Engine) -> Back {
+    ask(
+        rt,
+        engine,
+        asked(rt, UnitVerb::Start, "a.service"),
+        3,
+        SPAWNS,
+    )
 }
 
 /// How far the unit has come.
@@ -115,70 +170,81 @@ fn subs(rt: &(impl AllocGlobal + Abort), engine: &Engine) -> [SubState; 3] {
 fn a_step_tells_how_many_rows_it_changes(rt: HostRuntime) {
     let mut engine = three(&rt);
     let idle = asked(&rt, UnitVerb::TryRestart, "b.service");
-    let _idle = take(&rt, &mut engine, &idle, Some(0), "no effect on units");
-    let start = asked(&rt, UnitVerb::Start, "a.service");
-    let (spawned, _) = take(&rt, &mut engine, &start, Some(3), "a start of three");
-    same(&rt, spawned.as_str(), SPAWNS);
-    let _end = take(&rt, &mut engine, &ended(&rt, 2), Some(1), "an end");
-    let _late = take(
+    step(&rt, &mut engine, idle, Some(0), "no effect on units");
+    let _back = start_three(&rt, &mut engine);
+    step(&rt, &mut engine, ended(&rt, 2), Some(1), "an end");
+    step(
         &rt,
         &mut engine,
-        &ended(&rt, 2),
+        ended(&rt, 2),
         Some(0),
         "an end of nothing",
     );
 }
 
+/// The job of the unit that waits is dropped, and waits again by the way back.
+fn cancel_and_go_back(rt: &(impl AllocGlobal + Abort), engine: &mut Engine, name: &str) {
+    let unit = unit(rt, name);
+    let cancel = obeyed(rt, 9, Command::Cancel { unit });
+    let back = leave(rt, engine, cancel, Some(1), "its job is dropped");
+    engine.back(back);
+}
+
 #[test]
 fn a_job_that_waits_is_a_row_that_changes(rt: HostRuntime) {
     let mut engine = engine_in(&rt, State::empty(rt.alloc()));
-    for (path, content) in [("lib/f.service", RUNS_ONCE), ("lib/g.service", COMES_LAST)] {
-        let _put = take(&rt, &mut engine, &put(&rt, path, content), None, "a file");
-    }
-    let _loaded = take(&rt, &mut engine, &reload(&rt), None, "units get known");
+    add(&rt, &mut engine, "lib/f.service", RUNS_ONCE);
+    add(&rt, &mut engine, "lib/g.service", COMES_LAST);
+    load(&rt, &mut engine);
     let start = asked(&rt, UnitVerb::Start, "g.service");
-    let _start = take(&rt, &mut engine, &start, Some(2), "one runs and one waits");
-    let unit = unit(&rt, "g.service");
-    let cancel = obeyed(&rt, 9, Command::Cancel { unit });
-    let (_, back) = take(&rt, &mut engine, &cancel, Some(1), "its job is dropped");
+    step(&rt, &mut engine, start, Some(2), "one runs and one waits");
+    cancel_and_go_back(&rt, &mut engine, "g.service");
+    step(&rt, &mut engine, ended(&rt, 1), Some(2), "the next begins");
+}
+
+/// Asserts how far the three have come, and the moment.
+fn stands(rt: &(impl AllocGlobal + Abort), engine: &Engine, wanted: [SubState; 3], micros: u64) {
+    same(rt, subs(rt, engine), wanted);
+    same(rt, engine.clock().micros(), micros);
+}
+
+/// The three start, and the way back is taken.
+fn start_and_go_back(rt: &(impl AllocGlobal + Abort), engine: &mut Engine) {
+    let back = start_three(rt, engine);
+    stands(rt, engine, [SubState::Running; 3], 9);
     engine.back(back);
-    let _end = take(&rt, &mut engine, &ended(&rt, 1), Some(2), "the next begins");
+    stands(rt, engine, ALL_DEAD, 5);
 }
 
 #[test]
 fn the_way_back_leads_to_the_rows_that_were(rt: HostRuntime) {
     let mut engine = three(&rt);
-    let start = asked(&rt, UnitVerb::Start, "a.service");
     for _ in 0..2 {
-        let (spawned, back) = take(&rt, &mut engine, &start, Some(3), "a start of three");
-        same(&rt, spawned.as_str(), SPAWNS);
-        same(&rt, subs(&rt, &engine), [SubState::Running; 3]);
-        same(&rt, engine.clock().micros(), 9);
-        engine.back(back);
-        same(&rt, subs(&rt, &engine), ALL_DEAD);
-        same(&rt, engine.clock().micros(), 5);
+        start_and_go_back(&rt, &mut engine);
     }
+}
+
+/// The second process ends behind a reload by which a unit gets known, and both ways back are taken.
+fn end_and_go_back(rt: &(impl AllocGlobal + Abort), engine: &mut Engine) {
+    let loaded = leave(rt, engine, reload(rt), None, "a unit gets known");
+    let back = leave(rt, engine, ended(rt, 2), Some(1), "an end");
+    same(rt, subs(rt, engine), SECOND_ENDED);
+    engine.back(back);
+    engine.back(loaded);
+    same(rt, subs(rt, engine), [SubState::Running; 3]);
 }
 
 #[test]
 fn rows_have_other_numbers_behind_a_reload(rt: HostRuntime) {
     let mut engine = three(&rt);
-    let start = asked(&rt, UnitVerb::Start, "a.service");
-    let _start = take(&rt, &mut engine, &start, Some(3), "a start of three");
+    let _back = start_three(&rt, &mut engine);
     // by its name it stands before the others
-    let first = put(&rt, "lib/Z.service", SLEEPS);
-    let _put = take(&rt, &mut engine, &first, None, "a file");
-    let wanted = [SubState::Running, SubState::Dead, SubState::Running];
+    add(&rt, &mut engine, "lib/Z.service", SLEEPS);
     for _ in 0..2 {
-        let (_, loaded) = take(&rt, &mut engine, &reload(&rt), None, "a unit gets known");
-        let (_, back) = take(&rt, &mut engine, &ended(&rt, 2), Some(1), "an end");
-        same(&rt, subs(&rt, &engine), wanted);
-        engine.back(back);
-        engine.back(loaded);
-        same(&rt, subs(&rt, &engine), [SubState::Running; 3]);
+        end_and_go_back(&rt, &mut engine);
     }
-    let _end = take(&rt, &mut engine, &ended(&rt, 2), Some(1), "an end");
-    same(&rt, subs(&rt, &engine), wanted);
+    step(&rt, &mut engine, ended(&rt, 2), Some(1), "an end");
+    same(&rt, subs(&rt, &engine), SECOND_ENDED);
 }
 
 /// The file of a service of a chain: each but the first comes after the one before it and requires it.
@@ -205,7 +271,7 @@ fn chain(rt: &(impl AllocGlobal + Abort)) -> Engine {
         put.expect(rt, "not put");
     }
     let mut engine = engine_in(rt, state);
-    let _loaded = take(rt, &mut engine, &reload(rt), None, "the chain gets known");
+    load(rt, &mut engine);
     engine
 }
 
@@ -224,9 +290,7 @@ fn starts(rt: &(impl AllocGlobal + Abort)) -> String {
 fn an_end_in_a_chain_of_1000_changes_one_row(rt: HostRuntime) {
     let mut engine = chain(&rt);
     let start = asked(&rt, UnitVerb::Start, "c1000.service");
-    let (spawned, _) = take(&rt, &mut engine, &start, Some(1000), "all start");
     let wanted = starts(&rt);
-    same(&rt, spawned.as_str(), wanted.as_str());
-    let (more, _) = take(&rt, &mut engine, &ended(&rt, 1), Some(1), "the first ends");
-    same(&rt, more.as_str(), "");
+    let _started = ask(&rt, &mut engine, start, 1000, wanted.as_str());
+    let _ended = ask(&rt, &mut engine, ended(&rt, 1), 1, "");
 }
