@@ -1,6 +1,6 @@
-use Rattle.std.proofs.Common.{◌≡◌, ◌∙◌, ◌+◌, ◌*◌, ap, arith}
+use Rattle.std.proofs.Common.{◌≡◌, arith}
 use Rattle.um_model.specs.Machine.{State}
-use Rattle.um_model.specs.Weight.{tree_weight, weight_of}
+use Rattle.um_model.specs.Weight.{weight_of}
 use Rattle.um_engine.proofs.KnownLaws.{light_by}
 use Rattle.um_engine.proofs.room.check_room.Goals as goal
 

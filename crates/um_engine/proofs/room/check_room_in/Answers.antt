@@ -1,4 +1,4 @@
-use Rattle.std.proofs.Common.{◌≡◌, ◌∙◌, ◌+◌, ◌*◌, ap, sym, arith}
+use Rattle.std.proofs.Common.{◌≡◌, ap, arith}
 use Rattle.um_model.specs.Machine.{State}
 use Rattle.um_model.specs.Weight.{tree_weight, weight_of}
 use Rattle.um_state.specs.View.{state_of}
