@@ -238,10 +238,10 @@ pub changed_more : (was : List UnitState) (had : List UnitJobs) (units : List Un
     → ys ≡ xs ++ one (differ_at was had units jobs) (rows_at units jobs) k → xs ≡ changed was had units jobs k → ys ≡ changed was had units jobs (k + 1)
 changed_more was had units jobs k xs ys e f =
     let test = differ_at was had units jobs in
-    let row = rows_at units jobs in
+    let told = rows_at units jobs in
     let here : k ≡ 0 + k = omega arith in
     let later : suc k ≡ k + 1 = omega arith in
-    e ∙ (ap (λ zs. zs ++ one test row k) f ∙ (ap (λ j. picked test row 0 k ++ one test row j) here ∙ (sym (picked_more test row 0 k) ∙ ap (picked test row 0) later)))
+    e ∙ (ap (λ zs. zs ++ one test told k) f ∙ (ap (λ j. picked test told 0 k ++ one test told j) here ∙ (sym (picked_more test told 0 k) ∙ ap (picked test told 0) later)))
 
 module _ (v : WorkView) (b : Standing) (units : List UnitState) (jobs : List UnitJobs) (m : ℕ) (seen : record { base = b; now = with_rows b units jobs m } ≡ v) (sorted : AreAscending b.names)
     (was : List UnitState) (had : List UnitJobs) (were : units_by b.names was ≡ b.state.units) (had_so : jobs_by b.names had ≡ b.state.pending)
