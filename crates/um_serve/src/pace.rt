@@ -8,7 +8,7 @@ use std::time::Duration;
 use um_model::{Deadline, Moment};
 
 /// Behind a start, a signal or an end it looks again after so many microseconds.
-const SOONEST: u64 = 500;
+const SOONEST: u64 = 250;
 
 /// While processes are live it looks again after so many microseconds at most.
 const LATEST: u64 = 40_000;
@@ -22,7 +22,7 @@ const IDLE: u64 = 1_000_000;
 /// How long is slept between rounds in which nothing came.
 ///
 /// Nothing wakes a manager when a process starts or ends. So while any is live it looks again soon behind a start, a signal or an end, and
-/// then ever later.
+/// then ever later, by an eighth each time.
 #[derive(Clone, Copy, Debug)]
 pub struct Pace {
     /// In microseconds.
@@ -40,14 +40,14 @@ fn until(now: Moment, deadline: Deadline) -> u64
 impl Pace {
     /// Behind a start.
     pub fn new() -> Pace
-        ensures { result.wait ≡ 500 }
+        ensures { result.wait ≡ 250 }
     {
         Pace { wait: SOONEST }
     }
 
     /// A process was started or signalled, or ended.
     pub fn begin(&mut self)
-        ensures { self.new.wait ≡ 500 }
+        ensures { self.new.wait ≡ 250 }
     {
         self.wait = SOONEST;
     }
@@ -62,7 +62,7 @@ impl Pace {
     /// How long is slept now, where processes are live or none is, and a deadline is slept for.
     pub fn next(&mut self, is_live: bool, now: Moment, deadline: Option<Deadline>) -> Duration
         ensures sleeps { as_nanos result ≡ 1000 * slept self.old.wait is_live now deadline }
-        ensures later { self.new.wait ≡ (if is_live then min (self.old.wait + self.old.wait / 2) 40000 else self.old.wait) }
+        ensures later { self.new.wait ≡ (if is_live then min (self.old.wait + self.old.wait / 8) 40000 else self.old.wait) }
     {
         let longest = match deadline {
             Some(deadline) => until(now, deadline).min(IDLE),
@@ -70,7 +70,7 @@ impl Pace {
         };
         let wait = if is_live { self.wait } else { IDLE };
         if is_live {
-            self.wait = (self.wait + self.wait / 2).min(LATEST);
+            self.wait = (self.wait + self.wait / 8).min(LATEST);
         }
         Duration::from_micros(wait.min(longest))
     }

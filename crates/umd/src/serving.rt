@@ -9,7 +9,8 @@ use std::alloc::{AllocError, Global};
 use std::fs::{File, Files};
 use std::net::Net;
 use std::process::Processes;
-use std::time::Clock;
+use std::thread;
+use std::time::{Clock, Duration};
 use um_children::Children;
 use um_gate::{Moments, SocketGate, SystemMoments, system_moment};
 use um_keeper::OpenedStore;
@@ -23,6 +24,9 @@ use um_wire::Refusal;
 
 /// Behind a sleep of so many parts, of 40 ms at most while a process is live, comes a round in any case.
 const PARTS: u32 = 25;
+
+/// The least that the system waits for a socket, in microseconds.
+const LEAST_POLL: u64 = 1000;
 
 /// A block of so many bytes is taken, and given back, before anything is served. From then on the system's allocator keeps twice as much that is
 /// free; before, it would give back what is past 128 KiB behind each turn, and take it anew in the next.
@@ -73,6 +77,7 @@ fn boot_id(alloc: Global, boot: &str) -> Result<BootId, Refusal> {
 /// What goes from one round to the next in the program.
 #[derive(Drop)]
 struct Loop<'a, R> {
+    system: &'a R,
     gate: Buffered<SocketGate>,
     clock: SystemMoments<'a, R>,
     pace: Pace,
@@ -131,16 +136,22 @@ impl<'a, R: Clock> Loop<'a, R> {
         Ok(())
     }
 
+    /// Waits for the gate, no longer than this. A wait for sockets is one of whole milliseconds, so a shorter one is slept, and the gate is looked
+    /// at behind it.
+    fn wait(&mut self, longest: Duration) -> bool {
+        if longest >= Duration::from_micros(LEAST_POLL) {
+            return self.gate.gate.wait(longest);
+        }
+        thread::sleep(self.system, longest);
+        self.gate.gate.wait(Duration::ZERO)
+    }
+
     /// Sleeps until the next deadline, a byte, a client, or news of the processes that are live, a second at most. No round is needed before:
     /// it would take nothing, and its fates would tell nothing new.
     fn sleep<D: Disk, C: Children + News>(&mut self, manager: &Manager<D, C>, is_live: bool) {
         for _ in 0..PARTS {
             let wait = self.pace.next(is_live, self.clock.moment(), self.deadline);
-            if self.gate.gate.wait(wait)
-                || !is_live
-                || manager.children().has_news()
-                || self.is_due()
-            {
+            if self.wait(wait) || !is_live || manager.children().has_news() || self.is_due() {
                 return;
             }
         }
@@ -168,6 +179,7 @@ fn open_loop<'a, R: Files + Net + Clock, E: Eprint>(
         return Err(ends(rt, Refusal::NoMemory));
     };
     Ok(Loop {
+        system,
         gate,
         clock: SystemMoments::starting(system, least),
         pace: Pace::new(),
