@@ -3,3 +3,4 @@ pub mod ServiceView
 pub mod Readings
 pub mod Sources
 pub mod Tests
+pub mod Parts

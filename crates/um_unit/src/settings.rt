@@ -1,14 +1,17 @@
 //! What a unit's files set.
 
-ghost use Rattle.std.specs.Prelude.{◌≡◌, IfOk, map};
+ghost use Rattle.std.specs.Prelude.{◌≡◌, ◌∷◌, [], IfOk, map, string_bytes};
 ghost use Rattle.um_model.specs.Names.{suffix_of};
 ghost use Rattle.um_model.specs.Units as model;
+ghost use Rattle.um_model.specs.declared.transition.UnitKind.TheVariants.{Target};
+ghost use Rattle.um_model.specs.declared.units.ValueKind.TheVariants as kinds;
+ghost use Rattle.um_unit.specs.Parts.{AreExits, AreTimes};
 ghost use Rattle.um_unit.specs.ServiceView.{service_settings_of};
 ghost use Rattle.um_unit.specs.Sources.{assigned_of};
 ghost use Rattle.um_unit.specs.View.{dependencies_of, install_of, said_of, settings_of};
 ghost use Rattle.um_words.specs.Commands.{commands_seen};
 
-use crate::assignments::Assigned;
+use crate::assignments::{Assigned, Key};
 use crate::lists::{commands_of, environment_of, exits_in, install_names, units_named};
 use crate::readings::NameUse;
 use crate::service_settings::ServiceSettings;
@@ -17,6 +20,7 @@ use std::alloc::{AllocError, Global};
 use std::rc::Rc;
 use um_model::{RestartPolicy, Span, Suffix, UnitKind};
 use um_name::UnitName;
+use um_value::ExitSet;
 use um_words::Command;
 
 /// What other units a unit names, each list in order (systemd.unit(5)).
@@ -84,6 +88,46 @@ impl InstallSettings {
     }
 }
 
+/// What the last truth value of the key says, or else the default.
+fn last_truth(
+    alloc: Global,
+    assigned: &[Assigned<'_>],
+    key: Key<'_>,
+    default: bool,
+) -> Result<bool, AllocError>
+    ensures { IfOk result (λ last. last ≡ model.last_said [] kinds.Truth default ((key.entry.0.now, key.entry.1.now) ∷ []) (map assigned_of assigned.now)) }
+{
+    last_read(alloc, &Truth, assigned, &[key], default)
+}
+
+/// What the last time span of the keys says, or else the default.
+fn last_span(
+    alloc: Global,
+    assigned: &[Assigned<'_>],
+    keys: &[Key<'_>],
+    default: Option<Span>,
+) -> Result<Option<Span>, AllocError>
+    ensures { IfOk result (λ last. last ≡ model.last_said [] kinds.Span default (map (λ k. (k.0.now, k.1.now)) keys.now) (map assigned_of assigned.now)) }
+{
+    last_read(alloc, &Delay, assigned, keys, default)
+}
+
+/// The units that two settings of `[Unit]` name.
+fn two_named(
+    alloc: Global,
+    unit: &UnitName,
+    assigned: &[Assigned<'_>],
+    first: &str,
+    second: &str,
+) -> Result<(Vec<String>, Vec<String>), AllocError>
+    ensures first { IfOk result (λ named. map string_bytes named.0.items ≡ model.units_named first.now unit.now (map assigned_of assigned.now)) }
+    ensures second { IfOk result (λ named. map string_bytes named.1.items ≡ model.units_named second.now unit.now (map assigned_of assigned.now)) }
+{
+    let by_first = units_named(alloc, unit, assigned, ("Unit", first))?;
+    let by_second = units_named(alloc, unit, assigned, ("Unit", second))?;
+    Ok((by_first, by_second))
+}
+
 #[tactic(auto, unfolding(um_model::specs::Units::dependencies_of))]
 fn dependencies_of(
     alloc: Global,
@@ -92,21 +136,20 @@ fn dependencies_of(
 ) -> Result<Dependencies, AllocError>
     ensures { IfOk result (λ d. dependencies_of d ≡ model.dependencies_of unit.now (map assigned_of assigned.now)) }
 {
+    let default_dependencies = last_truth(alloc, assigned, ("Unit", "DefaultDependencies"), true)?;
+    let (after, before) = two_named(alloc, unit, assigned, "After", "Before")?;
+    let (wants, required) = two_named(alloc, unit, assigned, "Wants", "Requires")?;
+    let (binds_to, part_of) = two_named(alloc, unit, assigned, "BindsTo", "PartOf")?;
+    let conflicts = units_named(alloc, unit, assigned, ("Unit", "Conflicts"))?;
     Ok(Dependencies {
-        after: units_named(alloc, unit, assigned, ("Unit", "After"))?,
-        before: units_named(alloc, unit, assigned, ("Unit", "Before"))?,
-        wants: units_named(alloc, unit, assigned, ("Unit", "Wants"))?,
-        required: units_named(alloc, unit, assigned, ("Unit", "Requires"))?,
-        binds_to: units_named(alloc, unit, assigned, ("Unit", "BindsTo"))?,
-        part_of: units_named(alloc, unit, assigned, ("Unit", "PartOf"))?,
-        conflicts: units_named(alloc, unit, assigned, ("Unit", "Conflicts"))?,
-        default_dependencies: last_read(
-            alloc,
-            &Truth,
-            assigned,
-            &[("Unit", "DefaultDependencies")],
-            true,
-        )?,
+        after,
+        before,
+        wants,
+        required,
+        binds_to,
+        part_of,
+        conflicts,
+        default_dependencies,
     })
 }
 
@@ -118,18 +161,23 @@ fn install_settings_of(
 ) -> Result<InstallSettings, AllocError>
     ensures { IfOk result (λ i. install_of i ≡ model.install_settings_of unit.now (map assigned_of assigned.now)) }
 {
+    let default_instance = last_read(
+        alloc,
+        &Instance { alloc },
+        assigned,
+        &[("Install", "DefaultInstance")],
+        None,
+    )?;
+    let alias = install_names(alloc, NameUse::Aliases, unit, assigned, "Alias")?;
+    let wanted_by = install_names(alloc, NameUse::Units, unit, assigned, "WantedBy")?;
+    let required_by = install_names(alloc, NameUse::Units, unit, assigned, "RequiredBy")?;
+    let also = units_named(alloc, unit, assigned, ("Install", "Also"))?;
     Ok(InstallSettings {
-        alias: install_names(alloc, NameUse::Aliases, unit, assigned, "Alias")?,
-        wanted_by: install_names(alloc, NameUse::Units, unit, assigned, "WantedBy")?,
-        required_by: install_names(alloc, NameUse::Units, unit, assigned, "RequiredBy")?,
-        also: units_named(alloc, unit, assigned, ("Install", "Also"))?,
-        default_instance: last_read(
-            alloc,
-            &Instance { alloc },
-            assigned,
-            &[("Install", "DefaultInstance")],
-            None,
-        )?,
+        alias,
+        wanted_by,
+        required_by,
+        also,
+        default_instance,
     })
 }
 
@@ -165,6 +213,101 @@ fn unless_zero(span: Option<Span>) -> Option<Span>
     }
 }
 
+fn restart_delay_of(alloc: Global, assigned: &[Assigned<'_>]) -> Result<Option<Span>, AllocError>
+    ensures { IfOk result (λ span. span ≡ (model.service_settings_with [] Target [] (map assigned_of assigned.now)).restart_delay) }
+{
+    let default = Some(Span::from_micros(100_000));
+    last_span(alloc, assigned, &[("Service", "RestartSec")], default)
+}
+
+fn timeout_start_of(
+    alloc: Global,
+    kind: UnitKind,
+    assigned: &[Assigned<'_>],
+) -> Result<Option<Span>, AllocError>
+    ensures { IfOk result (λ span. span ≡ (model.service_settings_with [] kind [] (map assigned_of assigned.now)).timeout_start) }
+{
+    let keys = [("Service", "TimeoutStartSec"), ("Service", "TimeoutSec")];
+    let said = last_span(alloc, assigned, &keys, default_timeout_start(kind))?;
+    Ok(unless_zero(said))
+}
+
+fn timeout_stop_of(alloc: Global, assigned: &[Assigned<'_>]) -> Result<Option<Span>, AllocError>
+    ensures { IfOk result (λ span. span ≡ (model.service_settings_with [] Target [] (map assigned_of assigned.now)).timeout_stop) }
+{
+    let keys = [("Service", "TimeoutStopSec"), ("Service", "TimeoutSec")];
+    let default = Some(Span::from_micros(90_000_000));
+    let said = last_span(alloc, assigned, &keys, default)?;
+    Ok(unless_zero(said))
+}
+
+fn limit_interval_of(alloc: Global, assigned: &[Assigned<'_>]) -> Result<Option<Span>, AllocError>
+    ensures { IfOk result (λ span. span ≡ (model.service_settings_with [] Target [] (map assigned_of assigned.now)).limit_interval) }
+{
+    let keys = [
+        ("Unit", "StartLimitIntervalSec"),
+        ("Service", "StartLimitInterval"),
+    ];
+    last_span(alloc, assigned, &keys, Some(Span::from_micros(10_000_000)))
+}
+
+fn limit_burst_of(alloc: Global, assigned: &[Assigned<'_>]) -> Result<u32, AllocError>
+    ensures { IfOk result (λ burst. burst ≡ (model.service_settings_with [] Target [] (map assigned_of assigned.now)).limit_burst) }
+{
+    let keys = [("Unit", "StartLimitBurst"), ("Service", "StartLimitBurst")];
+    last_read(alloc, &Count, assigned, &keys, 5)
+}
+
+fn restart_of(alloc: Global, assigned: &[Assigned<'_>]) -> Result<RestartPolicy, AllocError>
+    ensures { IfOk result (λ policy. policy ≡ (model.service_settings_with [] Target [] (map assigned_of assigned.now)).restart) }
+{
+    last_read(
+        alloc,
+        &Policy,
+        assigned,
+        &[("Service", "Restart")],
+        RestartPolicy::No,
+    )
+}
+
+/// How long a unit takes and waits.
+#[derive(Clone, Copy)]
+struct Times {
+    restart_delay: Option<Span>,
+    timeout_start: Option<Span>,
+    timeout_stop: Option<Span>,
+    limit_interval: Option<Span>,
+}
+
+fn times_of(alloc: Global, kind: UnitKind, assigned: &[Assigned<'_>]) -> Result<Times, AllocError>
+    ensures { IfOk result (λ times. AreTimes times (model.service_settings_with [] kind [] (map assigned_of assigned.now))) }
+{
+    Ok(Times {
+        restart_delay: restart_delay_of(alloc, assigned)?,
+        timeout_start: timeout_start_of(alloc, kind, assigned)?,
+        timeout_stop: timeout_stop_of(alloc, assigned)?,
+        limit_interval: limit_interval_of(alloc, assigned)?,
+    })
+}
+
+/// Which ends of the main process are told of.
+#[derive(Clone, Copy)]
+struct Exits {
+    success: ExitSet,
+    prevents_restart: ExitSet,
+    forces_restart: ExitSet,
+}
+
+fn exits_of(alloc: Global, assigned: &[Assigned<'_>]) -> Result<Exits, AllocError>
+    ensures { IfOk result (λ exits. AreExits exits (model.service_settings_with [] Target [] (map assigned_of assigned.now))) }
+{
+    Ok(Exits {
+        success: exits_in(alloc, assigned, "SuccessExitStatus")?,
+        prevents_restart: exits_in(alloc, assigned, "RestartPreventExitStatus")?,
+        forces_restart: exits_in(alloc, assigned, "RestartForceExitStatus")?,
+    })
+}
+
 /// The settings of a service of this kind with these commands.
 fn service_settings_with(
     alloc: Global,
@@ -175,66 +318,28 @@ fn service_settings_with(
 ) -> Result<ServiceSettings, AllocError>
     ensures { IfOk result (λ s. service_settings_of s ≡ model.service_settings_with (commands_seen start.items) kind unit.now (map assigned_of assigned.now)) }
 {
+    let times = times_of(alloc, kind, assigned)?;
+    let exits = exits_of(alloc, assigned)?;
+    let remains = last_truth(alloc, assigned, ("Service", "RemainAfterExit"), false)?;
+    let restart = restart_of(alloc, assigned)?;
+    let limit_burst = limit_burst_of(alloc, assigned)?;
+    let environment = environment_of(alloc, unit, assigned)?;
+    let stop = commands_of(alloc, unit, assigned, "ExecStop")?;
     Ok(ServiceSettings {
         kind,
         start,
-        stop: commands_of(alloc, unit, assigned, "ExecStop")?,
-        environment: environment_of(alloc, unit, assigned)?,
-        remains: last_read(
-            alloc,
-            &Truth,
-            assigned,
-            &[("Service", "RemainAfterExit")],
-            false,
-        )?,
-        restart: last_read(
-            alloc,
-            &Policy,
-            assigned,
-            &[("Service", "Restart")],
-            RestartPolicy::No,
-        )?,
-        restart_delay: last_read(
-            alloc,
-            &Delay,
-            assigned,
-            &[("Service", "RestartSec")],
-            Some(Span::from_micros(100_000)),
-        )?,
-        timeout_start: unless_zero(last_read(
-            alloc,
-            &Delay,
-            assigned,
-            &[("Service", "TimeoutStartSec"), ("Service", "TimeoutSec")],
-            default_timeout_start(kind),
-        )?),
-        timeout_stop: unless_zero(last_read(
-            alloc,
-            &Delay,
-            assigned,
-            &[("Service", "TimeoutStopSec"), ("Service", "TimeoutSec")],
-            Some(Span::from_micros(90_000_000)),
-        )?),
-        limit_interval: last_read(
-            alloc,
-            &Delay,
-            assigned,
-            &[
-                ("Unit", "StartLimitIntervalSec"),
-                ("Service", "StartLimitInterval"),
-            ],
-            Some(Span::from_micros(10_000_000)),
-        )?,
-        limit_burst: last_read(
-            alloc,
-            &Count,
-            assigned,
-            &[("Unit", "StartLimitBurst"), ("Service", "StartLimitBurst")],
-            5,
-        )?,
-        success: exits_in(alloc, assigned, "SuccessExitStatus")?,
-        prevents_restart: exits_in(alloc, assigned, "RestartPreventExitStatus")?,
-        forces_restart: exits_in(alloc, assigned, "RestartForceExitStatus")?,
+        stop,
+        environment,
+        remains,
+        restart,
+        restart_delay: times.restart_delay,
+        timeout_start: times.timeout_start,
+        timeout_stop: times.timeout_stop,
+        limit_interval: times.limit_interval,
+        limit_burst,
+        success: exits.success,
+        prevents_restart: exits.prevents_restart,
+        forces_restart: exits.forces_restart,
     })
 }
 
