@@ -10,6 +10,7 @@ pub mod HeldLaws
 pub mod InputArms
 pub mod JobLists
 pub mod NameLists
+pub mod OverlayLaws
 pub mod PickLaws
 pub mod PutLaws
 pub mod RenumberLaws

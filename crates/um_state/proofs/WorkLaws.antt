@@ -226,14 +226,6 @@ module _ (s : Standing) (sorted : AreAscending s.names) (was : List UnitState) (
 
 -- ---- the same, of rows in work
 
--- a row is noted where it differs
-pub noted_row : (was : List UnitState) (had : List UnitJobs) (units : List UnitState) (jobs : List UnitJobs) (k : ℕ) (xs ys : List Row) (a u : UnitState)
-    → a ≡ get_or was k dead_unit → u ≡ get_or units k dead_unit
-    → ys ≡ xs ++ cond (not (is_same_unit a u && is_same_jobs (get_or had k no_jobs) (get_or jobs k no_jobs))) (record { number = k; unit = u; jobs = get_or jobs k no_jobs } ∷ []) []
-    → ys ≡ xs ++ one (differ_at was had units jobs) (rows_at units jobs) k
-noted_row was had units jobs k xs ys a u p q e =
-    e ∙ (λ i. xs ++ cond (not (is_same_unit (p i) (q i) && is_same_jobs (get_or had k no_jobs) (get_or jobs k no_jobs))) (record { number = k; unit = q i; jobs = get_or jobs k no_jobs } ∷ []) [])
-
 pub changed_more : (was : List UnitState) (had : List UnitJobs) (units : List UnitState) (jobs : List UnitJobs) (k : ℕ) (xs ys : List Row)
     → ys ≡ xs ++ one (differ_at was had units jobs) (rows_at units jobs) k → xs ≡ changed was had units jobs k → ys ≡ changed was had units jobs (k + 1)
 changed_more was had units jobs k xs ys e f =
@@ -246,9 +238,9 @@ changed_more was had units jobs k xs ys e f =
 module _ (v : WorkView) (b : Standing) (units : List UnitState) (jobs : List UnitJobs) (m : ℕ) (seen : record { base = b; now = with_rows b units jobs m } ≡ v) (sorted : AreAscending b.names)
     (was : List UnitState) (had : List UnitJobs) (were : units_by b.names was ≡ b.state.units) (had_so : jobs_by b.names had ≡ b.state.pending)
     (was_len : length was ≡ length b.names) (had_len : length had ≡ length b.names) (units_len : length units ≡ length b.names) (jobs_len : length jobs ≡ length b.names)
-    (rows : List Row) (made : rows ≡ changed was had units jobs (length units)) where
+    (rows : List Row) (made : rows ≡ changed was had units jobs (length jobs)) where
   made_so : rows ≡ changed was had units jobs (length b.names)
-  made_so = made ∙ ap (changed was had units jobs) units_len
+  made_so = made ∙ ap (changed was had units jobs) jobs_len
 
   pub work_after : (clock next : ℕ) → rows_after rows (timed clock next v.base) ≡ timed clock next v.now
   work_after clock next = subst (λ (w : WorkView). rows_after rows (timed clock next w.base) ≡ timed clock next w.now) seen from_base

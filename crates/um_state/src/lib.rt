@@ -13,6 +13,7 @@ mod job_bytes;
 mod laws;
 mod maps;
 mod named;
+mod overlay;
 mod reply;
 mod row;
 mod rows;

@@ -6,13 +6,14 @@ ghost use Rattle.std.specs.FinMap as maps;
 ghost use Rattle.um_model.specs.Jobs.{AreTidyJobs, jobs_of_unit};
 ghost use Rattle.um_model.specs.Service.{AreTidyUnits, state_of_unit};
 ghost use Rattle.um_name.specs.Names.{HasPlace, IsApart, name_at};
+ghost use Rattle.um_state.specs.Finding.{row_at};
 ghost use Rattle.um_state.specs.Rows.{rows_after, timed};
 ghost use Rattle.um_state.specs.Tables.{jobs_by};
 ghost use Rattle.um_state.specs.View.{state_of};
 ghost use Rattle.um_state.specs.Working.{AreRowsOf, CountsDiffering, WorkView, changed, is_same_jobs, is_same_unit, jobs_set, next_set, pending_at, unit_set, with_rows};
 ghost use Rattle.um_tree.specs.Code.{tree_code};
 
-use crate::finder::row_in;
+use crate::overlay::Overlay;
 use crate::row::{Numbered, Row};
 use crate::state::State;
 use std::alloc::{AllocError, Global};
@@ -25,7 +26,7 @@ use um_name::UnitName;
 pub struct Work<'s> {
     base: &'s State,
     was: Numbered<'s>,
-    units: Vec<UnitState>,
+    units: Overlay<'s>,
     jobs: Vec<UnitJobs>,
     next: NextNumber,
 }
@@ -35,9 +36,9 @@ impl<'s> Model for Work<'s> {
 
     ghost coded = { Prim.hlevel (codes, maps.code, tree_code) };
 
-    ghost view = { λ w. record { base = w.base.now; now = with_rows w.base.now w.units.items w.jobs.items w.next } };
+    ghost view = { λ w. record { base = w.base.now; now = with_rows w.base.now w.units.now w.jobs.items w.next } };
 
-    ghost invariant = { λ w. (vec_len w.units ≡ length w.base.now.names) × (vec_len w.jobs ≡ length w.base.now.names) × AreRowsOf w.base.now w.was };
+    ghost invariant = { λ w. (w.units.was ≡ w.was.units.now) × (length w.units.now ≡ length w.base.now.names) × (vec_len w.jobs ≡ length w.base.now.names) × AreRowsOf w.base.now w.was };
 }
 
 /// The pending jobs of the unit of the row with this number; past the last one there are none. It takes no memory.
@@ -50,44 +51,49 @@ fn jobs_in_row(rows: &[UnitJobs], i: usize) -> UnitJobs
     }
 }
 
-/// Notes the row where it differs from what was.
+/// Whether the row with this number differs from what it was.
+fn differs(units: &Overlay<'_>, number: usize, had: UnitJobs, jobs: UnitJobs) -> bool
+    ensures { result ≡ not (is_same_unit (row_at units.now.was number) (row_at units.now.now number) && is_same_jobs had jobs) }
+{
+    units.is_changed(number) || had != jobs
+}
+
+/// Notes the row with this number where it differs from what it was.
 fn note_change(
     rows: &mut Vec<Row>,
-    row: Row,
-    was: &UnitState,
-    had: &UnitJobs,
+    units: &Overlay<'_>,
+    number: usize,
+    had: UnitJobs,
+    jobs: UnitJobs,
 ) -> Result<(), AllocError>
-    ensures { OnOk result (rows.new.items ≡ rows.old.items
-        ++ (if not (is_same_unit was.now row.unit && is_same_jobs had.now row.jobs) then row ∷ [] else [])) }
+    ensures { OnOk result (rows.new.items
+        ≡ rows.old.items ++ (if not (is_same_unit (row_at units.now.was number) (row_at units.now.now number) && is_same_jobs had jobs)
+        then record { number = number; unit = row_at units.now.now number; jobs = jobs } ∷ [] else [])) }
 {
-    if *was == row.unit && *had == row.jobs {
+    if !differs(units, number, had, jobs) {
         return Ok(());
     }
-    rows.push(row)?;
+    rows.push(Row {
+        number,
+        unit: units.at(number),
+        jobs,
+    })?;
     Ok(())
 }
 
 /// The rows that differ.
 fn changed_rows(
     alloc: Global,
-    was: &[UnitState],
+    units: &Overlay<'_>,
     had: &[UnitJobs],
-    units: &[UnitState],
     jobs: &[UnitJobs],
 ) -> Result<Vec<Row>, AllocError>
-    requires was { length was.now ≡ length units.now }
-    requires had { length had.now ≡ length units.now }
-    requires jobs { length jobs.now ≡ length units.now }
-    ensures { IfOk result (λ rows. rows.items ≡ changed was.now had.now units.now jobs.now (length units.now)) }
+    requires { length had.now ≡ length jobs.now }
+    ensures { IfOk result (λ rows. rows.items ≡ changed units.now.was had.now units.now.now jobs.now (length jobs.now)) }
 {
     let mut rows = Vec::new(alloc);
-    for number in 0..units.len() {
-        let row = Row {
-            number,
-            unit: units[number],
-            jobs: jobs[number],
-        };
-        note_change(&mut rows, row, &was[number], &had[number])?;
+    for number in 0..jobs.len() {
+        note_change(&mut rows, units, number, had[number], jobs[number])?;
     }
     Ok(rows)
 }
@@ -104,7 +110,7 @@ impl<'s> Work<'s> {
         Ok(Some(Work {
             base,
             was,
-            units: Vec::from_slice(alloc, was.units)?,
+            units: Overlay::of(alloc, was.units)?,
             jobs: Vec::from_slice(alloc, was.jobs)?,
             next: base.next(),
         }))
@@ -122,7 +128,7 @@ impl<'s> Work<'s> {
         ensures state { i < length self.now.now.names → result ≡ state_of_unit (state_of self.now.now).units (name_at self.now.now.names i) }
         ensures tidy { AreTidyUnits (state_of self.now.now).units }
     {
-        row_in(&self.units, i)
+        self.units.at(i)
     }
 
     /// The pending jobs of the unit with this number; past the last one there are none. It takes no memory.
@@ -154,7 +160,7 @@ impl<'s> Work<'s> {
         ensures now { self.new.now ≡ unit_set self.old.now i unit }
     {
         if i < self.units.len() {
-            self.units[i] = unit;
+            self.units.set(i, unit);
         }
     }
 
@@ -181,13 +187,7 @@ impl<'s> Work<'s> {
         ensures after { IfOk result (λ rows. (clock next : ℕ) → rows_after rows.items (timed clock next self.now.base) ≡ timed clock next self.now.now) }
         ensures count { IfOk result (λ rows. CountsDiffering (state_of self.now.base) (state_of self.now.now) (vec_len rows)) }
     {
-        let rows = changed_rows(
-            alloc,
-            self.was.units,
-            self.was.jobs,
-            &self.units,
-            &self.jobs,
-        )?;
+        let rows = changed_rows(alloc, &self.units, self.was.jobs, &self.jobs)?;
         Ok(rows)
     }
 }

@@ -4,4 +4,4 @@ use Rattle.um_state.proofs.work.changed_rows.Given as goal
 
 -- those that differ so far
 abbrev pub invariant-loop-number : goal.invariant-loop-number
-invariant-loop-number l = l.rows.items ≡ changed l.was l.had l.units l.jobs l.number
+invariant-loop-number l = l.rows.items ≡ changed l.units.was l.had l.units.now l.jobs l.number

@@ -7,16 +7,16 @@ pub returns-clause-after : goal.returns-clause-after
 returns-clause-after c =
     let s = c.self.inside in
     let was = s.was in
-    let made = c.in_ok-rows.ensures ∙ (λ i. changed was.units.now was.jobs.now (c.deref.ensures.value i) (c.deref-2.ensures.value i) (length (c.deref.ensures.value i))) in
-    let are = c.self.invariant.2 in
-    work_after c.args.self.now s.base.now s.units.items s.jobs.items s.next c.self.view_is are.ascending
+    let made = c.in_ok-rows.ensures ∙ (λ i. changed (c.self.invariant.0 i) was.jobs.now s.units.now (c.deref.ensures.value i) (length (c.deref.ensures.value i))) in
+    let are = c.self.invariant.3 in
+    work_after c.args.self.now s.base.now s.units.now s.jobs.items s.next c.self.view_is are.ascending
     was.units.now was.jobs.now are.units are.pending are.units_len are.jobs_len (omega arith) (omega arith) c.in_ok-rows.rows.items made
 
 pub returns-clause-count : goal.returns-clause-count
 returns-clause-count c =
     let s = c.self.inside in
     let was = s.was in
-    let made = c.in_ok-rows.ensures ∙ (λ i. changed was.units.now was.jobs.now (c.deref.ensures.value i) (c.deref-2.ensures.value i) (length (c.deref.ensures.value i))) in
-    let are = c.self.invariant.2 in
-    work_counts c.args.self.now s.base.now s.units.items s.jobs.items s.next c.self.view_is are.ascending
+    let made = c.in_ok-rows.ensures ∙ (λ i. changed (c.self.invariant.0 i) was.jobs.now s.units.now (c.deref.ensures.value i) (length (c.deref.ensures.value i))) in
+    let are = c.self.invariant.3 in
+    work_counts c.args.self.now s.base.now s.units.now s.jobs.items s.next c.self.view_is are.ascending
     was.units.now was.jobs.now are.units are.pending are.units_len are.jobs_len (omega arith) (omega arith) c.in_ok-rows.rows.items made (vec_len c.in_ok-rows.rows) (omega arith)

@@ -7,7 +7,7 @@ pub returns-clause-jobs : goal.returns-clause-jobs
 returns-clause-jobs c = λ within.
     c.jobs_in_row.ensures
     ∙ (ap (λ rows. pending_at rows c.args.i) c.deref.ensures.value
-    ∙ jobs_row c.args.self.now c.self.inside.base.now c.self.inside.units.items c.self.inside.jobs.items c.self.inside.next c.self.view_is c.self.invariant.2.ascending c.args.i within)
+    ∙ jobs_row c.args.self.now c.self.inside.base.now c.self.inside.units.now c.self.inside.jobs.items c.self.inside.next c.self.view_is c.self.invariant.3.ascending c.args.i within)
 
 pub returns-clause-tidy : goal.returns-clause-tidy
-returns-clause-tidy c = jobs_tidy c.args.self.now c.self.inside.base.now c.self.inside.units.items c.self.inside.jobs.items c.self.inside.next c.self.view_is
+returns-clause-tidy c = jobs_tidy c.args.self.now c.self.inside.base.now c.self.inside.units.now c.self.inside.jobs.items c.self.inside.next c.self.view_is

@@ -1,13 +1,11 @@
-use Rattle.std.proofs.Common.{◌∙◌, ap}
-use Rattle.um_state.specs.Finding.{row_at}
+use Rattle.std.proofs.Common.{◌∙◌}
 use Rattle.um_state.proofs.WorkLaws.{unit_row, units_tidy}
 use Rattle.um_state.proofs.work.Work.unit.Goals as goal
 
 pub returns-clause-state : goal.returns-clause-state
 returns-clause-state c = λ within.
-    c.row_in.ensures
-    ∙ (ap (λ rows. row_at rows c.args.i) c.deref.ensures.value
-    ∙ unit_row c.args.self.now c.self.inside.base.now c.self.inside.units.items c.self.inside.jobs.items c.self.inside.next c.self.view_is c.self.invariant.2.ascending c.args.i within)
+    c.at.ensures
+    ∙ unit_row c.args.self.now c.self.inside.base.now c.self.inside.units.now c.self.inside.jobs.items c.self.inside.next c.self.view_is c.self.invariant.3.ascending c.args.i within
 
 pub returns-clause-tidy : goal.returns-clause-tidy
-returns-clause-tidy c = units_tidy c.args.self.now c.self.inside.base.now c.self.inside.units.items c.self.inside.jobs.items c.self.inside.next c.self.view_is
+returns-clause-tidy c = units_tidy c.args.self.now c.self.inside.base.now c.self.inside.units.now c.self.inside.jobs.items c.self.inside.next c.self.view_is
