@@ -263,7 +263,7 @@ fn set(rt: &(impl AllocGlobal + Abort), state: &mut State, name: &str, of: UnitS
 fn full(rt: &(impl AllocGlobal + Abort)) -> State {
     let mut state = State::empty(rt.alloc());
     let boot = BootId::new(text(rt, "b1")).expect(rt, "no boot");
-    state.begin_boot(rt.alloc(), boot);
+    state.begin_boot(rt.alloc(), boot).expect(rt, "no memory");
     state.set_clock(Moment::new(1_100_000).expect(rt, "no moment"));
     state.set_next(NextNumber::new(8).expect(rt, "no number"));
     let file: Result<_, _> = state.put_file("etc/a.service", "[Unit]\n");
