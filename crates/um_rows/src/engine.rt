@@ -70,69 +70,74 @@ const RUNNING: Option<SubState> = Some(SubState::Running);
 
 const STOPPING: Option<SubState> = Some(SubState::StopSigterm);
 
-const SCRIPTS: &[Script] = &[
-    Script {
-        shows: "a start of nothing is refused",
-        entries: 0,
-        steps: &[
-            (START, "E4 NotFound a.service", None),
-            (RESTART, "E4 NotFound a.service", None),
-            (STOP, "E7 NotLoaded a.service", None),
-            (TRY_RESTART, "E7 NotLoaded a.service", None),
-        ],
-        main: None,
-    },
-    Script {
-        shows: "a put into a full tree is refused",
-        // a tree has 4096 at most
-        entries: 4095,
-        steps: &[
-            // the last one that has room is put once more in its own place
-            (PUT, "", None),
-            (PUT, "", None),
-            (
-                Comes::Put("lib/more.service", "#"),
-                "E13 TooLarge entries",
-                None,
-            ),
-        ],
-        main: None,
-    },
-    Script {
-        shows: "the end of no process has no effect",
-        entries: 0,
-        steps: &[
-            (PUT, "", None),
-            (Comes::Reload, "", None),
-            (START, SPAWN_1, RUNNING),
-            (LATE, NO_EFFECT, None),
-        ],
-        main: Some(1),
-    },
-    Script {
-        shows: "a restart stops a running service and starts it again",
-        entries: 0,
-        steps: &[
-            (PUT, "", None),
-            (Comes::Reload, "", None),
-            (START, SPAWN_1, RUNNING),
-            (RESTART, TERM_1, STOPPING),
-            (FIRST_ENDS, SPAWN_2, RUNNING),
-        ],
-        main: Some(2),
-    },
-    Script {
-        shows: "a restart of what runs stops a running service and starts it again",
-        entries: 0,
-        steps: &[
-            (PUT, "", None),
-            (Comes::Reload, "", None),
-            (START, SPAWN_1, RUNNING),
-            (TRY_RESTART, TERM_1, STOPPING),
-            (FIRST_ENDS, SPAWN_2, RUNNING),
-        ],
-        main: Some(2),
-    },
+const A_START_OF_NOTHING_IS_REFUSED: Script = Script {
+    shows: "a start of nothing is refused",
+    entries: 0,
+    steps: &[
+        (START, "E4 NotFound a.service", None),
+        (RESTART, "E4 NotFound a.service", None),
+        (STOP, "E7 NotLoaded a.service", None),
+        (TRY_RESTART, "E7 NotLoaded a.service", None),
+    ],
+    main: None,
+};
+
+const A_PUT_INTO_A_FULL_TREE_IS_REFUSED: Script = Script {
+    shows: "a put into a full tree is refused",
+    // a tree has 4096 at most
+    entries: 4095,
+    steps: &[
+        // the last one that has room is put once more in its own place
+        (PUT, "", None),
+        (PUT, "", None),
+        (
+            Comes::Put("lib/more.service", "#"),
+            "E13 TooLarge entries",
+            None,
+        ),
+    ],
+    main: None,
+};
+
+const THE_END_OF_NO_PROCESS_HAS_NO_EFFECT: Script = Script {
+    shows: "the end of no process has no effect",
+    entries: 0,
+    steps: &[
+        (PUT, "", None),
+        (Comes::Reload, "", None),
+        (START, SPAWN_1, RUNNING),
+        (LATE, NO_EFFECT, None),
+    ],
+    main: Some(1),
+};
+
+const A_RESTART_STOPS_A_RUNNING_SERVICE_AND_STARTS_IT_AGAIN: Script = Script {
+    shows: "a restart stops a running service and starts it again",
+    entries: 0,
+    steps: &[
+        (PUT, "", None),
+        (Comes::Reload, "", None),
+        (START, SPAWN_1, RUNNING),
+        (RESTART, TERM_1, STOPPING),
+        (FIRST_ENDS, SPAWN_2, RUNNING),
+    ],
+    main: Some(2),
+};
+
+const A_RESTART_OF_WHAT_RUNS_STOPS_A_RUNNING_SERVICE_AND_STARTS_IT_AGAIN: Script = Script {
+    shows: "a restart of what runs stops a running service and starts it again",
+    entries: 0,
+    steps: &[
+        (PUT, "", None),
+        (Comes::Reload, "", None),
+        (START, SPAWN_1, RUNNING),
+        (TRY_RESTART, TERM_1, STOPPING),
+        (FIRST_ENDS, SPAWN_2, RUNNING),
+    ],
+    main: Some(2),
+};
+
+const A_RESTART_STARTS_WHAT_DOES_NOT_RUN_AND_A_RESTART_OF_WHAT_RUNS_CHANGES_NOTHING: Script =
     Script {
         shows: "a restart starts what does not run and a restart of what runs changes nothing",
         entries: 0,
@@ -144,73 +149,77 @@ const SCRIPTS: &[Script] = &[
             (RESTART, SPAWN_1, RUNNING),
         ],
         main: Some(1),
-    },
-    Script {
-        shows: "mode fail refuses a stop that drops a waiting start",
-        entries: 0,
-        steps: &[
-            (PUT, "", None),
-            (Comes::Reload, "", None),
-            (START_OR_FAIL, SPAWN_1, RUNNING),
-            (STOP_OR_FAIL, TERM_1, STOPPING),
-            (START_OR_FAIL, "", STOPPING),
-            (STOP_OR_FAIL, "E10 JobConflict a.service", None),
-            (FIRST_ENDS, SPAWN_2, RUNNING),
-        ],
-        main: Some(2),
-    },
-    Script {
-        shows: "mode replace drops a waiting start",
-        entries: 0,
-        steps: &[
-            (PUT, "", None),
-            (Comes::Reload, "", None),
-            (START_OR_FAIL, SPAWN_1, RUNNING),
-            (STOP_OR_FAIL, TERM_1, STOPPING),
-            (START_OR_FAIL, "", STOPPING),
-            (STOP, "", STOPPING),
-            (FIRST_ENDS, "", DEAD),
-        ],
-        main: None,
-    },
-    Script {
-        shows: "after a boot all are dead and process numbers go on",
-        entries: 0,
-        steps: &[
-            (PUT, "", None),
-            (Comes::Reload, "", None),
-            (START, SPAWN_1, RUNNING),
-            (Comes::Booted("one"), "", DEAD),
-            (START, SPAWN_2, RUNNING),
-        ],
-        main: Some(2),
-    },
-    Script {
-        shows: "the boot that is known has no effect",
-        entries: 0,
-        steps: &[
-            (PUT, "", None),
-            (Comes::Reload, "", None),
-            (START, SPAWN_1, RUNNING),
-            (Comes::Booted("one"), "", DEAD),
-            (START, SPAWN_2, RUNNING),
-            (Comes::Booted("one"), NO_EFFECT, None),
-        ],
-        main: Some(2),
-    },
-    Script {
-        shows: "what stands under run is gone after a boot",
-        entries: 0,
-        steps: &[
-            (Comes::Put("run/a.service", SLEEPS), "", None),
-            (Comes::Reload, "", None),
-            (START, SPAWN_1, RUNNING),
-            (Comes::Booted("one"), "", DEAD),
-            (START, "E4 NotFound a.service", None),
-        ],
-        main: None,
-    },
-];
+    };
+
+const MODE_FAIL_REFUSES_A_STOP_THAT_DROPS_A_WAITING_START: Script = Script {
+    shows: "mode fail refuses a stop that drops a waiting start",
+    entries: 0,
+    steps: &[
+        (PUT, "", None),
+        (Comes::Reload, "", None),
+        (START_OR_FAIL, SPAWN_1, RUNNING),
+        (STOP_OR_FAIL, TERM_1, STOPPING),
+        (START_OR_FAIL, "", STOPPING),
+        (STOP_OR_FAIL, "E10 JobConflict a.service", None),
+        (FIRST_ENDS, SPAWN_2, RUNNING),
+    ],
+    main: Some(2),
+};
+
+const MODE_REPLACE_DROPS_A_WAITING_START: Script = Script {
+    shows: "mode replace drops a waiting start",
+    entries: 0,
+    steps: &[
+        (PUT, "", None),
+        (Comes::Reload, "", None),
+        (START_OR_FAIL, SPAWN_1, RUNNING),
+        (STOP_OR_FAIL, TERM_1, STOPPING),
+        (START_OR_FAIL, "", STOPPING),
+        (STOP, "", STOPPING),
+        (FIRST_ENDS, "", DEAD),
+    ],
+    main: None,
+};
+
+const AFTER_A_BOOT_ALL_ARE_DEAD_AND_PROCESS_NUMBERS_GO_ON: Script = Script {
+    shows: "after a boot all are dead and process numbers go on",
+    entries: 0,
+    steps: &[
+        (PUT, "", None),
+        (Comes::Reload, "", None),
+        (START, SPAWN_1, RUNNING),
+        (Comes::Booted("one"), "", DEAD),
+        (START, SPAWN_2, RUNNING),
+    ],
+    main: Some(2),
+};
+
+const THE_BOOT_THAT_IS_KNOWN_HAS_NO_EFFECT: Script = Script {
+    shows: "the boot that is known has no effect",
+    entries: 0,
+    steps: &[
+        (PUT, "", None),
+        (Comes::Reload, "", None),
+        (START, SPAWN_1, RUNNING),
+        (Comes::Booted("one"), "", DEAD),
+        (START, SPAWN_2, RUNNING),
+        (Comes::Booted("one"), NO_EFFECT, None),
+    ],
+    main: Some(2),
+};
+
+const WHAT_STANDS_UNDER_RUN_IS_GONE_AFTER_A_BOOT: Script = Script {
+    shows: "what stands under run is gone after a boot",
+    entries: 0,
+    steps: &[
+        (Comes::Put("run/a.service", SLEEPS), "", None),
+        (Comes::Reload, "", None),
+        (START, SPAWN_1, RUNNING),
+        (Comes::Booted("one"), "", DEAD),
+        (START, "E4 NotFound a.service", None),
+    ],
+    main: None,
+};
 
 /// The input.
 fn input_of(rt: &(impl AllocGlobal + Abort), comes: &Comes) -> Input {
@@ -297,9 +306,23 @@ fn play(rt: &(impl AllocGlobal + Abort), script: &Script) {
 
 #[test]
 fn steps_are_taken_or_refused(rt: HostRuntime) {
-    for script in SCRIPTS {
-        play(&rt, script);
-    }
+    play(&rt, &A_START_OF_NOTHING_IS_REFUSED);
+    play(&rt, &A_PUT_INTO_A_FULL_TREE_IS_REFUSED);
+    play(&rt, &THE_END_OF_NO_PROCESS_HAS_NO_EFFECT);
+    play(&rt, &A_RESTART_STOPS_A_RUNNING_SERVICE_AND_STARTS_IT_AGAIN);
+    play(
+        &rt,
+        &A_RESTART_OF_WHAT_RUNS_STOPS_A_RUNNING_SERVICE_AND_STARTS_IT_AGAIN,
+    );
+    play(
+        &rt,
+        &A_RESTART_STARTS_WHAT_DOES_NOT_RUN_AND_A_RESTART_OF_WHAT_RUNS_CHANGES_NOTHING,
+    );
+    play(&rt, &MODE_FAIL_REFUSES_A_STOP_THAT_DROPS_A_WAITING_START);
+    play(&rt, &MODE_REPLACE_DROPS_A_WAITING_START);
+    play(&rt, &AFTER_A_BOOT_ALL_ARE_DEAD_AND_PROCESS_NUMBERS_GO_ON);
+    play(&rt, &THE_BOOT_THAT_IS_KNOWN_HAS_NO_EFFECT);
+    play(&rt, &WHAT_STANDS_UNDER_RUN_IS_GONE_AFTER_A_BOOT);
 }
 
 /// Asserts that the step is taken to the clock of so many microseconds and that the way back leads to the other; `a.service` stands

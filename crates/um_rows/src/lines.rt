@@ -28,8 +28,10 @@ fn asked<'a>(line: &'a Line<'_>) -> (&'static str, &'a str) {
 }
 
 /// Words, what they ask for, and a part of what they are told.
-const LINES: &[(&str, &str, &str)] = &[
-    ("umd --memory", "memory", ""),
+type Row = (&'static str, &'static str, &'static str);
+
+/// Words that ask to be told something, and a part of it.
+const TOLD: &[Row] = &[
     ("umd --help", "to be told", "--memory"),
     ("umd -h", "to be told", "--version"),
     ("umd --version", "to be told", "umd 0.1.0"),
@@ -40,6 +42,12 @@ const LINES: &[(&str, &str, &str)] = &[
         "to be told",
         "umd check /var/lib/umd/store",
     ),
+    ("umd help", "to be told", "umd help E9"),
+    ("umd help --help", "to be told", "umd help E9"),
+];
+
+/// Words about a look at a file.
+const CHECKS: &[Row] = &[
     ("umd check f", "check", ""),
     ("umd check --units f", "check", ""),
     ("umd check f --units", "check", ""),
@@ -47,13 +55,13 @@ const LINES: &[(&str, &str, &str)] = &[
     ("umd check --units", "wrong", "umd check"),
     ("umd check f f", "wrong", ""),
     ("umd check --units --units f", "wrong", ""),
-    ("umd", "wrong", "\n  umd serve "),
-    ("umd memory", "wrong", "\n  umd ctl "),
+];
+
+/// Words about the help for a refusal.
+const HELPS: &[Row] = &[
     ("umd help E1", "E1", ""),
     ("umd help E9", "E9", ""),
     ("umd help E22", "E22", ""),
-    ("umd help", "to be told", "umd help E9"),
-    ("umd help --help", "to be told", "umd help E9"),
     ("umd help E0", "wrong", ""),
     ("umd help E23", "wrong", ""),
     ("umd help E09", "wrong", ""),
@@ -61,10 +69,10 @@ const LINES: &[(&str, &str, &str)] = &[
     ("umd help 9", "wrong", ""),
     ("umd help E", "wrong", ""),
     ("umd help E9 E9", "wrong", ""),
-    ("umd --memories", "wrong", ""),
-    ("umd --memory x", "wrong", ""),
-    ("umd --memory --memory", "wrong", ""),
-    ("umd --memory=1", "wrong", ""),
+];
+
+/// Words about a runner.
+const RUNS: &[Row] = &[
     ("umd run", "wrong", ""),
     ("umd run --number 7 --dir d --env 0 -- x", "wrong", ""),
     ("umd run --dir d --number 0 --env 0 -- x", "wrong", ""),
@@ -89,14 +97,32 @@ const LINES: &[(&str, &str, &str)] = &[
     ),
 ];
 
+/// Other words.
+const OTHERS: &[Row] = &[
+    ("umd --memory", "memory", ""),
+    ("umd", "wrong", "\n  umd serve "),
+    ("umd memory", "wrong", "\n  umd ctl "),
+    ("umd --memories", "wrong", ""),
+    ("umd --memory x", "wrong", ""),
+    ("umd --memory --memory", "wrong", ""),
+    ("umd --memory=1", "wrong", ""),
+];
+
+/// Asserts that the words of the text ask for that, and that what is told has this part.
+fn asks(rt: &(impl AllocGlobal + Abort), text: &str, wanted: &str, part: &str) {
+    let words = words_of(rt, text);
+    let line = read_line(rt.alloc(), words.as_slice()).expect(rt, "no memory");
+    let (kind, told) = asked(&line);
+    let got = (kind, told.contains(part));
+    same_at(rt, got, (wanted, true), (text, part, &line));
+}
+
 #[test]
 fn words_ask_for_one_thing(rt: HostRuntime) {
-    for (text, wanted, part) in LINES {
-        let words = words_of(&rt, text);
-        let line = read_line(rt.alloc(), words.as_slice()).expect(&rt, "no memory");
-        let (kind, told) = asked(&line);
-        let got = (kind, told.contains(*part));
-        same_at(&rt, got, (*wanted, true), (text, part, &line));
+    for rows in [TOLD, CHECKS, HELPS, RUNS, OTHERS] {
+        for (text, wanted, part) in rows {
+            asks(&rt, text, wanted, part);
+        }
     }
 }
 

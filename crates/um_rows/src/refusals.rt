@@ -1,51 +1,54 @@
 //! Requests that are refused, each with its reply.
-use crate::script::{Script, play, play_all};
+use crate::script::{Script, play, play_script};
 use crate::texts::{BAD_REQUEST, DONE, RELOAD};
 use std::process::Abort;
 
-/// What is asked in turn, and replied.
-const SCRIPTS: &[Script] = &[
-    Script {
-        shows: "what is no request is refused",
-        steps: &[
-            ("{}", BAD_REQUEST),
-            ("[]", BAD_REQUEST),
-            (r#"{"verb":"show"}"#, BAD_REQUEST),
-            (r#"{"verb":"show","unit":7}"#, BAD_REQUEST),
-            (r#"{"verb":"show","unit":"a","mode":"fail"}"#, BAD_REQUEST),
-            (
-                r#"{"verb":"put-file","path":"lib/a.service","text":"a\u0000b"}"#,
-                BAD_REQUEST,
-            ),
-            (r#"{"verb":"daemon-reload""#, BAD_REQUEST),
-        ],
-    },
-    Script {
-        shows: "an empty frame is no request and the next is read",
-        steps: &[("", BAD_REQUEST), (RELOAD, DONE)],
-    },
-    Script {
-        shows: "what is asked wrongly is told",
-        steps: &[
-            (
-                r#"{"verb":"frob"}"#,
-                r#"{"detail":["frob"],"error":2,"ok":false}"#,
-            ),
-            (
-                r#"{"verb":"show","unit":"a b"}"#,
-                r#"{"detail":["a b"],"error":3,"ok":false}"#,
-            ),
-            (
-                r#"{"verb":"put-file","path":"lib/../x","text":""}"#,
-                r#"{"detail":["lib/../x"],"error":12,"ok":false}"#,
-            ),
-        ],
-    },
-];
+// What is asked in turn, and replied.
+
+const WHAT_IS_NO_REQUEST_IS_REFUSED: Script = Script {
+    shows: "what is no request is refused",
+    steps: &[
+        ("{}", BAD_REQUEST),
+        ("[]", BAD_REQUEST),
+        (r#"{"verb":"show"}"#, BAD_REQUEST),
+        (r#"{"verb":"show","unit":7}"#, BAD_REQUEST),
+        (r#"{"verb":"show","unit":"a","mode":"fail"}"#, BAD_REQUEST),
+        (
+            r#"{"verb":"put-file","path":"lib/a.service","text":"a\u0000b"}"#,
+            BAD_REQUEST,
+        ),
+        (r#"{"verb":"daemon-reload""#, BAD_REQUEST),
+    ],
+};
+
+const AN_EMPTY_FRAME_IS_NO_REQUEST_AND_THE_NEXT_IS_READ: Script = Script {
+    shows: "an empty frame is no request and the next is read",
+    steps: &[("", BAD_REQUEST), (RELOAD, DONE)],
+};
+
+const WHAT_IS_ASKED_WRONGLY_IS_TOLD: Script = Script {
+    shows: "what is asked wrongly is told",
+    steps: &[
+        (
+            r#"{"verb":"frob"}"#,
+            r#"{"detail":["frob"],"error":2,"ok":false}"#,
+        ),
+        (
+            r#"{"verb":"show","unit":"a b"}"#,
+            r#"{"detail":["a b"],"error":3,"ok":false}"#,
+        ),
+        (
+            r#"{"verb":"put-file","path":"lib/../x","text":""}"#,
+            r#"{"detail":["lib/../x"],"error":12,"ok":false}"#,
+        ),
+    ],
+};
 
 #[test]
 fn scripts_have_their_replies(rt: HostRuntime) {
-    play_all(&rt, SCRIPTS);
+    play_script(&rt, &WHAT_IS_NO_REQUEST_IS_REFUSED);
+    play_script(&rt, &AN_EMPTY_FRAME_IS_NO_REQUEST_AND_THE_NEXT_IS_READ);
+    play_script(&rt, &WHAT_IS_ASKED_WRONGLY_IS_TOLD);
 }
 
 /// The longest text of a file, in bytes.

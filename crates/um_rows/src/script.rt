@@ -4,7 +4,8 @@ use std::alloc::{AllocError, Global};
 use std::process::Abort;
 use um_memory::{Ending, Fault, memory};
 
-/// A script: what it shows, and its requests, each with the reply that is wanted for it.
+/// A script: what it shows, and its requests, each with the reply that is wanted for it. Each is a constant of its own: what the prover
+/// takes for one grows with its texts times their bytes.
 pub struct Script {
     pub shows: &'static str,
     pub steps: &'static [(&'static str, &'static str)],
@@ -71,11 +72,9 @@ pub fn play(rt: &(impl AllocGlobal + Abort), shows: &str, steps: &[(&str, &str)]
     same_at(rt, ending, Ending::Between, shows);
 }
 
-/// Plays the scripts, each on a store of its own.
-pub fn play_all(rt: &(impl AllocGlobal + Abort), scripts: &[Script]) {
-    for script in scripts {
-        play(rt, script.shows, script.steps);
-    }
+/// Plays the script on a store of its own.
+pub fn play_script(rt: &(impl AllocGlobal + Abort), script: &Script) {
+    play(rt, script.shows, script.steps);
 }
 
 /// The first bytes, so many of them or all.
