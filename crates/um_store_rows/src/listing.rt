@@ -9,6 +9,7 @@ use um_model::{JobMode, UnitVerb};
 use um_name::UnitName;
 use um_sector::{Disk, Fuse, MemDisk};
 use um_state::{Command, Event, Happening, Input};
+use um_tree::Tree;
 use um_wire::Refusal;
 
 /// What comes in: an empty file at the path, a start of the unit, or a tick at the moment.
@@ -108,19 +109,38 @@ const LISTS: &[(&[Coming], &str, usize, u64, usize)] = &[
     ),
 ];
 
+/// Asserts that the list is submitted and its inputs are answered so.
+fn is_answered<D: Disk>(
+    rt: &(impl AllocGlobal + Abort),
+    keeper: &mut Keeper<D>,
+    list: &[Coming],
+    wanted: &str,
+) {
+    let answers = answered(rt, keeper, list).expect(rt, "refused");
+    same(rt, answers.as_str(), wanted);
+}
+
+/// The number of syncs of a new store's disk that was opened.
+fn syncs_of_open(rt: &(impl AllocGlobal + Abort)) -> usize {
+    opened(rt, 0).into_disk().into_inner().syncs()
+}
+
+/// Asserts how often the disk was synced since it was opened, and how many files its store has.
+fn is_written(rt: &(impl AllocGlobal + Abort), disk: MemDisk, files: usize, syncs: usize) {
+    let wanted = syncs_of_open(rt).checked_add(syncs);
+    same(rt, Some(disk.syncs()), wanted);
+    same(rt, files_on(rt, disk), files);
+}
+
 #[test]
 fn a_list_is_answered_in_its_order(rt: HostRuntime) {
-    let before = opened(&rt, 0).into_disk().into_inner().syncs();
     for (list, wanted, files, calls, syncs) in LISTS {
         let mut keeper = opened(&rt, 0);
-        let answers = answered(&rt, &mut keeper, list).expect(&rt, "refused");
-        same(&rt, answers.as_str(), *wanted);
+        is_answered(&rt, &mut keeper, list, wanted);
         same(&rt, files_in(&keeper), *files);
         let disk = keeper.into_disk();
         same(&rt, calls_since(&rt, &disk), *calls);
-        let disk = disk.into_inner();
-        same(&rt, Some(disk.syncs()), before.checked_add(*syncs));
-        same(&rt, files_on(&rt, disk), *files);
+        is_written(&rt, disk.into_inner(), *files, *syncs);
     }
 }
 
@@ -160,8 +180,7 @@ fn is_taken_back(rt: &(impl AllocGlobal + Abort), mut keeper: Keeper<Fuse<MemDis
 fn a_fault_in_a_list_beside_a_refusal_of_its_own(rt: HostRuntime) {
     for (list, wanted) in FAULTY {
         let mut keeper = opened(&rt, 3);
-        let answers = answered(&rt, &mut keeper, list).expect(&rt, "refused");
-        same(&rt, answers.as_str(), *wanted);
+        is_answered(&rt, &mut keeper, list, wanted);
         is_taken_back(&rt, keeper);
     }
 }
@@ -199,41 +218,41 @@ const CALLS: &[(u64, &str)] = &[
 fn a_fault_at_each_disk_call_of_a_list(rt: HostRuntime) {
     for (call, wanted) in CALLS {
         let mut keeper = opened(&rt, *call);
-        let answers = answered(&rt, &mut keeper, FOUR).expect(&rt, "refused");
-        same(&rt, answers.as_str(), *wanted);
+        is_answered(&rt, &mut keeper, FOUR, wanted);
         is_taken_back(&rt, keeper);
     }
     let mut keeper = opened(&rt, 5);
-    let answers = answered(&rt, &mut keeper, FOUR).expect(&rt, "refused");
-    same(
-        &rt,
-        answers.as_str(),
-        "done; E12 BadPath a.service; done; done; ",
-    );
+    let wanted = "done; E12 BadPath a.service; done; done; ";
+    is_answered(&rt, &mut keeper, FOUR, wanted);
     same(&rt, files_in(&keeper), 3);
 }
 
-/// The lowest bytes of the generation and of the number in a sector of the log, the number's last two.
-fn written_as(rt: &impl Abort, disk: &mut MemDisk, k: usize) -> (u8, u8, u8) {
+/// Asserts the lowest bytes of the generation and of the number in a sector of the log, the number's last two.
+fn is_written_as(rt: &impl Abort, disk: &mut MemDisk, k: usize, wanted: (u8, u8, u8)) {
     let sector = sector_at(rt, disk, k);
-    (sector[11], sector[18], sector[19])
+    same(rt, (sector[11], sector[18], sector[19]), wanted);
+}
+
+/// A keeper whose log has room for one record more.
+fn nearly_full(rt: &(impl AllocGlobal + Abort)) -> Keeper<Fuse<MemDisk>> {
+    let mut keeper = opened(rt, 0);
+    for _ in 0..511 {
+        take(rt, &mut keeper, put(rt, A, ""));
+    }
+    keeper
 }
 
 #[test]
 fn a_list_goes_over_the_end_of_the_log(rt: HostRuntime) {
-    let mut keeper = opened(&rt, 0);
-    for _ in 0..511 {
-        take(&rt, &mut keeper, put(&rt, A, ""));
-    }
+    let mut keeper = nearly_full(&rt);
     let list = &[Coming::Put(A), Coming::Put(B), Coming::Put(C)];
-    let answers = answered(&rt, &mut keeper, list).expect(&rt, "refused");
-    same(&rt, answers.as_str(), "done; done; done; ");
+    is_answered(&rt, &mut keeper, list, "done; done; done; ");
     let mut disk = keeper.into_disk().into_inner();
     // record 511 of generation 2, then records 0 and 1 of generation 3
-    same(&rt, written_as(&rt, &mut disk, 640), (2, 1, 255));
-    same(&rt, written_as(&rt, &mut disk, 129), (3, 0, 0));
-    same(&rt, written_as(&rt, &mut disk, 130), (3, 0, 1));
-    same(&rt, written_as(&rt, &mut disk, 131), (2, 0, 2));
+    is_written_as(&rt, &mut disk, 640, (2, 1, 255));
+    is_written_as(&rt, &mut disk, 129, (3, 0, 0));
+    is_written_as(&rt, &mut disk, 130, (3, 0, 1));
+    is_written_as(&rt, &mut disk, 131, (2, 0, 2));
     same(&rt, files_on(&rt, disk), 3);
 }
 
@@ -273,6 +292,16 @@ fn unsynced(rt: &(impl AllocGlobal + Abort)) -> Fuse<MemDisk> {
     keeper.into_disk()
 }
 
+/// Asserts that the tree has the first so many of the three files, in this row.
+fn has_first(rt: &impl Abort, tree: &Tree, files: usize, row: usize) {
+    let has = (
+        tree.get(A).is_some(),
+        tree.get(B).is_some(),
+        tree.get(C).is_some(),
+    );
+    same_at(rt, has, (files > 0, files > 1, files > 2), row);
+}
+
 #[test]
 fn a_crash_before_the_sync_leaves_a_beginning_of_the_list(rt: HostRuntime) {
     let mut met = [0_usize; 4];
@@ -281,13 +310,7 @@ fn a_crash_before_the_sync_leaves_a_beginning_of_the_list(rt: HostRuntime) {
         let files = whole(&picks);
         let again = over(&rt, crash(&rt, unsynced(&rt), &picks));
         same_at(&rt, files_in(&again), files, number);
-        let tree = again.state().tree();
-        let has = (
-            tree.get(A).is_some(),
-            tree.get(B).is_some(),
-            tree.get(C).is_some(),
-        );
-        same_at(&rt, has, (files > 0, files > 1, files > 2), number);
+        has_first(&rt, again.state().tree(), files, number);
         let place = files.min(3);
         met[place] = met[place].saturating_add(1);
     }

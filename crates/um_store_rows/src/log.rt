@@ -3,7 +3,7 @@ use crate::answers::{change, filled, is_refused, sector_at};
 use crate::asserts::{same, same_at};
 use std::fmt::Debug;
 use std::process::Abort;
-use um_log::{Layout, Log, scan};
+use um_log::{Layout, Log, Record, scan};
 use um_sector::{Disk, Fuse, MemDisk};
 
 /// The first sector of the log, of slots of 64 sectors.
@@ -29,6 +29,16 @@ fn append<D: Disk>(
     }
 }
 
+/// Where each of the records begins, and its length.
+fn told(rt: &(impl AllocGlobal + Abort), records: &[Record]) -> Vec<(usize, usize)> {
+    let mut told = Vec::new(rt.alloc());
+    for record in records {
+        told.push((record.first, record.bytes.len()))
+            .expect(rt, "no memory");
+    }
+    told
+}
+
 /// Asserts that a scan gives records that begin in these sectors and have these lengths, in this row.
 fn has_records<D: Disk, R: Debug + Drop>(
     rt: &(impl AllocGlobal + Abort),
@@ -37,12 +47,8 @@ fn has_records<D: Disk, R: Debug + Drop>(
     wanted: &[(usize, usize)],
     row: R,
 ) {
-    let mut told = Vec::new(rt.alloc());
     let records = scan(rt.alloc(), disk, log.layout, log.generation).expect(rt, "no scan");
-    for record in &records {
-        told.push((record.first, record.bytes.len()))
-            .expect(rt, "no memory");
-    }
+    let told = told(rt, &records);
     same_at(rt, told.as_slice(), wanted, row);
 }
 
@@ -71,18 +77,34 @@ const TORN: &[([usize; 2], &[(usize, usize)])] = &[
     ([1, 1], &[(129, 481)]),
 ];
 
-#[test]
-fn a_torn_record_is_absent(rt: HostRuntime) {
-    let (disk, mut log) = empty(&rt);
+/// The disk behind a record of two sectors that it failed to sync.
+fn torn(rt: &(impl AllocGlobal + Abort), disk: MemDisk, log: &mut Log) -> MemDisk {
     // the third call, the sync, fails
     let mut disk = Fuse::new(disk, 3);
     let failed = log.append(&mut disk, &[9; 481]);
-    is_refused(&rt, failed, "E16 Device");
-    let disk = disk.into_inner();
+    is_refused(rt, failed, "E16 Device");
+    disk.into_inner()
+}
+
+/// Asserts that a crash that leaves these writes leaves these records.
+fn leaves(
+    rt: &(impl AllocGlobal + Abort),
+    disk: &MemDisk,
+    log: &Log,
+    picks: &[usize],
+    wanted: &[(usize, usize)],
+) {
+    let mut left = disk.crash(rt.alloc(), picks).expect(rt, "no memory");
+    has_records(rt, &mut left, log, wanted, picks);
+}
+
+#[test]
+fn a_torn_record_is_absent(rt: HostRuntime) {
+    let (disk, mut log) = empty(&rt);
+    let disk = torn(&rt, disk, &mut log);
     same(&rt, (log.next, log.number), (START, 0));
     for (picks, wanted) in TORN {
-        let mut left = disk.crash(rt.alloc(), picks).expect(&rt, "no memory");
-        has_records(&rt, &mut left, &log, wanted, picks);
+        leaves(&rt, &disk, &log, picks, wanted);
     }
 }
 
@@ -113,32 +135,47 @@ fn each_call_makes_so_many_disk_calls(rt: HostRuntime) {
     same(&rt, disk.calls(), 9);
 }
 
+/// Asserts that all writes are synced.
+fn is_synced(rt: &(impl AllocGlobal + Abort), disk: &MemDisk) {
+    let unsynced = disk.unsynced(rt.alloc()).expect(rt, "no memory");
+    same(rt, unsynced.len(), 0);
+}
+
 /// Asserts that this record doesn't fit, and that nothing is written.
 fn does_not_fit(rt: &(impl AllocGlobal + Abort), disk: &mut MemDisk, log: &mut Log, record: &[u8]) {
     let before = (log.next, log.number, disk.syncs());
     let fits = log.append(disk, record).expect(rt, "refused");
     same(rt, fits, false);
     same(rt, (log.next, log.number, disk.syncs()), before);
-    let unsynced = disk.unsynced(rt.alloc()).expect(rt, "no memory");
-    same(rt, unsynced, Vec::new(rt.alloc()));
+    is_synced(rt, disk);
 }
 
-#[test]
-fn a_record_has_1_to_131_072_bytes_and_is_not_written_without_room(rt: HostRuntime) {
-    let (mut disk, mut log) = empty(&rt);
+/// Asserts which sizes of a record fit into an empty log.
+fn fits_by_size(rt: &impl Abort, log: &Log) {
     let fits = [
         log.fits(0),
         log.fits(1),
         log.fits(131_072),
         log.fits(131_073),
     ];
-    same(&rt, fits, [false, true, true, false]);
-    does_not_fit(&rt, &mut disk, &mut log, &[]);
+    same(rt, fits, [false, true, true, false]);
+}
+
+/// Asserts that the longest record fits into an empty log once.
+fn fits_once(rt: &(impl AllocGlobal + Abort), disk: &mut MemDisk, log: &mut Log, long: &[u8]) {
+    append(rt, disk, log, &[long]);
     // 274 sectors of 512
+    same(rt, log.next, START + 274);
+    does_not_fit(rt, disk, log, long);
+}
+
+#[test]
+fn a_record_has_1_to_131_072_bytes_and_is_not_written_without_room(rt: HostRuntime) {
+    let (mut disk, mut log) = empty(&rt);
+    fits_by_size(&rt, &log);
+    does_not_fit(&rt, &mut disk, &mut log, &[]);
     let long = vec![in rt.alloc(); 5u8; 131_072].expect(&rt, "no memory");
-    append(&rt, &mut disk, &mut log, &[long.as_slice()]);
-    same(&rt, log.next, START + 274);
-    does_not_fit(&rt, &mut disk, &mut log, &long);
+    fits_once(&rt, &mut disk, &mut log, &long);
     append(&rt, &mut disk, &mut log, &[&[7]]);
     let wanted = [(START, 131_072), (START + 274, 1)];
     has_records(&rt, &mut disk, &log, &wanted, "the end");
@@ -156,15 +193,19 @@ const NO_RECORDS: &[(usize, u8)] = &[
     (0, 0),
 ];
 
+/// Asserts that of three records only the first is left where this byte of the second is another.
+fn is_none_with(rt: &(impl AllocGlobal + Abort), at: usize, byte: u8) {
+    let (mut disk, mut log) = empty(rt);
+    append(rt, &mut disk, &mut log, &[&[7], &[7], &[7]]);
+    let wanted = [(START, 1), (START + 1, 1), (START + 2, 1)];
+    has_records(rt, &mut disk, &log, &wanted, at);
+    change(rt, &mut disk, START + 1, at, byte);
+    has_records(rt, &mut disk, &log, &[(START, 1)], at);
+}
+
 #[test]
 fn what_is_not_as_it_is_written_is_no_record(rt: HostRuntime) {
     for (at, byte) in NO_RECORDS {
-        let (mut disk, mut log) = empty(&rt);
-        append(&rt, &mut disk, &mut log, &[&[7], &[7], &[7]]);
-        let wanted = [(START, 1), (START + 1, 1), (START + 2, 1)];
-        has_records(&rt, &mut disk, &log, &wanted, at);
-        // of three records only the first is left where the second is changed
-        change(&rt, &mut disk, START + 1, *at, *byte);
-        has_records(&rt, &mut disk, &log, &[(START, 1)], at);
+        is_none_with(&rt, *at, *byte);
     }
 }

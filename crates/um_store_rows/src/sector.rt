@@ -34,22 +34,48 @@ fn is_unsynced(rt: &(impl AllocGlobal + Abort), disk: &MemDisk, wanted: &[(usize
     same(rt, unsynced.as_slice(), wanted);
 }
 
+/// Syncs the disk.
+fn sync<D: Disk>(rt: &impl Abort, disk: &mut D) {
+    disk.sync().expect(rt, "not synced");
+}
+
+/// Asserts how often the disk was synced.
+fn has_syncs(rt: &impl Abort, disk: &MemDisk, count: usize) {
+    same(rt, disk.syncs(), count);
+}
+
+/// Asserts that a write of this byte to the sector fails.
+fn fails_a_write<D: Disk>(rt: &(impl AllocGlobal + Abort), disk: &mut D, k: usize, byte: u8) {
+    fails(rt, disk.write(k, &[byte; 512]));
+}
+
+/// Asserts that a read of the sector fails.
+fn fails_a_read<D: Disk>(rt: &(impl AllocGlobal + Abort), disk: &mut D, k: usize) {
+    let mut sector: Sector = [0; 512];
+    fails(rt, disk.read(k, &mut sector));
+}
+
+/// Asserts that a fault prints as this text.
+fn a_fault_prints(rt: &(impl AllocGlobal + Abort), wanted: &str) {
+    let printed = Fault.to_string(rt.alloc()).expect(rt, "no memory");
+    same(rt, printed.as_str(), wanted);
+}
+
 #[test]
 fn a_disk_in_memory_gives_what_was_written_last(rt: HostRuntime) {
     let mut disk = empty(&rt);
     ends(&rt, &mut disk, [0, 0, 0], "the begin");
     put(&rt, &mut disk, &[(1, 7), (1, 8)]);
     ends(&rt, &mut disk, [0, 8, 0], "two writes");
-    same(&rt, (disk.sectors(), disk.syncs()), (3, 0));
-    disk.sync().expect(&rt, "not synced");
-    same(&rt, disk.syncs(), 1);
+    same(&rt, disk.sectors(), 3);
+    has_syncs(&rt, &disk, 0);
+    sync(&rt, &mut disk);
+    has_syncs(&rt, &disk, 1);
     is_unsynced(&rt, &disk, &[]);
     // a sector past the end is a fault
-    let mut sector: Sector = [0; 512];
-    fails(&rt, disk.write(3, &[9; 512]));
-    fails(&rt, disk.read(3, &mut sector));
-    let printed = Fault.to_string(rt.alloc()).expect(&rt, "no memory");
-    same(&rt, printed.as_str(), "the disk failed");
+    fails_a_write(&rt, &mut disk, 3, 9);
+    fails_a_read(&rt, &mut disk, 3);
+    a_fault_prints(&rt, "the disk failed");
 }
 
 /// Asserts that a crash that leaves these writes leaves a synced disk of these last bytes.
@@ -57,7 +83,7 @@ fn leaves(rt: &(impl AllocGlobal + Abort), disk: &MemDisk, picks: &[usize], want
     let mut left = disk.crash(rt.alloc(), picks).expect(rt, "no memory");
     ends(rt, &mut left, wanted, picks);
     is_unsynced(rt, &left, &[]);
-    same(rt, left.syncs(), 0);
+    has_syncs(rt, &left, 0);
 }
 
 /// The writes that a crash leaves of the disk below, and the last bytes of its sectors then.
@@ -75,22 +101,42 @@ const LEFT: &[(&[usize], [u8; 3])] = &[
     (&[2], [4, 0, 0]),
 ];
 
+/// A disk with writes that aren't synced.
+fn unsynced(rt: &(impl AllocGlobal + Abort)) -> MemDisk {
+    let mut disk = empty(rt);
+    put(rt, &mut disk, &[(0, 1)]);
+    sync(rt, &mut disk);
+    put(rt, &mut disk, &[(0, 2), (2, 3), (0, 4)]);
+    is_unsynced(rt, &disk, &[(0, 3), (2, 2)]);
+    disk
+}
+
+/// Asserts that this is that disk as it stands.
+fn is_settled(rt: &(impl AllocGlobal + Abort), mut disk: MemDisk) {
+    ends(rt, &mut disk, [4, 0, 3], "settled");
+    is_unsynced(rt, &disk, &[]);
+    has_syncs(rt, &disk, 0);
+    leaves(rt, &disk, &[0, 0], [4, 0, 3]);
+}
+
 #[test]
 fn a_crash_leaves_any_candidate_of_each_sector(rt: HostRuntime) {
-    let mut disk = empty(&rt);
-    put(&rt, &mut disk, &[(0, 1)]);
-    disk.sync().expect(&rt, "not synced");
-    put(&rt, &mut disk, &[(0, 2), (2, 3), (0, 4)]);
-    is_unsynced(&rt, &disk, &[(0, 3), (2, 2)]);
+    let disk = unsynced(&rt);
     for (picks, wanted) in LEFT {
         leaves(&rt, &disk, picks, *wanted);
     }
-    // a settled disk is the disk as it stands
-    let mut disk = disk.settled();
-    ends(&rt, &mut disk, [4, 0, 3], "settled");
-    is_unsynced(&rt, &disk, &[]);
-    same(&rt, disk.syncs(), 0);
-    leaves(&rt, &disk, &[0, 0], [4, 0, 3]);
+    is_settled(&rt, disk.settled());
+}
+
+/// Asserts how many calls the disk took.
+fn has_calls(rt: &impl Abort, disk: &Fuse<MemDisk>, count: u64) {
+    same(rt, disk.calls(), count);
+}
+
+/// Asserts that the disk was synced once and has both writes.
+fn is_synced_once(rt: &impl Abort, mut disk: MemDisk) {
+    has_syncs(rt, &disk, 1);
+    ends(rt, &mut disk, [1, 5, 0], "the end");
 }
 
 #[test]
@@ -99,47 +145,61 @@ fn a_fuse_fails_one_call_and_goes_on(rt: HostRuntime) {
     let mut disk = Fuse::new(empty(&rt), 3);
     put(&rt, &mut disk, &[(0, 1)]);
     same(&rt, sector_at(&rt, &mut disk, 0)[511], 1);
-    fails(&rt, disk.write(0, &[2; 512]));
-    same(&rt, disk.calls(), 3);
+    fails_a_write(&rt, &mut disk, 0, 2);
+    has_calls(&rt, &disk, 3);
     ends(&rt, &mut disk, [1, 0, 0], "behind the failure");
     put(&rt, &mut disk, &[(1, 5)]);
-    disk.sync().expect(&rt, "not synced");
-    same(&rt, disk.calls(), 8);
-    let mut inner = disk.into_inner();
-    same(&rt, inner.syncs(), 1);
-    ends(&rt, &mut inner, [1, 5, 0], "the end");
+    sync(&rt, &mut disk);
+    has_calls(&rt, &disk, 8);
+    is_synced_once(&rt, disk.into_inner());
+}
+
+/// Asserts that a crash leaves the write that failed, or the one before.
+fn leaves_one_of_two(rt: &(impl AllocGlobal + Abort), disk: &MemDisk) {
+    is_unsynced(rt, disk, &[(0, 2)]);
+    leaves(rt, disk, &[0], [1, 0, 0]);
+    leaves(rt, disk, &[1], [2, 0, 0]);
+}
+
+/// Asserts that a sync that a fuse fails isn't made.
+fn makes_no_sync(rt: &(impl AllocGlobal + Abort)) {
+    let mut disk = Fuse::making(empty(rt), 1);
+    fails(rt, disk.sync());
+    has_syncs(rt, &disk.into_inner(), 0);
 }
 
 #[test]
 fn a_fuse_makes_the_write_that_it_fails(rt: HostRuntime) {
     let mut disk = Fuse::making(empty(&rt), 3);
     put(&rt, &mut disk, &[(0, 1)]);
-    disk.sync().expect(&rt, "not synced");
-    fails(&rt, disk.write(0, &[2; 512]));
-    same(&rt, disk.calls(), 3);
+    sync(&rt, &mut disk);
+    fails_a_write(&rt, &mut disk, 0, 2);
+    has_calls(&rt, &disk, 3);
     ends(&rt, &mut disk, [2, 0, 0], "behind the failure");
-    let disk = disk.into_inner();
-    is_unsynced(&rt, &disk, &[(0, 2)]);
-    leaves(&rt, &disk, &[0], [1, 0, 0]);
-    leaves(&rt, &disk, &[1], [2, 0, 0]);
-    // a sync that it fails isn't made
-    let mut disk = Fuse::making(empty(&rt), 1);
-    fails(&rt, disk.sync());
-    same(&rt, disk.into_inner().syncs(), 0);
+    leaves_one_of_two(&rt, &disk.into_inner());
+    makes_no_sync(&rt);
+}
+
+/// Asserts that a run that is synced stands on the empty disk.
+fn stands_synced(rt: &(impl AllocGlobal + Abort), disk: &mut MemDisk) {
+    let run: [Sector; 2] = [[6; 512], [7; 512]];
+    write_run_synced(disk, 1, &run).expect(rt, "not written");
+    ends(rt, disk, [0, 6, 7], "a synced run");
+    is_unsynced(rt, disk, &[]);
+    fails(rt, write_run_synced(disk, 2, &run));
+}
+
+/// Asserts that a blank run stands on the disk.
+fn stands_blank(rt: &impl Abort, disk: &mut MemDisk) {
+    put(rt, disk, &[(0, 7), (1, 8), (2, 9)]);
+    write_blank(disk, 1, 2).expect(rt, "not written");
+    ends(rt, disk, [7, 0, 0], "a blank run");
 }
 
 #[test]
 fn runs_stand_in_their_places(rt: HostRuntime) {
-    let mut disk = empty(&rt);
-    let run: [Sector; 2] = [[6; 512], [7; 512]];
-    write_run_synced(&mut disk, 1, &run).expect(&rt, "not written");
-    ends(&rt, &mut disk, [0, 6, 7], "a synced run");
-    is_unsynced(&rt, &disk, &[]);
-    fails(&rt, write_run_synced(&mut disk, 2, &run));
-    let mut disk = empty(&rt);
-    put(&rt, &mut disk, &[(0, 7), (1, 8), (2, 9)]);
-    write_blank(&mut disk, 1, 2).expect(&rt, "not written");
-    ends(&rt, &mut disk, [7, 0, 0], "a blank run");
+    stands_synced(&rt, &mut empty(&rt));
+    stands_blank(&rt, &mut empty(&rt));
 }
 
 #[test]

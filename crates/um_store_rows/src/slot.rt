@@ -3,7 +3,7 @@ use crate::answers::{change, filled, is_refused, sector_at};
 use crate::asserts::{same, same_at};
 use std::fmt::Debug;
 use std::process::Abort;
-use um_sector::{Disk, Fuse, MemDisk};
+use um_sector::{Disk, Fuse, MemDisk, Sector};
 use um_slot::{Home, Layout, Slot, newest, read_superblock, superblock, write_first, write_other};
 
 /// Slots of 64 sectors, a log of 512.
@@ -72,25 +72,39 @@ const ILL: &[(usize, u8, &str)] = &[
     (11, 63, "E18 Damaged 0"),
 ];
 
-#[test]
-fn sector_0_is_written_by_its_layout_and_tells_it(rt: HostRuntime) {
-    let layout = small(&rt);
+/// Asserts where the parts of the small store lie.
+fn has_places(rt: &impl Abort, layout: Layout) {
     let log = (layout.log_start(1), layout.log_end(1));
     let told = (log, layout.sectors(), layout.record_limit(1));
-    same(&rt, told, ((129, 641), 641, 131_072));
-    let sector_0 = superblock(layout);
+    same(rt, told, ((129, 641), 641, 131_072));
+}
+
+/// Asserts that the sector tells the layout of the small store.
+fn tells_layout(rt: &impl Abort, sector_0: &Sector) {
+    let read = read_superblock(sector_0).expect(rt, "no layout");
+    same(rt, (read.slot_sectors, read.log_sectors), (64, 512));
+}
+
+/// Asserts that the sector is refused with this byte in the place of another.
+fn is_ill_with(rt: &(impl AllocGlobal + Abort), sector_0: &Sector, at: usize, byte: u8, why: &str) {
+    let mut disk = empty(rt);
+    disk.write(0, sector_0).expect(rt, "not written");
+    change(rt, &mut disk, 0, at, byte);
+    let sector = sector_at(rt, &mut disk, 0);
+    is_refused(rt, read_superblock(&sector), why);
+}
+
+#[test]
+fn sector_0_is_written_by_its_layout_and_tells_it(rt: HostRuntime) {
+    has_places(&rt, small(&rt));
+    let sector_0 = superblock(small(&rt));
     let wanted = [
         0x55, 0x4d, 0x44, 0x49, 0x53, 0x4b, 0x30, 0x31, 0, 0, 0, 0x40, 0, 0, 2, 0,
     ];
     same(&rt, sector_0, filled(&wanted));
-    let read = read_superblock(&sector_0).expect(&rt, "no layout");
-    same(&rt, (read.slot_sectors, read.log_sectors), (64, 512));
+    tells_layout(&rt, &sector_0);
     for (at, byte, why) in ILL {
-        let mut disk = empty(&rt);
-        disk.write(0, &sector_0).expect(&rt, "not written");
-        change(&rt, &mut disk, 0, *at, *byte);
-        let sector = sector_at(&rt, &mut disk, 0);
-        is_refused(&rt, read_superblock(&sector), why);
+        is_ill_with(&rt, &sector_0, *at, *byte, why);
     }
 }
 
@@ -131,27 +145,38 @@ const CRASHES: &[(u64, [usize; 2], Stored)] = &[
     (5, [1, 1], NEW),
 ];
 
+/// The disk behind a writing of generation 2 that failed, with a body of two sectors.
+fn failed(rt: &(impl AllocGlobal + Abort), mut disk: Fuse<MemDisk>) -> MemDisk {
+    let written = write_other(&mut disk, small(rt), A1, &[8; 513]);
+    is_refused(rt, written, "E16 Device");
+    disk.into_inner()
+}
+
+/// Asserts that a crash that leaves these writes leaves this snapshot, in this row.
+fn leaves<R: Debug + Drop>(
+    rt: &(impl AllocGlobal + Abort),
+    disk: MemDisk,
+    picks: &[usize],
+    wanted: Stored,
+    row: R,
+) {
+    let mut left = disk.crash(rt.alloc(), picks).expect(rt, "no memory");
+    stores(rt, &mut left, wanted, row);
+}
+
 #[test]
 fn a_crash_leaves_the_snapshot_before_or_the_new_one(rt: HostRuntime) {
     for (fails, picks, wanted) in CRASHES {
-        let mut disk = Fuse::new(first(&rt), *fails);
-        let written = write_other(&mut disk, small(&rt), A1, &[8; 513]);
-        is_refused(&rt, written, "E16 Device");
-        let disk = disk.into_inner();
-        let mut left = disk.crash(rt.alloc(), picks).expect(&rt, "no memory");
-        stores(&rt, &mut left, *wanted, (*fails, *picks));
+        let disk = failed(&rt, Fuse::new(first(&rt), *fails));
+        leaves(&rt, disk, picks, *wanted, (*fails, *picks));
     }
 }
 
 #[test]
 fn a_header_whose_write_failed_may_count(rt: HostRuntime) {
     for (pick, wanted) in &[(0, OLD), (1, NEW)] {
-        let mut disk = Fuse::making(first(&rt), 4);
-        let written = write_other(&mut disk, small(&rt), A1, &[8; 513]);
-        is_refused(&rt, written, "E16 Device");
-        let disk = disk.into_inner();
-        let mut left = disk.crash(rt.alloc(), &[*pick]).expect(&rt, "no memory");
-        stores(&rt, &mut left, *wanted, *pick);
+        let disk = failed(&rt, Fuse::making(first(&rt), 4));
+        leaves(&rt, disk, &[*pick], *wanted, *pick);
     }
 }
 
@@ -159,21 +184,32 @@ fn a_header_whose_write_failed_may_count(rt: HostRuntime) {
 /// slot, generation 0, the name.
 const NO_HEADERS: &[(usize, u8)] = &[(24, 1), (511, 1), (21, 1), (15, 0), (7, 0)];
 
+/// A body of so many bytes, each of which is 8.
+fn body_of(rt: &(impl AllocGlobal + Abort), size: usize) -> Vec<u8> {
+    vec![in rt.alloc(); 8u8; size].expect(rt, "no memory")
+}
+
+/// Asserts that a first body that is too long is not written to the empty disk.
+fn takes_no_long_body(rt: &(impl AllocGlobal + Abort), disk: &mut MemDisk) {
+    has_none(rt, disk);
+    let written = write_first(disk, small(rt), &body_of(rt, 32_257));
+    same(rt, written.expect(rt, "refused"), None);
+    same(rt, disk.syncs(), 0);
+    has_none(rt, disk);
+}
+
+/// Asserts that the first header is none with this byte in the place of another.
+fn is_none_with(rt: &(impl AllocGlobal + Abort), disk: &mut MemDisk, at: usize, byte: u8) {
+    stores(rt, disk, OLD, at);
+    change(rt, disk, 1, at, byte);
+    has_none(rt, disk);
+}
+
 #[test]
 fn what_is_not_as_it_is_written_is_no_header(rt: HostRuntime) {
-    let mut disk = empty(&rt);
-    has_none(&rt, &mut disk);
-    // a first body that is too long is not written
-    let long = vec![in rt.alloc(); 8u8; 32_257].expect(&rt, "no memory");
-    let written = write_first(&mut disk, small(&rt), &long);
-    same(&rt, written.expect(&rt, "refused"), None);
-    same(&rt, disk.syncs(), 0);
-    has_none(&rt, &mut disk);
+    takes_no_long_body(&rt, &mut empty(&rt));
     for (at, byte) in NO_HEADERS {
-        let mut disk = first(&rt);
-        stores(&rt, &mut disk, OLD, at);
-        change(&rt, &mut disk, 1, *at, *byte);
-        has_none(&rt, &mut disk);
+        is_none_with(&rt, &mut first(&rt), *at, *byte);
     }
 }
 
@@ -183,54 +219,84 @@ const LAST: Home = Home {
     generation: u64::MAX,
 };
 
+/// The home of a body; None where it doesn't fit; or the refusal.
+type Placed = Result<Option<Home>, &'static str>;
+
 /// Sizes of a body, the home that it is written behind, its home where it fits, or the refusal; then what is stored, and how often the
 /// disk was synced.
-const BODIES: &[(usize, Home, Result<Option<Home>, &str>, Stored, usize)] = &[
+const BODIES: &[(usize, Home, Placed, Stored, usize)] = &[
     (1, LAST, Err("E20 GenerationsSpent"), OLD, 2),
     (32_257, LAST, Err("E20 GenerationsSpent"), OLD, 2),
     (32_257, A1, Ok(None), OLD, 2),
     (32_256, A1, Ok(Some(B2)), (B2, 32_256, 8), 4),
 ];
 
+/// Asserts that the body of so many bytes is written behind that home as it is wanted.
+fn is_placed(
+    rt: &(impl AllocGlobal + Abort),
+    disk: &mut MemDisk,
+    size: usize,
+    before: Home,
+    wanted: &Placed,
+) {
+    let written = write_other(disk, small(rt), before, &body_of(rt, size));
+    match wanted {
+        Ok(home) => same(rt, written.expect(rt, "refused"), *home),
+        Err(why) => is_refused(rt, written, why),
+    }
+}
+
+/// Asserts how often the disk was synced.
+fn has_syncs(rt: &impl Abort, disk: &MemDisk, count: usize) {
+    same(rt, disk.syncs(), count);
+}
+
 #[test]
 fn a_body_has_up_to_32_256_bytes_and_none_stands_behind_the_last_generation(rt: HostRuntime) {
     for (size, before, wanted, snapshot, syncs) in BODIES {
-        let body = vec![in rt.alloc(); 8u8; *size].expect(&rt, "no memory");
         let mut disk = first(&rt);
-        let written = write_other(&mut disk, small(&rt), *before, &body);
-        match wanted {
-            Ok(home) => same(&rt, written.expect(&rt, "refused"), *home),
-            Err(why) => is_refused(&rt, written, why),
-        }
-        same(&rt, disk.syncs(), *syncs);
+        is_placed(&rt, &mut disk, *size, *before, wanted);
+        has_syncs(&rt, &disk, *syncs);
         stores(&rt, &mut disk, *snapshot, size);
     }
+}
+
+/// Writes generation 2 behind the first.
+fn writes_second<D: Disk>(rt: &impl Abort, disk: &mut D) {
+    let written = write_other(disk, small(rt), A1, &[8; 513]);
+    same(rt, written.expect(rt, "refused"), Some(B2));
+}
+
+/// Asserts that all writes are synced.
+fn is_synced(rt: &(impl AllocGlobal + Abort), disk: &MemDisk) {
+    let unsynced = disk.unsynced(rt.alloc()).expect(rt, "no memory");
+    same(rt, unsynced.len(), 0);
+}
+
+/// Asserts that of both snapshots with equal generations that in slot A counts.
+fn counts_slot_a(rt: &(impl AllocGlobal + Abort), mut disk: MemDisk) {
+    is_synced(rt, &disk);
+    change(rt, &mut disk, 65, 15, 1);
+    stores(rt, &mut disk, OLD, "equal generations");
 }
 
 #[test]
 fn each_call_makes_so_many_disk_calls_and_of_equal_generations_slot_a_counts(rt: HostRuntime) {
     let mut disk = Fuse::new(first(&rt), 0);
     // a body of two sectors, its sync, the header, its sync
-    let written = write_other(&mut disk, small(&rt), A1, &[8; 513]);
-    same(&rt, written.expect(&rt, "refused"), Some(B2));
+    writes_second(&rt, &mut disk);
     same(&rt, disk.calls(), 5);
     // two headers and the body
     stores(&rt, &mut disk, NEW, "the second");
     same(&rt, disk.calls(), 9);
-    let mut disk = disk.into_inner();
-    let unsynced = disk.unsynced(rt.alloc()).expect(&rt, "no memory");
-    same(&rt, unsynced, Vec::new(rt.alloc()));
-    change(&rt, &mut disk, 65, 15, 1);
-    stores(&rt, &mut disk, OLD, "equal generations");
+    counts_slot_a(&rt, disk.into_inner());
 }
 
 #[test]
 fn a_snapshot_is_written_over_a_log_that_is_not_synced(rt: HostRuntime) {
     let mut disk = first(&rt);
     disk.write(200, &filled(&[7])).expect(&rt, "not written");
-    let written = write_other(&mut disk, small(&rt), A1, &[8; 513]);
-    same(&rt, written.expect(&rt, "refused"), Some(B2));
-    let unsynced = disk.unsynced(rt.alloc()).expect(&rt, "no memory");
-    same(&rt, unsynced, Vec::new(rt.alloc()));
+    writes_second(&rt, &mut disk);
+    is_synced(&rt, &disk);
     stores(&rt, &mut disk, NEW, "the second");
 }

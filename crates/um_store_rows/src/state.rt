@@ -259,26 +259,46 @@ fn set(rt: &(impl AllocGlobal + Abort), state: &mut State, name: &str, of: UnitS
     state.set_unit(&unit(rt, name), of).expect(rt, "no memory");
 }
 
-/// The state of which the bytes are above.
-fn full(rt: &(impl AllocGlobal + Abort)) -> State {
-    let mut state = State::empty(rt.alloc());
+/// Boots.
+fn boot(rt: &(impl AllocGlobal + Abort), state: &mut State) {
     let boot = BootId::new(text(rt, "b1")).expect(rt, "no boot");
     state.begin_boot(rt.alloc(), boot).expect(rt, "no memory");
+}
+
+/// Sets the clock and the next number.
+fn advance(rt: &impl Abort, state: &mut State) {
     state.set_clock(Moment::new(1_100_000).expect(rt, "no moment"));
     state.set_next(NextNumber::new(8).expect(rt, "no number"));
+}
+
+/// Puts a file and a link.
+fn put_entries(rt: &impl Abort, state: &mut State) {
     let file: Result<_, _> = state.put_file("etc/a.service", "[Unit]\n");
     file.expect(rt, "no file");
     let link: Result<_, _> = state.put_link("etc/b.service", "c.service");
     link.expect(rt, "no link");
-    for (name, of) in UNITS {
-        set(rt, &mut state, name, unit_state(rt, of));
-    }
+}
+
+/// Puts both jobs of a unit.
+fn put_jobs(rt: &(impl AllocGlobal + Abort), state: &mut State) {
     let both = UnitJobs {
         stop: Some(JobState::Waiting),
         start: Some(JobState::Waiting),
     };
     let jobs: Result<_, _> = state.set_jobs(&unit(rt, "1.service"), both);
     jobs.expect(rt, "no memory");
+}
+
+/// The state of which the bytes are above.
+fn full(rt: &(impl AllocGlobal + Abort)) -> State {
+    let mut state = State::empty(rt.alloc());
+    boot(rt, &mut state);
+    advance(rt, &mut state);
+    put_entries(rt, &mut state);
+    for (name, of) in UNITS {
+        set(rt, &mut state, name, unit_state(rt, of));
+    }
+    put_jobs(rt, &mut state);
     state
 }
 
@@ -304,17 +324,29 @@ fn state_is_not_read(rt: &(impl AllocGlobal + Abort), bytes: &[u8], row: &str) {
     same_at(rt, read.is_none(), true, row);
 }
 
+/// Asserts that the state is spelled by these bytes.
+fn state_is_spelled(rt: &(impl AllocGlobal + Abort), state: &State, bytes: &[u8]) {
+    same(rt, spelled(rt, state).as_slice(), bytes);
+}
+
+/// Asserts that these are the bytes of the empty state.
+fn is_of_the_empty_state(rt: &(impl AllocGlobal + Abort), bytes: &[u8]) {
+    assert!(rt; bytes.len() == 37, "the empty state has other bytes");
+    state_is_spelled(rt, &State::empty(rt.alloc()), bytes);
+    state_is_read(rt, bytes);
+    state_is_not_read(rt, &bytes[1..], "no version");
+}
+
+/// Asserts that these are the bytes of the state above.
+fn is_of_the_full_state(rt: &(impl AllocGlobal + Abort), bytes: &[u8]) {
+    state_is_spelled(rt, &full(rt), bytes);
+    state_is_read(rt, bytes);
+}
+
 #[test]
 fn a_state_is_its_fields_in_order(rt: HostRuntime) {
-    let bytes = hex(&rt, EMPTY);
-    assert!(&rt; bytes.len() == 37, "the empty state has other bytes");
-    let empty = State::empty(rt.alloc());
-    same(&rt, spelled(&rt, &empty).as_slice(), bytes.as_slice());
-    state_is_read(&rt, bytes.as_slice());
-    state_is_not_read(&rt, &bytes.as_slice()[1..], "no version");
-    let bytes = hex(&rt, STATE);
-    same(&rt, spelled(&rt, &full(&rt)).as_slice(), bytes.as_slice());
-    state_is_read(&rt, bytes.as_slice());
+    is_of_the_empty_state(&rt, hex(&rt, EMPTY).as_slice());
+    is_of_the_full_state(&rt, hex(&rt, STATE).as_slice());
     state_is_read(&rt, hex(&rt, DEAD).as_slice());
 }
 
@@ -359,22 +391,33 @@ fn is_no_state(rt: &(impl AllocGlobal + Abort), state: &State, part: &str, other
     state_is_not_read(rt, hex(rt, text.as_str()).as_slice(), row);
 }
 
+/// The state above, in which `9.target` runs as the process of this number.
+fn with_process(rt: &(impl AllocGlobal + Abort), number: u64) -> State {
+    let mut state = full(rt);
+    let again = UnitState {
+        sub: SubState::Running,
+        main: ProcessNumber::new(number),
+        ..UnitState::DEAD
+    };
+    set(rt, &mut state, "9.target", again);
+    state
+}
+
+/// The state above at the first moment.
+fn sooner(rt: &(impl AllocGlobal + Abort)) -> State {
+    let mut state = full(rt);
+    state.set_clock(Moment::FIRST);
+    state
+}
+
 #[test]
 fn a_state_that_no_run_reaches_is_not_read_again(rt: HostRuntime) {
     for (number, bytes, why) in UNREACHED {
-        let mut state = full(&rt);
-        let again = UnitState {
-            sub: SubState::Running,
-            main: ProcessNumber::new(*number),
-            ..UnitState::DEAD
-        };
-        set(&rt, &mut state, "9.target", again);
+        let state = with_process(&rt, *number);
         is_no_state(&rt, &state, TARGET, bytes, why);
     }
-    let mut sooner = full(&rt);
-    sooner.set_clock(Moment::FIRST);
     let (clock, first) = ("000000000010c8e0", "0000000000000000");
-    is_no_state(&rt, &sooner, clock, first, "a window after the clock");
+    is_no_state(&rt, &sooner(&rt), clock, first, "a window after the clock");
 }
 
 /// The bytes with so many others behind them, each of which is this one.
@@ -391,28 +434,41 @@ const LONG_TEXT: &str = "00000001 0000000d6574632f612e73657276696365 00 00010000
 
 const TOO_LONG_TEXT: &str = "00000001 0000000d6574632f612e73657276696365 00 00010001";
 
+/// Puts the bytes of the file of this number, which holds nothing.
+fn put_file_of(rt: &(impl AllocGlobal + Abort), bytes: &mut Vec<u8>, number: u32) {
+    let path = format!(in rt.alloc(); "etc/{number:04}.service").expect(rt, "no memory");
+    path.put(bytes).expect(rt, "no memory");
+    bytes
+        .extend_from_slice(&[0, 0, 0, 0, 0])
+        .expect(rt, "no memory");
+}
+
 /// The bytes of a tree with so many files, none of which holds anything.
 fn tree_of_files(rt: &(impl AllocGlobal + Abort), count: u32) -> Vec<u8> {
     let mut bytes = Vec::new(rt.alloc());
     count.put(&mut bytes).expect(rt, "no memory");
     for number in 0..count {
-        let path = format!(in rt.alloc(); "etc/{number:04}.service").expect(rt, "no memory");
-        path.put(&mut bytes).expect(rt, "no memory");
-        bytes
-            .extend_from_slice(&[0, 0, 0, 0, 0])
-            .expect(rt, "no memory");
+        put_file_of(rt, &mut bytes, number);
     }
     bytes
 }
 
+/// Asserts that a tree is read from the bytes, and is spelled by them.
+fn is_tree(rt: &(impl AllocGlobal + Abort), bytes: &[u8]) {
+    are_read::<Tree>(rt, &[bytes], &[]);
+}
+
+/// Asserts that no front of the bytes spells a tree.
+fn is_no_tree(rt: &(impl AllocGlobal + Abort), bytes: &[u8]) {
+    are_not_read::<Tree>(rt, &[bytes]);
+}
+
 #[test]
 fn a_tree_has_texts_of_65536_bytes_and_4096_entries_at_most(rt: HostRuntime) {
-    let text = padded(&rt, LONG_TEXT, 65_536, 35);
-    let long = padded(&rt, TOO_LONG_TEXT, 65_537, 35);
-    are_read::<Tree>(&rt, &[text.as_slice()], &[long.as_slice()]);
-    let files = tree_of_files(&rt, 4096);
-    let many = tree_of_files(&rt, 4097);
-    are_read::<Tree>(&rt, &[files.as_slice()], &[many.as_slice()]);
+    is_tree(&rt, padded(&rt, LONG_TEXT, 65_536, 35).as_slice());
+    is_no_tree(&rt, padded(&rt, TOO_LONG_TEXT, 65_537, 35).as_slice());
+    is_tree(&rt, tree_of_files(&rt, 4096).as_slice());
+    is_no_tree(&rt, tree_of_files(&rt, 4097).as_slice());
 }
 
 #[test]

@@ -20,23 +20,50 @@ fn first(timers: &Timers) -> Option<(u64, &str)> {
     }
 }
 
+/// Asserts which timer is due first: its deadline in microseconds, and its unit.
+fn is_first(rt: &impl Abort, timers: &Timers, wanted: Option<(u64, &str)>) {
+    same(rt, first(timers), wanted);
+}
+
+/// Asserts the deadline of `a.service`, in microseconds.
+fn has_deadline(rt: &(impl AllocGlobal + Abort), timers: &Timers, micros: u64) {
+    let name = unit(rt, "a.service");
+    same(rt, timers.get(&name), Deadline::new(micros));
+}
+
+/// Takes the deadline of the unit away.
+fn clear(rt: &(impl AllocGlobal + Abort), timers: &mut Timers, name: &str) {
+    timers.clear(&unit(rt, name));
+}
+
+/// The same timers again.
+fn copy_of(rt: &impl Abort, timers: &Timers) -> Timers {
+    timers.copy().expect(rt, "no memory")
+}
+
+/// Asserts that of equal deadlines that of the least name is due first.
+fn is_due_by_name(rt: &(impl AllocGlobal + Abort), timers: &mut Timers) {
+    is_first(rt, timers, None);
+    let deadlines = [("b.service", 7), ("c.service", 5), ("a.service", 7)];
+    set(rt, timers, &deadlines);
+    is_first(rt, timers, Some((5, "c.service")));
+    clear(rt, timers, "c.service");
+    is_first(rt, timers, Some((7, "a.service")));
+}
+
+/// Asserts that a deadline takes the place of the one before.
+fn is_replaced(rt: &(impl AllocGlobal + Abort), timers: &mut Timers) {
+    set(rt, timers, &[("a.service", 5)]);
+    let kept = copy_of(rt, timers);
+    set(rt, timers, &[("a.service", 9)]);
+    has_deadline(rt, timers, 9);
+    has_deadline(rt, &kept, 5);
+    set(rt, timers, &[("a.service", 2)]);
+    is_first(rt, timers, Some((2, "a.service")));
+}
+
 #[test]
 fn of_equal_deadlines_the_least_name_is_due_first_and_a_later_one_counts(rt: HostRuntime) {
-    let mut timers = Timers::new(rt.alloc());
-    same(&rt, first(&timers), None);
-    let deadlines = [("b.service", 7), ("c.service", 5), ("a.service", 7)];
-    set(&rt, &mut timers, &deadlines);
-    same(&rt, first(&timers), Some((5, "c.service")));
-    timers.clear(&unit(&rt, "c.service"));
-    same(&rt, first(&timers), Some((7, "a.service")));
-    // a deadline takes the place of the one before
-    let mut timers = Timers::new(rt.alloc());
-    let name = unit(&rt, "a.service");
-    set(&rt, &mut timers, &[("a.service", 5)]);
-    let kept = timers.copy().expect(&rt, "no memory");
-    set(&rt, &mut timers, &[("a.service", 9)]);
-    same(&rt, timers.get(&name), Deadline::new(9));
-    same(&rt, kept.get(&name), Deadline::new(5));
-    set(&rt, &mut timers, &[("a.service", 2)]);
-    same(&rt, first(&timers), Some((2, "a.service")));
+    is_due_by_name(&rt, &mut Timers::new(rt.alloc()));
+    is_replaced(&rt, &mut Timers::new(rt.alloc()));
 }
