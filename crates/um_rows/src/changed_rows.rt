@@ -2,9 +2,9 @@
 use crate::answers::{at, told};
 use crate::asserts::{same, same_at, text, unit};
 use std::process::Abort;
-use um_engine::{Back, Engine};
+use um_engine::{Back, Engine, Next};
 use um_model::{End, JobMode, SubState, UnitVerb};
-use um_state::{Command, Event, Happening, Input, Query, Reply, State};
+use um_state::{Action, Command, Event, Happening, Input, Query, Reply, State};
 
 /// The size of a store, in bytes.
 const SIZE: u64 = 8_388_096;
@@ -66,6 +66,12 @@ fn engine_in(rt: &(impl AllocGlobal + Abort), state: State) -> Engine {
     engine.expect(rt, "not served")
 }
 
+/// Takes the step: what it asks for, and the way back.
+fn committed(engine: &mut Engine, next: Next) -> (Vec<Action>, Back) {
+    let (_, actions, back) = engine.commit(next);
+    (actions, back)
+}
+
 /// Takes the step that the input is, which tells so many rows: what is asked of processes, and the way back.
 fn take(
     rt: &(impl AllocGlobal + Abort),
@@ -76,7 +82,7 @@ fn take(
 ) -> (String, Back) {
     let next = engine.plan(input).expect(rt, "a step is refused");
     same_at(rt, next.rows(), rows, shows);
-    let (_, actions, back) = engine.commit(next);
+    let (actions, back) = committed(engine, next);
     (told(rt, actions.as_slice()), back)
 }
 

@@ -2,9 +2,9 @@
 use crate::answers::{at, told};
 use crate::asserts::{same, same_at, text, unit};
 use std::process::Abort;
-use um_engine::Engine;
+use um_engine::{Engine, Next};
 use um_model::{End, JobMode, SubState, UnitState, UnitVerb};
-use um_state::{BootId, Command, Event, Happening, Input, Query, Reply, State};
+use um_state::{Action, BootId, Command, Event, Happening, Input, Query, Reply, State};
 
 /// The size of a store, in bytes.
 const SIZE: u64 = 8_388_096;
@@ -221,54 +221,89 @@ const WHAT_STANDS_UNDER_RUN_IS_GONE_AFTER_A_BOOT: Script = Script {
     main: None,
 };
 
-/// The input.
+/// A file is put.
+fn put(rt: &(impl AllocGlobal + Abort), path: &str, content: &str) -> Event {
+    let path = text(rt, path);
+    let text = text(rt, content);
+    Event::Commanded(Command::PutFile { path, text })
+}
+
+/// A command for `a.service`.
+fn asked(rt: &(impl AllocGlobal + Abort), verb: UnitVerb, mode: JobMode) -> Event {
+    let unit = unit(rt, "a.service");
+    Event::Commanded(Command::ForUnit { verb, unit, mode })
+}
+
+/// The machine is booted, with this id.
+fn booted(rt: &(impl AllocGlobal + Abort), id: &str) -> Event {
+    let boot = BootId::new(text(rt, id)).expect(rt, "no boot");
+    Event::Happened(Happening::Booted { boot })
+}
+
+/// The process of this number ends.
+fn ended(number: u64, end: End) -> Event {
+    Event::Happened(Happening::ProcessEnded { number, end })
+}
+
+/// The event that comes in.
+fn event_of(rt: &(impl AllocGlobal + Abort), comes: &Comes) -> Event {
+    match comes {
+        Comes::Put(path, content) => put(rt, path, content),
+        Comes::Reload => Event::Commanded(Command::DaemonReload),
+        Comes::Asked(verb, mode) => asked(rt, *verb, *mode),
+        Comes::Ended(_, number, end) => ended(*number, *end),
+        Comes::Booted(id) => booted(rt, id),
+    }
+}
+
+/// When it comes in, in microseconds.
+fn micros_of(comes: &Comes) -> u64 {
+    match comes {
+        Comes::Ended(micros, _, _) => *micros,
+        Comes::Booted(_) => 7,
+        _ => 5,
+    }
+}
+
+/// The input that comes in.
 fn input_of(rt: &(impl AllocGlobal + Abort), comes: &Comes) -> Input {
-    let (micros, event) = match comes {
-        Comes::Put(path, content) => {
-            let path = text(rt, path);
-            let text = text(rt, content);
-            (5, Event::Commanded(Command::PutFile { path, text }))
-        }
-        Comes::Reload => (5, Event::Commanded(Command::DaemonReload)),
-        Comes::Asked(verb, mode) => {
-            let (verb, unit, mode) = (*verb, unit(rt, "a.service"), *mode);
-            (5, Event::Commanded(Command::ForUnit { verb, unit, mode }))
-        }
-        Comes::Ended(micros, number, end) => {
-            let (number, end) = (*number, *end);
-            let ended = Happening::ProcessEnded { number, end };
-            (*micros, Event::Happened(ended))
-        }
-        Comes::Booted(id) => {
-            let boot = BootId::new(text(rt, id)).expect(rt, "no boot");
-            (7, Event::Happened(Happening::Booted { boot }))
-        }
-    };
-    Input::new(at(rt, micros), event)
+    Input::new(at(rt, micros_of(comes)), event_of(rt, comes))
+}
+
+/// Puts the file of this number.
+fn put_numbered(rt: &(impl AllocGlobal + Abort), state: &mut State, number: usize) {
+    let path = format!(in rt.alloc(); "lib/u{number}.service").expect(rt, "no memory");
+    let put: Result<_, _> = state.put_file(path.as_str(), "#");
+    put.expect(rt, "not put");
 }
 
 /// An engine in a state with so many files.
 fn engine_with(rt: &(impl AllocGlobal + Abort), entries: usize) -> Engine {
     let mut state = State::empty(rt.alloc());
     for number in 0..entries {
-        let path = format!(in rt.alloc(); "lib/u{number}.service").expect(rt, "no memory");
-        let put: Result<_, _> = state.put_file(path.as_str(), "#");
-        put.expect(rt, "not put");
+        put_numbered(rt, &mut state, number);
     }
     let engine = Engine::of(rt.alloc(), state, SIZE).expect(rt, "no memory");
     engine.expect(rt, "not served")
 }
 
+/// Takes the step: what it asks for.
+fn committed(engine: &mut Engine, next: Next) -> Vec<Action> {
+    let (_, actions, _) = engine.commit(next);
+    actions
+}
+
+/// Takes the step: that it has no effect, or what it asks for.
+fn taken(rt: &(impl AllocGlobal + Abort), engine: &mut Engine, next: Next) -> String {
+    let effect = if next.has_effect() { "" } else { NO_EFFECT };
+    let asked = told(rt, committed(engine, next).as_slice());
+    format!(in rt.alloc(); "{effect}{asked}").expect(rt, "no memory")
+}
+
 /// What comes of the input: its refusal; or it is taken, and has no effect or asks for this.
 fn answer_to(rt: &(impl AllocGlobal + Abort), engine: &mut Engine, input: &Input) -> String {
     match engine.plan(input) {
-        Ok(next) => {
-            let has_effect = next.has_effect();
-            let (_, actions, _) = engine.commit(next);
-            let asked = told(rt, actions.as_slice());
-            let effect = if has_effect { "" } else { NO_EFFECT };
-            format!(in rt.alloc(); "{effect}{asked}").expect(rt, "no memory")
-        }
+        Ok(next) => taken(rt, engine, next),
         Err(refusal) => refusal.to_string(rt.alloc()).expect(rt, "no memory"),
     }
 }
@@ -283,20 +318,30 @@ fn standing(rt: &(impl AllocGlobal + Abort), engine: &Engine) -> UnitState {
     }
 }
 
+/// Asserts that what comes in has this answer, in this row.
+fn is_answered(
+    rt: &(impl AllocGlobal + Abort),
+    engine: &mut Engine,
+    comes: &Comes,
+    wanted: &str,
+    row: (&str, usize),
+) {
+    let answer = answer_to(rt, engine, &input_of(rt, comes));
+    same_at(rt, answer.as_str(), wanted, row);
+}
+
 /// Asserts that each step has its answer, and that `a.service` stands then as it is told.
 fn play(rt: &(impl AllocGlobal + Abort), script: &Script) {
     let mut engine = engine_with(rt, script.entries);
     let mut stands = standing(rt, &engine);
     same_at(rt, stands, UnitState::DEAD, script.shows);
     for (at, (comes, wanted, sub)) in script.steps.iter().enumerate() {
-        let input = input_of(rt, comes);
         let row = (script.shows, at + 1);
-        let answer = answer_to(rt, &mut engine, &input);
-        same_at(rt, answer.as_str(), *wanted, row);
+        is_answered(rt, &mut engine, comes, wanted, row);
         let now = standing(rt, &engine);
         match sub {
             Some(sub) => same_at(rt, now.sub, *sub, row),
-            None => assert_eq!(rt; now, stands, "at {row:?}"),
+            None => same_at(rt, now, stands, row),
         }
         stands = now;
     }
@@ -339,10 +384,10 @@ fn is_taken_back(
     let (_, actions, back) = engine.commit(next.expect(rt, "a step is refused"));
     let taken = (actions.len(), engine.clock().micros());
     same(rt, taken, (0, clock));
-    assert_eq!(rt; standing(rt, engine), stands);
+    same(rt, standing(rt, engine), stands);
     engine.back(back);
     same(rt, engine.clock().micros(), clock_before);
-    assert_eq!(rt; standing(rt, engine), stands);
+    same(rt, standing(rt, engine), stands);
 }
 
 /// What leads to a running service.
