@@ -1,7 +1,8 @@
 -- A step, by what is planned of it.
 use Rattle.um_falling.specs.Carrying.{Adds}
-use Rattle.std.proofs.Common.{◌≡◌, ◌≢◌, ◌∙◌, ◌↔◌, ℕ, Bool, true, false, true≢false, List, [], refl, sym, ap, subst}
+use Rattle.std.proofs.Common.{◌≡◌, ◌≢◌, ◌∙◌, ◌↔◌, ℕ, Bool, true, false, true≢false, List, [], None, vec_len, refl, sym, ap, subst}
 use Rattle.std.specs.Prelude.{IfErr, IfOk, IfSome, IsErrAnd, Result, Ok, Err}
+use Rattle.std.proofs.lemmas.Option.{none-some}
 use Rattle.um_model.specs.Machine as model
 use Rattle.um_model.specs.Machine.{State, Command, Happening, Event, Commanded, Happened, Follows, obeys, Changes, Does, changes, Input, Reply, Done, Refuses, HasNoEffect, IsTooHeavy, TakesEffect, meets, Step, refused, crowded_out, HasNoRoom, idle, taken, reply_after, moment_of}
 use Rattle.um_model.specs.Refusals.{Refused, no_room}
@@ -12,7 +13,7 @@ use Rattle.um_state.specs.View.{state_of}
 use Rattle.um_wire.specs.Refusal.{refused_of}
 use Rattle.um_wire.specs.declared.refusal.Refusal.{Refusal}
 use Rattle.um_wire.specs.declared.refusal.Refusal.TheVariants.{NoMemory}
-use Rattle.um_engine.specs.Engine.{DiffersInRows, LacksEffect, LeadsTo, MetBy, Obeys, Settled, SettlesTooHeavy, actions_in, changed, is_change, reply_in, rows_of, state_after}
+use Rattle.um_engine.specs.Engine.{DiffersInRows, HasSameTables, LacksEffect, LeadsTo, MetBy, Obeys, Settled, SettlesTooHeavy, actions_in, changed, is_change, reply_in, rows_of, state_after}
 use Rattle.um_engine.specs.Outcomes.{actions_by, reply_by, state_by}
 use Rattle.um_engine.specs.Planned.{Declines, for_cause, for_room}
 use Rattle.um_engine.specs.declared.commands.Outcome.{Outcome}
@@ -103,6 +104,13 @@ met_rows t s happening Nothing actions met = none_differ (state_of s)
 met_rows t s happening (Rows delta) actions met = met.1.rows
 met_rows t s happening (Tables given) actions met = tt
 
+-- where it holds tables, they differ in more than rows
+pub met_tables : (t : ℕ) (s : Standing) (happening : Happening) (change : Change) (actions : List Action) → MetBy t s happening change actions → rows_of change ≡ None
+    → ¬ HasSameTables s (changed change s)
+met_tables t s happening Nothing actions met none = absurd (none-some 0 (sym none))
+met_tables t s happening (Rows delta) actions met none = absurd (none-some (vec_len delta.rows) (sym none))
+met_tables t s happening (Tables given) actions met none = met.2
+
 pub command_effect : (t : ℕ) (s : State) (event : Event) (command : Command) (b : Bool) → event ≡ Commanded command → b ≡ true → (b ≡ false) ↔ LacksEffect t s event
 command_effect t s event command b e f = (λ h. absurd (true≢false (sym f ∙ h)), λ h. absurd (subst (λ x. LacksEffect t s x) e h))
 
@@ -130,7 +138,7 @@ same_answer t event s u v first all reply is (more, settles, whole) = is ∙ ap 
 
 module _ (size t : ℕ) (s : Standing) (command : Command) (o : Outcome) (free : (r : Refused) → ¬ Refuses (state_of s) command r)
     (does : Does t (state_of s) command (actions_by o) (state_by o)) where
-  pub obeys_so : (n : Next) → reply_by o ≡ reply_after (Commanded command) (state_of s).tree (state_by o).tree → Settled size t s (state_by o) (actions_by o) n
+  pub obeys_so : (n : Next) → reply_by o ≡ reply_after (Commanded command) (state_of s).tree (state_by o).tree → Settled size t s (state_by o) (actions_by o) n.change (actions_in n)
       → reply_in n ≡ reply_by o → Obeys size t s command n
   obeys_so n answer settled reply =
       let goes : Adds (model.Settles t (state_by o)) (actions_by o) settled.leads.state (actions_in n) = settled.leads.leads.0 in
@@ -142,6 +150,7 @@ module _ (size t : ℕ) (s : Standing) (command : Command) (o : Outcome) (free :
         room = settled.leads.leads.1;
         effect = settled.effect;
         rows = settled.rows;
+        tables = settled.tables;
       }
 
   pub declines_so : (r : Refused) → SettlesTooHeavy size t (state_by o) (actions_by o) r → Declines size t (state_of s) command r
@@ -151,7 +160,7 @@ module _ (size t : ℕ) (s : Standing) (command : Command) (o : Outcome) (free :
 
   -- what the call that lets jobs begin tells is told of the command
   pub obeys_by : (result : Result Next Refusal) → reply_by o ≡ reply_after (Commanded command) (state_of s).tree (state_by o).tree
-      → IfOk result (λ n. Settled size t s (state_by o) (actions_by o) n) → IfOk result (λ n. reply_in n ≡ reply_by o) → IfOk result (λ n. Obeys size t s command n)
+      → IfOk result (λ n. Settled size t s (state_by o) (actions_by o) n.change (actions_in n)) → IfOk result (λ n. reply_in n ≡ reply_by o) → IfOk result (λ n. Obeys size t s command n)
   obeys_by (Ok n) answer settled reply = obeys_so n answer settled reply
   obeys_by (Err e) answer settled reply = settled
 

@@ -85,6 +85,13 @@ rows_in n = rows_of n.change
 abbrev pub DiffersInRows : model.State → model.State → ℕ → Type 0
 DiffersInRows s t n = (t.tree ≡ s.tree) × (t.loaded ≡ s.loaded) × CountsDiffering s t n
 
+-- all is the same but how units stand, their pending jobs, the moment and the next process number
+pub record HasSameTables (s t : Standing) : Type 0 where
+  pub tree : (state_of t).tree ≡ (state_of s).tree
+  pub loaded : (state_of t).loaded ≡ (state_of s).loaded
+  pub boot : (state_of t).boot ≡ (state_of s).boot
+  pub names : t.names ≡ s.names
+
 -- an event without effect: a command that isn't refused has one always
 abbrev pub LacksEffect : ℕ → model.State → model.Event → Type 0
 LacksEffect t s (model.Commanded command) = ⊥
@@ -128,11 +135,12 @@ pub record DoesRows (Relation : List Action → model.State → Type 0) (t : ℕ
   pub leads : LeadsTo Relation t actions (state_of (delta_after delta s))
   pub rows : DiffersInRows (state_of s) (state_of (delta_after delta s)) (vec_len delta.rows)
 
--- a step with the state that jobs lead to that begin after these actions, at the moment
-pub record Settled (size t : ℕ) (s : Standing) (u : model.State) (before : List Action) (n : Next) : Type 0 where
-  pub leads : LeadsTo (λ actions v. Adds (model.Settles t u) before v actions × (¬ model.IsTooHeavy size v)) t (actions_in n) (state_of (state_after n s))
-  pub effect : has_effect_in n ≡ true
-  pub rows : IfSome (rows_in n) (DiffersInRows (state_of s) (state_of (state_after n s)))
+-- a change to the state that jobs lead to that begin after these actions, at the moment, and what is asked of processes by then
+pub record Settled (size t : ℕ) (s : Standing) (u : model.State) (before : List Action) (change : Change) (actions : List Action) : Type 0 where
+  pub leads : LeadsTo (λ all v. Adds (model.Settles t u) before v all × (¬ model.IsTooHeavy size v)) t actions (state_of (changed change s))
+  pub effect : is_change change ≡ true
+  pub rows : IfSome (rows_of change) (DiffersInRows (state_of s) (state_of (changed change s)))
+  pub tables : rows_of change ≡ None → ¬ HasSameTables s (changed change s)
 
 -- what jobs lead to that begin after these actions is too heavy
 pub record SettlesTooHeavy (size t : ℕ) (u : model.State) (before : List Action) (r : Refused) : Type 0 where
@@ -151,11 +159,13 @@ pub record Obeys (size t : ℕ) (s : Standing) (command : model.Command) (n : Ne
   pub room : ¬ model.IsTooHeavy size state
   pub effect : has_effect_in n ≡ true
   pub rows : IfSome (rows_in n) (DiffersInRows (state_of s) (state_of (state_after n s)))
+  pub tables : rows_in n ≡ None → ¬ HasSameTables s (state_after n s)
 
--- what changes by a happening: nothing, where it has no effect; else it leads to what follows, at the moment
+-- what changes by a happening: nothing, where it has no effect; else it leads to what follows, at the moment, and to other tables where it
+-- holds tables
 abbrev pub MetBy : ℕ → Standing → model.Happening → Change → List Action → Type 0
 MetBy t s happening Nothing actions = model.HasNoEffect t (state_of s) happening × (actions ≡ [])
 MetBy t s happening (Rows delta) actions =
     (¬ model.HasNoEffect t (state_of s) happening) × DoesRows (model.Follows t (state_of s) happening) t s delta actions
 MetBy t s happening (Tables given) actions =
-    (¬ model.HasNoEffect t (state_of s) happening) × LeadsTo (model.Follows t (state_of s) happening) t actions given.state
+    (¬ model.HasNoEffect t (state_of s) happening) × LeadsTo (model.Follows t (state_of s) happening) t actions given.state × (¬ HasSameTables s (standing_of given))

@@ -1,9 +1,9 @@
 ghost use Rattle.um_falling.specs.Carrying.{Adds};
-ghost use Rattle.std.specs.Prelude.{◌≡◌, ◌≢◌, ◌↔◌, [], true, false, is_some, map, IfOk, IfErr, IfSome, IsTrue};
-ghost use Rattle.um_engine.specs.Engine.{DiffersInRows, LacksEffect, LeadsTo, Obeys, Settled, SettlesTooHeavy, standing_in, state_in, size_in, has_effect_in, rows_in, state_after, reply_in, actions_in, state_before};
+ghost use Rattle.std.specs.Prelude.{◌≡◌, ◌≢◌, ◌↔◌, [], true, false, None, is_some, map, IfOk, IfErr, IfSome, IsTrue};
+ghost use Rattle.um_engine.specs.Engine.{DiffersInRows, HasSameTables, LacksEffect, LeadsTo, Obeys, Settled, SettlesTooHeavy, changed, is_change, rows_of, standing_in, state_in, size_in, has_effect_in, rows_in, state_after, reply_in, actions_in, state_before};
 ghost use Rattle.um_engine.specs.OfStore.{is_of_store};
 ghost use Rattle.um_engine.specs.Planned.{Declines};
-ghost use Rattle.um_engine.specs.Served.{WorksOn};
+ghost use Rattle.um_engine.specs.Served.{WorksOn, standing_of};
 ghost use Rattle.um_model.specs.Machine as model;
 ghost use Rattle.um_model.specs.Machine.{Step, moment_of};
 ghost use Rattle.um_model.specs.Refusals.{Refused};
@@ -12,6 +12,7 @@ ghost use Rattle.um_state.specs.View.{state_of, input_of, query_of, reply_of, ac
 ghost use Rattle.um_wire.specs.Refusal.{refused_of};
 ghost use Rattle.um_wire.specs.declared.refusal.Refusal.TheVariants.{NoMemory};
 
+use crate::between::rows_between;
 use crate::commands::{Outcome, done};
 use crate::happenings::{is_unawaited, met};
 use crate::loading::known_of_loaded;
@@ -54,8 +55,8 @@ pub struct Next {
 }
 
 impl Next {
-    /// Of how many units the fields or pending jobs differ after the step. None where it changes a tree or what is known of units. It takes no
-    /// memory.
+    /// Of how many units the fields or pending jobs differ after the step. None where it changes a tree, the boot's id or which units are known.
+    /// It takes no memory.
     pub fn rows(&self) -> Option<usize>
         ensures { result ≡ rows_in self.now }
     {
@@ -133,7 +134,7 @@ impl Engine {
     fn with_rows(&self, mut work: Work<'_>) -> Result<Next, Refusal>
         requires { WorksOn self.now.served work }
         ensures settled { IfOk result (λ next.
-            Settled (size_in self.now) work.entry.moment (standing_in self.now) (state_of work.entry.now) work.entry.actions next) }
+            Settled (size_in self.now) work.entry.moment (standing_in self.now) (state_of work.entry.now) work.entry.actions next.change (actions_in next)) }
         ensures reply { IfOk result (λ next. reply_in next ≡ model.Done) }
         ensures refused { IfErr result (λ e. ¬ (e ≡ NoMemory)
             → SettlesTooHeavy (size_in self.now) work.entry.moment (state_of work.entry.now) work.entry.actions (refused_of e)) }
@@ -150,17 +151,29 @@ impl Engine {
 
     /// The step to these tables once jobs have begun at the moment.
     fn with_tables(&self, served: Served, reply: Reply, moment: Moment) -> Result<Next, Refusal>
-        ensures settled { IfOk result (λ next. Settled (size_in self.now) moment (standing_in self.now) served.state [] next) }
+        ensures settled { IfOk result (λ next.
+            Settled (size_in self.now) moment (standing_in self.now) served.state [] next.change (actions_in next)) }
         ensures reply { IfOk result (λ next. reply_in next ≡ reply_of reply) }
+        ensures refused { IfErr result (λ e. ¬ (e ≡ NoMemory) → SettlesTooHeavy (size_in self.now) moment served.state [] (refused_of e)) }
+    {
+        let (change, actions) = self.change_to(served, moment)?;
+        Ok(Next {
+            change,
+            reply,
+            actions,
+        })
+    }
+
+    /// The change to these tables once jobs have begun at the moment, and what is asked of processes.
+    fn change_to(&self, served: Served, moment: Moment) -> Result<(Change, Vec<Action>), Refusal>
+        ensures settled { IfOk result (λ r.
+            Settled (size_in self.now) moment (standing_in self.now) served.state [] r.0 (map action_of r.1.items)) }
         ensures refused { IfErr result (λ e. ¬ (e ≡ NoMemory) → SettlesTooHeavy (size_in self.now) moment served.state [] (refused_of e)) }
     {
         let (served, actions) = settled(self.alloc, served, moment)?;
         check_room(self.alloc, &served, self.size)?;
-        Ok(Next {
-            change: Change::Tables(served),
-            reply,
-            actions,
-        })
+        let change = change_between(self.alloc, &self.served, served)?;
+        Ok((change, actions))
     }
 
     /// The step that the input is. It is refused as the machine refuses it, or for want of memory (E15); nothing has changed then.
@@ -178,6 +191,8 @@ impl Engine {
         ensures only { IfErr result (λ e. is_of_store e ≡ false) }
         ensures rows { IfOk result (λ next.
             IfSome (rows_in next) (DiffersInRows (state_in self.now) (state_after next (standing_in self.now)).state)) }
+        ensures tables { IfOk result (λ next.
+            rows_in next ≡ None → ¬ HasSameTables (standing_in self.now) (state_after next (standing_in self.now))) }
     {
         let moment = self.served.state().clock().or_later(input.moment());
         match input.event() {
@@ -289,4 +304,17 @@ fn settled(
     let (mut delta, actions) = work.done()?;
     served.swap(&mut delta);
     Ok((served, actions))
+}
+
+/// What leads from what is served to these tables: rows, where nothing else differs.
+fn change_between(alloc: Global, served: &Served, after: Served) -> Result<Change, AllocError>
+    ensures leads { IfOk result (λ change. changed change (standing_of served.now) ≡ standing_of after) }
+    ensures effect { IfOk result (λ change. is_change change ≡ true) }
+    ensures rows { IfOk result (λ change. IfSome (rows_of change) (DiffersInRows served.now.state after.state)) }
+    ensures tables { IfOk result (λ change. rows_of change ≡ None → ¬ HasSameTables (standing_of served.now) (standing_of after)) }
+{
+    match rows_between(alloc, served.standing(), after.standing())? {
+        Some(delta) => Ok(Change::Rows(delta)),
+        None => Ok(Change::Tables(after)),
+    }
 }

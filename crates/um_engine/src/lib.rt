@@ -2,6 +2,7 @@
 //! from the state alone.
 #![tactic(auto)]
 
+mod between;
 mod commands;
 mod engine;
 mod happenings;
@@ -14,6 +15,7 @@ mod planning;
 mod resetting;
 mod restarting;
 mod room;
+mod same;
 mod served;
 mod settling;
 

@@ -115,6 +115,13 @@ impl Served {
         &self.state
     }
 
+    /// The state, with the numbers that its units have.
+    pub fn standing(&self) -> &State
+        ensures { result.now ≡ standing_of self.now }
+    {
+        &self.state
+    }
+
     /// What its trees weigh together (`Tree::weight`). It takes no memory, and goes over no tree.
     pub fn trees_weight(&self) -> u64
         ensures { result ≡ trees_weight self.now.state }

@@ -188,24 +188,58 @@ fn a_step_tells_how_many_rows_it_changes(rt: HostRuntime) {
     );
 }
 
+#[test]
+fn what_stands_already_changes_no_row(rt: HostRuntime) {
+    let mut engine = three(&rt);
+    let again = put(&rt, "lib/b.service", SLEEPS);
+    step(&rt, &mut engine, again, Some(0), "the text stands there");
+    step(&rt, &mut engine, reload(&rt), Some(0), "it is loaded");
+    let path = text(&rt, "lib/c.service");
+    let removal = obeyed(&rt, 5, Command::Remove { path });
+    step(&rt, &mut engine, removal, None, "a file is removed");
+}
+
+/// An engine in which one service runs once and another waits until it is done.
+fn one_waits(rt: &(impl AllocGlobal + Abort)) -> Engine {
+    let mut engine = engine_in(rt, State::empty(rt.alloc()));
+    add(rt, &mut engine, "lib/f.service", RUNS_ONCE);
+    add(rt, &mut engine, "lib/g.service", COMES_LAST);
+    load(rt, &mut engine);
+    let start = asked(rt, UnitVerb::Start, "g.service");
+    step(rt, &mut engine, start, Some(2), "one runs and one waits");
+    engine
+}
+
+/// The jobs of the unit that wait are dropped.
+fn cancel(rt: &(impl AllocGlobal + Abort), name: &str) -> Input {
+    let unit = unit(rt, name);
+    obeyed(rt, 9, Command::Cancel { unit })
+}
+
 /// The job of the unit that waits is dropped, and waits again by the way back.
 fn cancel_and_go_back(rt: &(impl AllocGlobal + Abort), engine: &mut Engine, name: &str) {
-    let unit = unit(rt, name);
-    let cancel = obeyed(rt, 9, Command::Cancel { unit });
-    let back = leave(rt, engine, cancel, Some(1), "its job is dropped");
+    let dropped = cancel(rt, name);
+    let back = leave(rt, engine, dropped, Some(1), "its job is dropped");
     engine.back(back);
 }
 
 #[test]
 fn a_job_that_waits_is_a_row_that_changes(rt: HostRuntime) {
-    let mut engine = engine_in(&rt, State::empty(rt.alloc()));
-    add(&rt, &mut engine, "lib/f.service", RUNS_ONCE);
-    add(&rt, &mut engine, "lib/g.service", COMES_LAST);
-    load(&rt, &mut engine);
-    let start = asked(&rt, UnitVerb::Start, "g.service");
-    step(&rt, &mut engine, start, Some(2), "one runs and one waits");
+    let mut engine = one_waits(&rt);
     cancel_and_go_back(&rt, &mut engine, "g.service");
     step(&rt, &mut engine, ended(&rt, 1), Some(2), "the next begins");
+}
+
+#[test]
+fn units_that_are_known_anew_are_told_by_rows(rt: HostRuntime) {
+    let mut engine = one_waits(&rt);
+    add(&rt, &mut engine, "lib/Z.service", SLEEPS);
+    load(&rt, &mut engine);
+    let dropped = cancel(&rt, "g.service");
+    // what is known was found while something was held of it
+    step(&rt, &mut engine, dropped, Some(1), "its job is dropped");
+    let start = asked(&rt, UnitVerb::Start, "Z.service");
+    step(&rt, &mut engine, start, Some(1), "the same units are known");
 }
 
 /// Asserts how far the three have come, and the moment.

@@ -4,7 +4,7 @@ use Rattle.um_model.specs.Machine as model
 use Rattle.um_state.specs.View.{command_of, state_of}
 use Rattle.um_wire.specs.Refusal.{refused_of}
 use Rattle.um_wire.specs.declared.refusal.Refusal.TheVariants.{NoMemory}
-use Rattle.um_engine.specs.Engine.{Settled, SettlesTooHeavy, standing_in}
+use Rattle.um_engine.specs.Engine.{Settled, SettlesTooHeavy, actions_in, standing_in}
 use Rattle.um_engine.specs.Outcomes.{IsBasedOn, actions_by, reply_by, state_by}
 use Rattle.um_engine.specs.declared.commands.Outcome.TheVariants.{Rows, Tables}
 use Rattle.um_engine.proofs.Stepped.{declined_for_cause, declines_by, obeys_by}
@@ -26,7 +26,7 @@ returns-in-Rows-clause-obeys c =
     obeys_by c.args.self.now.size c.args.moment s command (Rows c.in-Rows.work) c.in_ok-outcome.ensures.refused
     (subst (λ o. model.Does c.args.moment (state_of s) command (actions_by o) (state_by o)) c.in-Rows.is c.in_ok-outcome.ensures.does) c.with_rows.result
     (subst (λ o. reply_by o ≡ model.reply_after (model.Commanded command) (state_of s).tree (state_by o).tree) c.in-Rows.is c.in_ok-outcome.ensures.reply)
-    (subst (λ m. IfOk c.with_rows.result (λ n. Settled c.args.self.now.size m s (state_of c.in-Rows.work.now) c.in-Rows.work.actions n)) based.1 c.with_rows.ensures.settled)
+    (subst (λ m. IfOk c.with_rows.result (λ n. Settled c.args.self.now.size m s (state_of c.in-Rows.work.now) c.in-Rows.work.actions n.change (actions_in n))) based.1 c.with_rows.ensures.settled)
     c.with_rows.ensures.reply
 
 pub returns-in-Rows-clause-refused : goal.returns-in-Rows-clause-refused

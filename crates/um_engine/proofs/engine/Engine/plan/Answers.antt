@@ -7,7 +7,7 @@ use Rattle.um_engine.specs.Engine.{standing_in}
 use Rattle.um_engine.specs.OfStore.{is_of_store}
 use Rattle.um_engine.proofs.AcceptedLaws.{never_refused}
 use Rattle.um_engine.proofs.OnlyLaws.{declined_of_no_store}
-use Rattle.um_engine.proofs.Stepped.{command_effect, declined_step, met_effect, met_nothing, met_rows, met_step, obeyed_step}
+use Rattle.um_engine.proofs.Stepped.{command_effect, declined_step, met_effect, met_nothing, met_rows, met_step, met_tables, obeyed_step}
 use Rattle.um_engine.proofs.engine.Engine.plan.Goals as goal
 
 pub returns-in_err-next-in-Commanded-clause-refused : goal.returns-in_err-next-in-Commanded-clause-refused
@@ -54,6 +54,9 @@ returns-in_ok-next-in-Commanded-clause-nothing c = λ none. absurd (true≢false
 pub returns-in_ok-next-in-Commanded-clause-rows : goal.returns-in_ok-next-in-Commanded-clause-rows
 returns-in_ok-next-in-Commanded-clause-rows c = c.in_ok-next-in-Commanded.ensures.obeys.rows
 
+pub returns-in_ok-next-in-Commanded-clause-tables : goal.returns-in_ok-next-in-Commanded-clause-tables
+returns-in_ok-next-in-Commanded-clause-tables c = c.in_ok-next-in-Commanded.ensures.obeys.tables
+
 pub returns-in_ok-change-in-Happened-clause-ok : goal.returns-in_ok-change-in-Happened-clause-ok
 returns-in_ok-change-in-Happened-clause-ok c =
     let event = sym (rw c.in-Happened.is at c.event.ensures) in
@@ -79,4 +82,9 @@ returns-in_ok-change-in-Happened-clause-nothing c =
 pub returns-in_ok-change-in-Happened-clause-rows : goal.returns-in_ok-change-in-Happened-clause-rows
 returns-in_ok-change-in-Happened-clause-rows c =
     met_rows c.or_later-moment.result (standing_in c.args.self.now) (happening_of c.in-Happened.happening) c.in_ok-change-in-Happened.change
+    (map action_of c.in_ok-change-in-Happened.actions.items) c.in_ok-change-in-Happened.ensures
+
+pub returns-in_ok-change-in-Happened-clause-tables : goal.returns-in_ok-change-in-Happened-clause-tables
+returns-in_ok-change-in-Happened-clause-tables c =
+    met_tables c.or_later-moment.result (standing_in c.args.self.now) (happening_of c.in-Happened.happening) c.in_ok-change-in-Happened.change
     (map action_of c.in_ok-change-in-Happened.actions.items) c.in_ok-change-in-Happened.ensures

@@ -1,4 +1,5 @@
-use Rattle.std.proofs.Common.{map, refl}
+use Rattle.std.proofs.Common.{map, refl, sym}
+use Rattle.std.proofs.lemmas.Option.{none-some}
 use Rattle.um_state.specs.View.{action_of, state_of}
 use Rattle.um_engine.proofs.DoneLaws.{heavy_is, settled_rows}
 use Rattle.um_engine.proofs.KnownLaws.{works_settled}
@@ -23,4 +24,4 @@ pub returns-clause-settled : goal.returns-clause-settled
 returns-clause-settled c =
     let d = settled_rows c.args.self.now.size c.args.self.now.served c.args.work c.settle.new.work c.in_ok-delta.delta (map action_of c.in_ok-delta.actions.items) c.requires
     c.in_ok-settle.ensures.keeps c.in_ok-settle.ensures.settles c.in_ok-check_room_in.ensures.room c.in_ok-delta.ensures.after c.in_ok-delta.ensures.count c.in_ok-delta.ensures.actions in
-    record { leads = d.leads; effect = refl; rows = d.rows }
+    record { leads = d.leads; effect = refl; rows = d.rows; tables = λ none. absurd (none-some _ (sym none)) }

@@ -1,36 +1,8 @@
-use Rattle.std.proofs.Common.{[], map, refl}
-use Rattle.um_state.specs.View.{action_of}
-use Rattle.um_engine.proofs.DoneLaws.{heavy_before, heavy_is, light_before}
+use Rattle.std.proofs.Common.{[]}
+use Rattle.um_engine.proofs.DoneLaws.{heavy_is}
 use Rattle.um_engine.proofs.engine.Engine.with_tables.Goals as goal
 
-pub returns-clause-settled : goal.returns-clause-settled
-returns-clause-settled c =
-    let leads = c.in_ok-served.ensures in
-    let served = c.in_ok-served.served in
-    let actions = map action_of c.in_ok-served.actions.items in
-    record {
-      leads = record {
-        state = leads.state;
-        leads = ((actions, leads.leads, refl), light_before c.args.self.now.size c.args.moment leads.state served.state leads.is c.in_ok-check_room.ensures.room);
-        is = leads.is;
-      };
-      effect = refl;
-      rows = tt;
-    }
-
-pub returns-in_err-check_room-clause-refused : goal.returns-in_err-check_room-clause-refused
-returns-in_err-check_room-clause-refused c =
-    let size = c.args.self.now.size in
-    let leads = c.in_ok-served.ensures in
-    let served = c.in_ok-served.served in
-    let actions = map action_of c.in_ok-served.actions.items in
-    heavy_is size c.args.moment c.args.served.state [] c.from_residual-in_err-check_room.result c.in_err-check_room.field-0.0 c.from_residual-in_err-check_room.ensures.1
-    (λ differs.
-    let heavy = c.in_err-check_room.ensures.refused differs in
-    record {
-      actions = actions;
-      state = leads.state;
-      settles = (actions, leads.leads, refl);
-      heavy = heavy_before size c.args.moment leads.state served.state leads.is heavy.1;
-      refusal = heavy.0;
-    })
+pub returns-in_err-change-clause-refused : goal.returns-in_err-change-clause-refused
+returns-in_err-change-clause-refused c =
+    heavy_is c.args.self.now.size c.args.moment c.args.served.state [] c.from_residual.result c.in_err-change.field-0.0 c.from_residual.ensures.1
+    c.in_err-change.ensures.refused

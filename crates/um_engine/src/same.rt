@@ -1,0 +1,74 @@
+//! Whether two trees, or two lists of names, are the same.
+
+ghost use Rattle.std.specs.Prelude.{◌≡◌, ◌↔◌, Some, IsTrue, option_copied, option_map};
+ghost use Rattle.um_tree.specs.View.{entry_of, path_with_entry};
+
+use um_name::{Names, UnitName};
+use um_tree::{Entries, Entry, Tree};
+
+/// Whether both are files with the same text, or links to the same target.
+fn is_same_entry(entry: Entry<'_>, other: Entry<'_>) -> bool
+    ensures { IsTrue result ↔ (entry_of entry.entry ≡ entry_of other.entry) }
+{
+    match (entry, other) {
+        (Entry::File(text), Entry::File(other)) => text == other,
+        (Entry::Link(target), Entry::Link(other)) => target == other,
+        (Entry::File(_), Entry::Link(_)) | (Entry::Link(_), Entry::File(_)) => false,
+    }
+}
+
+/// Whether the other is this entry at this path.
+fn is_same_at(path: &str, entry: Entry<'_>, other: Option<(&str, Entry<'_>)>) -> bool
+    ensures { IsTrue result ↔ (option_map path_with_entry other.entry ≡ Some (path.now, entry_of entry.entry)) }
+{
+    match other {
+        Some((other_path, other)) => path == other_path && is_same_entry(entry, other),
+        None => false,
+    }
+}
+
+/// Whether both are the same entries at the same paths.
+fn are_same_entries(entries: Entries<'_>, others: Entries<'_>) -> bool
+    ensures { IsTrue result ↔ (entries.entry ≡ others.entry) }
+{
+    let mut others = others;
+    for (path, entry) in entries {
+        if !is_same_at(path, entry, others.next()) {
+            return false;
+        }
+    }
+    others.next().is_none()
+}
+
+/// Whether both have the same entries. It takes no memory.
+pub fn is_same_tree(tree: &Tree, other: &Tree) -> bool
+    ensures { IsTrue result ↔ (tree.now ≡ other.now) }
+{
+    tree.len() == other.len() && are_same_entries(tree.entries(), other.entries())
+}
+
+/// Whether both are the same name, or none.
+fn is_same_name(name: Option<&UnitName>, other: Option<&UnitName>) -> bool
+    ensures { IsTrue result ↔ (option_copied name.entry ≡ option_copied other.entry) }
+{
+    match (name, other) {
+        (Some(name), Some(other)) => name == other,
+        (None, None) => true,
+        (Some(_), None) | (None, Some(_)) => false,
+    }
+}
+
+/// Whether both have the same names. It takes no memory.
+pub fn is_same_names(names: &Names, others: &Names) -> bool
+    ensures { IsTrue result ↔ (names.now ≡ others.now) }
+{
+    if names.len() != others.len() {
+        return false;
+    }
+    for number in 0..names.len() {
+        if !is_same_name(names.name(number), others.name(number)) {
+            return false;
+        }
+    }
+    true
+}
