@@ -1,6 +1,6 @@
 //! What the state holds of one unit: choices by their tags, how a process ended, a start window, and the unit.
 ghost use Rattle.um_model.specs.InputSpellings.{mode_tag, modes};
-ghost use Rattle.um_model.specs.Spellings.{FitCounted, FitEnd, FitUnit, counted_at, counted_spelling, end_at, end_spelling, unit_at, unit_spelling};
+ghost use Rattle.um_model.specs.Spellings.{FitCounted, FitEnd, FitUnit, counted_at, counted_spelling, end_at, end_spelling, unit_at, unit_of, unit_spelling};
 ghost use Rattle.um_model.specs.Spellings.{job_state_tag, job_states, kind_tag, kinds, result_tag, results, sub_states, sub_tag};
 ghost use Rattle.um_model.proofs.InputSpellingsLaws.{mode_again, mode_back};
 ghost use Rattle.um_model.proofs.SpellingsLaws.{canonical_counted, canonical_end, canonical_unit};
@@ -9,6 +9,7 @@ ghost use Rattle.um_model.specs.declared.limit.Counted as counted;
 ghost use Rattle.um_model.specs.declared.service.End as end;
 ghost use Rattle.um_model.specs.declared.service.UnitState as unit;
 ghost use Rattle.std.specs.List.{slice_get};
+ghost use Rattle.std.specs.Prelude.{◌≡◌};
 
 use crate::canon::Canon;
 use crate::choices::Tagged;
@@ -249,6 +250,32 @@ type Fields = (
     ),
 );
 
+fn fields_of(unit: &UnitState) -> Fields
+    ensures { unit_of result ≡ unit.now }
+{
+    let last = (unit.window, (unit.stop_asked, unit.last));
+    let later = (unit.control, (unit.index, (unit.deadline, last)));
+    (unit.sub, (unit.result, (unit.main, later)))
+}
+
+fn unit_of(fields: Fields) -> UnitState
+    ensures { result ≡ unit_of fields }
+{
+    let (sub, (result, (main, later))) = fields;
+    let (control, (index, (deadline, (window, (stop_asked, last))))) = later;
+    UnitState {
+        sub,
+        result,
+        main,
+        control,
+        index,
+        deadline,
+        window,
+        stop_asked,
+        last,
+    }
+}
+
 impl Canon for UnitState {
     ghost Value = { unit.UnitState };
 
@@ -261,38 +288,12 @@ impl Canon for UnitState {
     ghost reading = { unit_at };
 
     fn put(&self, out: &mut Vec<u8>) -> Result<(), AllocError> {
-        self.sub.put(out)?;
-        self.result.put(out)?;
-        self.main.put(out)?;
-        self.control.put(out)?;
-        self.index.put(out)?;
-        self.deadline.put(out)?;
-        self.window.put(out)?;
-        self.stop_asked.put(out)?;
-        self.last.put(out)?;
-        Ok(())
+        fields_of(self).put(out)
     }
 
     fn get(alloc: Global, bytes: &[u8]) -> Result<Option<(UnitState, usize)>, AllocError> {
         match Fields::get(alloc, bytes)? {
-            Some((fields, n)) => {
-                let (
-                    sub,
-                    (result, (main, (control, (index, (deadline, (window, (stop_asked, last))))))),
-                ) = fields;
-                let unit = UnitState {
-                    sub,
-                    result,
-                    main,
-                    control,
-                    index,
-                    deadline,
-                    window,
-                    stop_asked,
-                    last,
-                };
-                Ok(Some((unit, n)))
-            }
+            Some((fields, n)) => Ok(Some((unit_of(fields), n))),
             None => Ok(None),
         }
     }
