@@ -188,6 +188,9 @@ module _ (s : State) (verb : UnitVerb) (asked : List ℕ) (mode : JobMode) (unit
     pub absent_at_rest : (r : Refused) → IsNotThere s verb asked r → Refuses s (model.ForUnit verb asked mode) r
     absent_at_rest r h = by_absence s verb asked mode r (few_at_rest s verb asked mode (few_asked few) (demanded_asked None is)) h
 
+    pub free_at_rest : ((q : Refused) → ¬ IsNotThere s verb asked q) → (r : Refused) → ¬ Refuses s (model.ForUnit verb asked mode) r
+    free_at_rest = free_to_rest s verb asked mode (few_asked few) (demanded_asked None is)
+
     pub rests_asked : (u : State) → u ≡ s → Changes s (model.ForUnit verb asked mode) u
     rests_asked u = rests_so s verb asked mode u (demanded_asked None is)
 

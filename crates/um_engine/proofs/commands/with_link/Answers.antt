@@ -2,6 +2,7 @@ use Rattle.std.proofs.Common.{rules, ◌≢◌}
 use Rattle.um_model.specs.Machine as model
 use Rattle.um_wire.specs.Refusal.{refused_of}
 use Rattle.um_wire.specs.declared.refusal.Refusal.TheVariants.{NoMemory}
+use Rattle.um_engine.proofs.PlannedLaws.{refuses_on}
 use Rattle.um_engine.proofs.Causes.{links_to, links_none_to}
 use Rattle.um_state.specs.View.{state_of}
 use Rattle.um_engine.proofs.commands.with_link.Goals as goal
@@ -10,7 +11,7 @@ pub returns-in_err-put_link-clause-refused : goal.returns-in_err-put_link-clause
 returns-in_err-put_link-clause-refused c =
     let step =
     links_none_to (state_of c.args.state.now) (state_of c.in_ok-changed.changed) c.args.path.now c.args.target.now c.in_err-put_link.field-0.0 c.in_ok-changed.ensures c.in_err-put_link.ensures.refused in
-    search (rules, step)
+    refuses_on (model.Refuses (state_of c.args.state.now) (model.PutLink c.args.path.now c.args.target.now)) c.from_residual-in_err-put_link.result c.in_err-put_link.field-0.0 c.from_residual-in_err-put_link.ensures.1 step
 
 pub returns-clause-changed : goal.returns-clause-changed
 returns-clause-changed c =

@@ -2,6 +2,7 @@ use Rattle.std.proofs.Common.{rules, ◌≢◌}
 use Rattle.um_model.specs.Machine as model
 use Rattle.um_wire.specs.Refusal.{refused_of}
 use Rattle.um_wire.specs.declared.refusal.Refusal.TheVariants.{NoMemory}
+use Rattle.um_engine.proofs.PlannedLaws.{refuses_on}
 use Rattle.um_engine.proofs.Causes.{removes_to, removes_none_to}
 use Rattle.um_state.specs.View.{state_of}
 use Rattle.um_engine.proofs.commands.without_path.Goals as goal
@@ -10,7 +11,7 @@ pub returns-in_err-remove-clause-refused : goal.returns-in_err-remove-clause-ref
 returns-in_err-remove-clause-refused c =
     let step =
     removes_none_to (state_of c.args.state.now) (state_of c.in_ok-changed.changed) c.args.path.now c.in_err-remove.field-0.0 c.in_ok-changed.ensures c.in_err-remove.ensures.refused in
-    search (rules, step)
+    refuses_on (model.Refuses (state_of c.args.state.now) (model.Remove c.args.path.now)) c.from_residual-in_err-remove.result c.in_err-remove.field-0.0 c.from_residual-in_err-remove.ensures.1 step
 
 pub returns-clause-changed : goal.returns-clause-changed
 returns-clause-changed c =

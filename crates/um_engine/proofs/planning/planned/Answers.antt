@@ -7,7 +7,7 @@ use Rattle.um_state.specs.View.{state_of}
 use Rattle.um_wire.specs.Refusal.{refused_of}
 use Rattle.um_engine.specs.Known.{KnownView}
 use Rattle.um_engine.specs.Outcomes.{state_by}
-use Rattle.um_engine.proofs.PlannedLaws.{absent_at_rest, asked_so, plans_asked, refuses_on, rests_asked}
+use Rattle.um_engine.proofs.PlannedLaws.{absent_at_rest, asked_so, free_at_rest, plans_asked, refuses_on, rests_asked}
 use Rattle.um_engine.proofs.planning.planned.Goals as goal
 
 pub returns-in_err-check_there-clause-refused : goal.returns-in_err-check_there-clause-refused
@@ -49,3 +49,16 @@ returns-clause-changed c =
     let is : Some c.in-Some.demand ≡ model.demand_of c.args.verb (active_state_of (state_of_unit s.units unit).sub) =
     subst (λ (x : State). Some c.in-Some.demand ≡ model.demand_of c.args.verb (active_state_of (state_of_unit x.units unit).sub)) here c.in-Some.ensures in
     plans_asked s c.args.verb c.args.asked.now c.args.mode unit same c.in-Some.demand is (state_by c.in_ok-outcome.outcome) c.in_ok-outcome.ensures.planned
+
+pub returns-in_default-clause-refused : goal.returns-in_default-clause-refused
+returns-in_default-clause-refused c =
+    let s = c.args.served.now.state in
+    let here = c.state-state.ensures.state in
+    let unit = c.in_ok-unit.field-0.unit in
+    let same : unit ≡ model.unit_asked s c.args.asked.now =
+    asked_so c.args.served.now.known s c.graph.result.now c.loaded.result.now c.args.asked.now unit c.known.ensures.knows
+    (c.graph.ensures ∙ ap (λ (k : KnownView). k.graph) c.known.ensures.known) (c.loaded.ensures ∙ ap (λ (x : State). x.loaded) here) c.in_ok-unit.ensures.unit in
+    let is : None ≡ model.demand_of c.args.verb (active_state_of (state_of_unit s.units unit).sub) =
+    subst (λ (x : State). None ≡ model.demand_of c.args.verb (active_state_of (state_of_unit x.units unit).sub)) here c.in_default.ensures in
+    free_at_rest s c.args.verb c.args.asked.now c.args.mode unit same is c.in_ok-known.ensures.refused
+    (λ q. subst (λ (x : State). ¬ model.IsNotThere x c.args.verb c.args.asked.now q) here (c.in_ok-check_there.ensures q))
