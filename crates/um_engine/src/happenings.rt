@@ -201,7 +201,7 @@ fn after_boot(
         return Ok(Change::Nothing);
     }
     let mut after = state.copy()?;
-    after.begin_boot(alloc, boot.copy()?)?;
+    after.begin_boot(alloc, boot.copy()?);
     after.set_clock(moment);
     match Served::of(alloc, after) {
         Ok(served) => Ok(Change::Tables(served)),

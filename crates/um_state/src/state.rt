@@ -15,7 +15,6 @@ ghost use Rattle.um_wire.specs.declared.refusal.Refusal.TheVariants.{NoMemory};
 
 use crate::boot::BootId;
 use crate::row::{Numbered, Row};
-use crate::shared_tree::SharedTree;
 use crate::units::{Pending, Units};
 use std::alloc::{AllocError, Global};
 use std::marker::Model;
@@ -27,8 +26,8 @@ use um_wire::Refusal;
 /// The state of the manager.
 #[derive(Drop)]
 pub struct State {
-    pub(crate) tree: SharedTree,
-    pub(crate) loaded: SharedTree,
+    pub(crate) tree: Tree,
+    pub(crate) loaded: Tree,
     pub(crate) boot: BootId,
     pub(crate) clock: Moment,
     pub(crate) next: NextNumber,
@@ -67,8 +66,8 @@ impl State {
         ensures { state_of result ≡ empty_state }
     {
         State {
-            tree: SharedTree::new(alloc),
-            loaded: SharedTree::new(alloc),
+            tree: Tree::new(alloc),
+            loaded: Tree::new(alloc),
             boot: BootId::none(alloc),
             clock: Moment::FIRST,
             next: NextNumber::FIRST,
@@ -82,14 +81,14 @@ impl State {
     pub fn tree(&self) -> &Tree
         ensures { result.now ≡ (state_of self.now).tree }
     {
-        self.tree.tree()
+        &self.tree
     }
 
     /// The tree as it was last loaded.
     pub fn loaded(&self) -> &Tree
         ensures { result.now ≡ (state_of self.now).loaded }
     {
-        self.loaded.tree()
+        &self.loaded
     }
 
     /// The boot's id.
@@ -151,7 +150,7 @@ impl State {
         ensures err { OnErr result (state_of self.new ≡ state_of self.old) }
         ensures refused { IfErr result (λ e. ¬ (e ≡ NoMemory) → put_file (state_of self.old).tree path.now text.now ≡ Err (refused_of e)) }
     {
-        self.tree.put_file(path, text)
+        self.tree.put(path, text)
     }
 
     /// Puts a link into the tree in hand, with the refusals of `Tree::link`; all is as before then.
@@ -161,7 +160,7 @@ impl State {
         ensures err { OnErr result (state_of self.new ≡ state_of self.old) }
         ensures refused { IfErr result (λ e. ¬ (e ≡ NoMemory) → put_link (state_of self.old).tree path.now target.now ≡ Err (refused_of e)) }
     {
-        self.tree.put_link(path, target)
+        self.tree.link(path, target)
     }
 
     /// Removes what stands in the tree in hand at the path, with the refusals of `Tree::remove`; all is as before then.
@@ -188,7 +187,6 @@ impl State {
         ensures ok { OnOk result (state_of self.new ≡ record (state_of self.old) { tree = tree; loaded = tree }) }
         ensures err { OnErr result (state_of self.new ≡ state_of self.old) }
     {
-        let tree = SharedTree::of(self.units.alloc, tree)?;
         self.loaded = tree.copy()?;
         self.tree = tree;
         Ok(())
@@ -260,22 +258,19 @@ impl State {
         self.next = next;
     }
 
-    /// Another boot begins: nothing is held of any unit, and what stood under `run/` is gone from both trees. Where memory is refused, all is as before.
-    pub fn begin_boot(&mut self, alloc: Global, boot: BootId) -> Result<(), AllocError>
-        ensures ok { OnOk result (state_of self.new ≡ booted boot (state_of self.old)) }
-        ensures err { OnErr result (state_of self.new ≡ state_of self.old) }
+    /// Another boot begins: nothing is held of any unit, and what stood under `run/` is gone from both trees. It takes no memory.
+    pub fn begin_boot(&mut self, alloc: Global, boot: BootId)
+        ensures { state_of self.new ≡ booted boot (state_of self.old) }
     {
-        let tree = self.tree.without_run()?;
-        self.loaded = self.loaded.without_run()?;
-        self.tree = tree;
+        self.tree.clear_run();
+        self.loaded.clear_run();
         self.boot = boot;
         self.units = Units::new(alloc);
         self.pending = Pending::new(alloc);
         self.is_common = false;
-        Ok(())
     }
 
-    /// The same state again. Trees are shared with it.
+    /// The same state again.
     pub fn copy(&self) -> Result<State, AllocError>
         ensures { IfOk result (λ s. state_of s ≡ state_of self.now) }
     {

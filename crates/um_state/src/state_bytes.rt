@@ -3,13 +3,11 @@ ghost use Rattle.std.specs.Prelude.{◌≡◌, ◌++◌, true, nat_lt, IfOk, OnO
 ghost use Rattle.std.specs.List.{list_all};
 ghost use Rattle.um_model.specs.Bytes.{IsInFront};
 ghost use Rattle.um_model.specs.Machine as model;
-ghost use Rattle.um_model.specs.StateSpellings.{FitState, FitTree, is_sound, state_at, state_spelling, tree_at, tree_spelling};
-ghost use Rattle.um_model.proofs.StateSpellingsLaws.{canonical_state, canonical_tree};
-ghost use Rattle.um_model.specs.Tree as trees;
+ghost use Rattle.um_model.specs.StateSpellings.{FitState, is_sound, state_at, state_spelling};
+ghost use Rattle.um_model.proofs.StateSpellingsLaws.{canonical_state};
 ghost use Rattle.um_state.specs.View.{state_of};
 
 use crate::boot::BootId;
-use crate::shared_tree::SharedTree;
 use crate::state::State;
 use crate::unit_bytes::are_distinct;
 use crate::units::{Pending, Units};
@@ -23,37 +21,9 @@ const STATE_VERSION: u8 = 1;
 
 /// The fields of a state, in the order of their bytes.
 type Fields = (
-    SharedTree,
-    (
-        SharedTree,
-        (BootId, (Moment, (NextNumber, (Units, Pending)))),
-    ),
+    Tree,
+    (Tree, (BootId, (Moment, (NextNumber, (Units, Pending))))),
 );
-
-impl Canon for SharedTree {
-    ghost Value = { trees.Tree };
-
-    ghost value = { λ tree. tree };
-
-    ghost fits = { FitTree };
-
-    ghost spelling = { tree_spelling };
-
-    ghost reading = { tree_at };
-
-    fn put(&self, out: &mut Vec<u8>) -> Result<(), AllocError> {
-        self.tree().put(out)
-    }
-
-    fn get(alloc: Global, bytes: &[u8]) -> Result<Option<(SharedTree, usize)>, AllocError> {
-        let Some((tree, n)) = <Tree as Canon>::get(alloc, bytes)? else {
-            return Ok(None);
-        };
-        Ok(Some((SharedTree::of(alloc, tree)?, n)))
-    }
-
-    ghost canonical = { canonical_tree };
-}
 
 /// Whether each number is below the next one.
 fn are_below(numbers: &[u64], next: NextNumber) -> bool

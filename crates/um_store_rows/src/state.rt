@@ -262,7 +262,7 @@ fn set(rt: &(impl AllocGlobal + Abort), state: &mut State, name: &str, of: UnitS
 /// Boots.
 fn boot(rt: &(impl AllocGlobal + Abort), state: &mut State) {
     let boot = BootId::new(text(rt, "b1")).expect(rt, "no boot");
-    state.begin_boot(rt.alloc(), boot).expect(rt, "no memory");
+    state.begin_boot(rt.alloc(), boot);
 }
 
 /// Sets the clock and the next number.
