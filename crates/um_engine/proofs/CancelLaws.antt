@@ -1,14 +1,13 @@
 -- A cancel in a work that begins in what is served.
-use Rattle.std.proofs.Common.{◌≡◌, ◌∙◌, ℕ, false, List, sym, ap, subst}
+use Rattle.std.proofs.Common.{◌≡◌, ◌∙◌, ℕ, false, List, ap}
 use Rattle.um_model.specs.Jobs.{cancelled, jobs_of_unit}
 use Rattle.um_model.specs.Machine.{State, Cancel, Changes, IsMissing, Refuses, unit_asked, with_plan}
 use Rattle.um_model.specs.Refusals.{Refused, no_such_job}
 use Rattle.um_model.specs.Waiting.{has_waiting}
 use Rattle.um_state.specs.View.{state_of}
-use Rattle.um_falling.specs.Work.{Keeps, WorkView}
-use Rattle.um_engine.specs.Served.{ServedView, WorksOn, begun_at, standing_of}
+use Rattle.um_falling.specs.Work.{WorkView}
+use Rattle.um_engine.specs.Served.{ServedView, begun_at, standing_of}
 use Rattle.um_engine.proofs.Causes.{by_none_waiting, cancels_to, free_to_cancel, none_waits, some_waits}
-use Rattle.um_engine.proofs.KnownLaws.{works_begun, works_still}
 
 module _ (v : ServedView) (t : ℕ) (asked unit : List ℕ) (u : WorkView) (begun : u ≡ begun_at (standing_of v) v.known.graph t) (is : unit ≡ unit_asked v.state asked) where
   -- no job of the unit waits, which is refused

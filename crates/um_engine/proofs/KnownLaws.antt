@@ -6,11 +6,11 @@ use Rattle.std.proofs.lemmas.Option.{get_or_from_slice_get, none-some}
 use Rattle.um_graph.proofs.NamedLaws.{got_within}
 use Rattle.um_model.specs.Dependencies.{CountsFor, IsKnown, KnowsTooMany, extra}
 use Rattle.um_model.specs.Servable.{IsFew}
-use Rattle.um_model.specs.Machine.{State, IsHeld, IsHeldOr, IsTooHeavy, Settles, booted, PutFile, PutLink, Remove, Cancel, Changes, puts, links, removes, cancels, unit_asked}
+use Rattle.um_model.specs.Machine.{State, IsHeld, IsHeldOr, IsTooHeavy, Settles, booted, PutFile, PutLink, Remove, Changes, puts, links, removes}
 use Rattle.um_model.specs.Reached.{first}
 use Rattle.um_model.specs.Tree.{Tree, without_run}
 use Rattle.um_model.specs.Weight.{weight_of}
-use Rattle.um_model.proofs.FewLaws.{booted_none, cancel_no_more}
+use Rattle.um_model.proofs.FewLaws.{booted_none}
 use Rattle.um_model.specs.Live.{HoldsNoMore}
 use Rattle.um_model.proofs.KeepsLaws.{settles_keeps}
 use Rattle.um_model.proofs.KnownLaws.{more_known}

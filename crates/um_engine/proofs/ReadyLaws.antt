@@ -1,13 +1,13 @@
 -- The job that begins next by the graph is the one that begins next by the tree.
-use Rattle.std.proofs.Common.{◌≡◌, ◌≢◌, ◌∙◌, ◌+◌, ◌<◌, ◌≤◌, ℕ, Bool, true, false, ◌||◌, true≢false, List, length, set, sum_by, Contains, Option, Some, None, Result, Ok, Err, IsOk, ◌↔◌, MatchOption, slice_get, unwrap_or, refl, sym, ap, subst, inl, inr, arith}
+use Rattle.std.proofs.Common.{◌≡◌, ◌≢◌, ◌∙◌, ◌+◌, ◌<◌, ◌≤◌, ℕ, Bool, true, false, ◌||◌, true≢false, List, length, set, sum_by, Contains, Option, Some, None, slice_get, unwrap_or, refl, sym, ap, subst, inl, inr, arith}
 use Rattle.std.proofs.lemmas.Bool.{cases_lt}
 use Rattle.std.proofs.lemmas.Grind.{get_or-set_at}
-use Rattle.std.proofs.lemmas.List.{get_or-set_other, get_or_past, length-set}
+use Rattle.std.proofs.lemmas.List.{get_or-set_other, length-set}
 use Rattle.std.proofs.lemmas.Option.{none-some, same_Some}
 use Rattle.std.specs.FinMap as map
-use Rattle.um_model.specs.Jobs.{Job, BeginsNext, ComesBefore, GoesBefore, IsReady, IsToldBefore, cancelled, job_of, jobs_of_unit, no_jobs, with_job, with_jobs, of_one_unit, starts, state_of_job, stops, stops_then_starts, stops_then_starts_before}
+use Rattle.um_model.specs.Jobs.{Job, BeginsNext, ComesBefore, GoesBefore, IsReady, IsToldBefore, job_of, jobs_of_unit, no_jobs, with_job, with_jobs, of_one_unit, starts, state_of_job, stops, stops_then_starts, stops_then_starts_before}
 use Rattle.um_model.specs.Least.{IsLeast}
-use Rattle.um_model.specs.Machine.{State, IsBefore, IsHeld, IsStill, begun, is_waiting}
+use Rattle.um_model.specs.Machine.{State, IsBefore, IsStill, begun, is_waiting}
 use Rattle.um_model.specs.Service.{active_state_of, state_of_unit}
 use Rattle.um_model.specs.declared.jobs.JobKind.{JobKind}
 use Rattle.um_model.specs.declared.jobs.JobKind.TheVariants.{Stop, Start}
@@ -31,7 +31,7 @@ use Rattle.um_falling.specs.Carrying.{KeepsOthers}
 use Rattle.um_engine.specs.Planned.{ArePending}
 use Rattle.um_engine.specs.Filled.{NoneWaits, Tells, TellsBelow, deactivates, is_deactivating, told_of}
 use Rattle.um_falling.specs.Over.{Serves}
-use Rattle.um_falling.proofs.AlongLaws.{number_by, pending_apart, sum_drops}
+use Rattle.um_falling.proofs.AlongLaws.{number_by, sum_drops}
 use Rattle.um_falling.proofs.TakenLaws.{before_by, stands_by}
 
 -- ---- the jobs by number are filled
