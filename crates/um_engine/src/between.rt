@@ -67,6 +67,7 @@ pub fn rows_between(alloc: Global, base: &State, after: &State) -> Result<Option
     ensures count { IfOk result (λ made. IfSome made (λ d. CountsDiffering (state_of base.now) (state_of after.now) (vec_len d.rows))) }
     ensures none { IfOk result (λ made. made ≡ None → ¬ HasSameTables base.now after.now) }
 {
+    // what is served was numbered, so it has rows
     let Some(was) = base.numbered() else {
         return Err(AllocError);
     };

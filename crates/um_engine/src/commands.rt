@@ -141,7 +141,7 @@ fn without_path(alloc: Global, state: &State, path: &str) -> Result<State, Refus
 pub enum Outcome<'s> {
     /// Units and pending jobs alone change, and nothing is answered.
     Rows(Work<'s>),
-    /// A tree changes, or what is known of units.
+    /// A tree, or what is known of units, is made anew.
     Tables(Served, Reply),
 }
 
