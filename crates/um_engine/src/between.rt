@@ -15,9 +15,13 @@ fn has_same_trees(state: &State, other: &State) -> bool
     ensures { IsTrue result ↔ (((state_of other.now).tree ≡ (state_of state.now).tree)
         × ((state_of other.now).loaded ≡ (state_of state.now).loaded) × ((state_of other.now).boot ≡ (state_of state.now).boot)) }
 {
-    is_same_tree(other.tree(), state.tree())
-        && is_same_tree(other.loaded(), state.loaded())
-        && other.boot().as_str() == state.boot().as_str()
+    if !is_same_tree(other.tree(), state.tree()) {
+        return false;
+    }
+    if !is_same_tree(other.loaded(), state.loaded()) {
+        return false;
+    }
+    other.boot().as_str() == state.boot().as_str()
 }
 
 /// Puts these rows in the place of those that were, from which the work begins. It takes no memory.
