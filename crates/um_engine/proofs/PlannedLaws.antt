@@ -45,7 +45,7 @@ use Rattle.um_engine.specs.Planned.{AreActive, ArePending, HasPlan, IsTransactio
 use Rattle.um_engine.specs.Served.{ServedView, WorksOn, begun_at, standing_of}
 use Rattle.um_engine.proofs.NumberedLaws.{free_for, plan_for, refused_for}
 use Rattle.um_engine.proofs.SameUnitsLaws.{full_by}
-use Rattle.um_engine.proofs.Causes.{by_absence, by_fullness, by_plan, few_at_rest, few_planned, free_to_plan, plans_to, rests_so}
+use Rattle.um_engine.proofs.Causes.{by_absence, by_fullness, by_plan, few_at_rest, few_planned, free_to_plan, free_to_rest, plans_to, rests_so}
 
 -- a call that gives on the refusal of another is refused for its cause
 pub refuses_on : {X : Type 0} (Cause : Refused → Type 0) (result : Result X Refusal) (e : Refusal) → IsErrAnd result (λ f. f ≡ e) → (e ≢ NoMemory → Cause (refused_of e))
