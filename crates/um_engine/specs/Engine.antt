@@ -168,4 +168,5 @@ MetBy t s happening Nothing actions = model.HasNoEffect t (state_of s) happening
 MetBy t s happening (Rows delta) actions =
     (¬ model.HasNoEffect t (state_of s) happening) × DoesRows (model.Follows t (state_of s) happening) t s delta actions
 MetBy t s happening (Tables given) actions =
-    (¬ model.HasNoEffect t (state_of s) happening) × LeadsTo (model.Follows t (state_of s) happening) t actions given.state × (¬ HasSameTables s (standing_of given))
+    (¬ model.HasNoEffect t (state_of s) happening) × LeadsTo (model.Follows t (state_of s) happening) t actions given.state
+    × (¬ HasSameTables s (standing_of given))
