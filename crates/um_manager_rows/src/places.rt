@@ -1,5 +1,4 @@
 //! Folders of tests, and what stands in them.
-use crate::asserts::same_at;
 use std::fs::{File, Files};
 use std::path::PathBuf;
 use std::process::Abort;
@@ -43,7 +42,7 @@ pub fn holds(
     wanted: Option<&str>,
 ) {
     let text = text_at(rt, folder, name);
-    same_at(rt, text.as_deref(), wanted, name);
+    assert_eq!(rt; text.as_deref(), wanted, "at {name}");
 }
 
 /// Puts a file there.
