@@ -2,9 +2,9 @@
 use crate::answers::{at, told};
 use crate::asserts::{same, same_at, text, unit};
 use std::process::Abort;
-use um_engine::{Engine, Next};
+use um_engine::Engine;
 use um_model::{End, JobMode, SubState, UnitState, UnitVerb};
-use um_state::{Action, BootId, Command, Event, Happening, Input, Query, Reply, State};
+use um_state::{BootId, Command, Event, Happening, Input, Query, Reply, State};
 
 /// The size of a store, in bytes.
 const SIZE: u64 = 8_388_096;
@@ -70,74 +70,69 @@ const RUNNING: Option<SubState> = Some(SubState::Running);
 
 const STOPPING: Option<SubState> = Some(SubState::StopSigterm);
 
-const A_START_OF_NOTHING_IS_REFUSED: Script = Script {
-    shows: "a start of nothing is refused",
-    entries: 0,
-    steps: &[
-        (START, "E4 NotFound a.service", None),
-        (RESTART, "E4 NotFound a.service", None),
-        (STOP, "E7 NotLoaded a.service", None),
-        (TRY_RESTART, "E7 NotLoaded a.service", None),
-    ],
-    main: None,
-};
-
-const A_PUT_INTO_A_FULL_TREE_IS_REFUSED: Script = Script {
-    shows: "a put into a full tree is refused",
-    // a tree has 4096 at most
-    entries: 4095,
-    steps: &[
-        // the last one that has room is put once more in its own place
-        (PUT, "", None),
-        (PUT, "", None),
-        (
-            Comes::Put("lib/more.service", "#"),
-            "E13 TooLarge entries",
-            None,
-        ),
-    ],
-    main: None,
-};
-
-const THE_END_OF_NO_PROCESS_HAS_NO_EFFECT: Script = Script {
-    shows: "the end of no process has no effect",
-    entries: 0,
-    steps: &[
-        (PUT, "", None),
-        (Comes::Reload, "", None),
-        (START, SPAWN_1, RUNNING),
-        (LATE, NO_EFFECT, None),
-    ],
-    main: Some(1),
-};
-
-const A_RESTART_STOPS_A_RUNNING_SERVICE_AND_STARTS_IT_AGAIN: Script = Script {
-    shows: "a restart stops a running service and starts it again",
-    entries: 0,
-    steps: &[
-        (PUT, "", None),
-        (Comes::Reload, "", None),
-        (START, SPAWN_1, RUNNING),
-        (RESTART, TERM_1, STOPPING),
-        (FIRST_ENDS, SPAWN_2, RUNNING),
-    ],
-    main: Some(2),
-};
-
-const A_RESTART_OF_WHAT_RUNS_STOPS_A_RUNNING_SERVICE_AND_STARTS_IT_AGAIN: Script = Script {
-    shows: "a restart of what runs stops a running service and starts it again",
-    entries: 0,
-    steps: &[
-        (PUT, "", None),
-        (Comes::Reload, "", None),
-        (START, SPAWN_1, RUNNING),
-        (TRY_RESTART, TERM_1, STOPPING),
-        (FIRST_ENDS, SPAWN_2, RUNNING),
-    ],
-    main: Some(2),
-};
-
-const A_RESTART_STARTS_WHAT_DOES_NOT_RUN_AND_A_RESTART_OF_WHAT_RUNS_CHANGES_NOTHING: Script =
+const SCRIPTS: &[Script] = &[
+    Script {
+        shows: "a start of nothing is refused",
+        entries: 0,
+        steps: &[
+            (START, "E4 NotFound a.service", None),
+            (RESTART, "E4 NotFound a.service", None),
+            (STOP, "E7 NotLoaded a.service", None),
+            (TRY_RESTART, "E7 NotLoaded a.service", None),
+        ],
+        main: None,
+    },
+    Script {
+        shows: "a put into a full tree is refused",
+        // a tree has 4096 at most
+        entries: 4095,
+        steps: &[
+            // the last one that has room is put once more in its own place
+            (PUT, "", None),
+            (PUT, "", None),
+            (
+                Comes::Put("lib/more.service", "#"),
+                "E13 TooLarge entries",
+                None,
+            ),
+        ],
+        main: None,
+    },
+    Script {
+        shows: "the end of no process has no effect",
+        entries: 0,
+        steps: &[
+            (PUT, "", None),
+            (Comes::Reload, "", None),
+            (START, SPAWN_1, RUNNING),
+            (LATE, NO_EFFECT, None),
+        ],
+        main: Some(1),
+    },
+    Script {
+        shows: "a restart stops a running service and starts it again",
+        entries: 0,
+        steps: &[
+            (PUT, "", None),
+            (Comes::Reload, "", None),
+            (START, SPAWN_1, RUNNING),
+            (RESTART, TERM_1, STOPPING),
+            (FIRST_ENDS, SPAWN_2, RUNNING),
+        ],
+        main: Some(2),
+    },
+    Script {
+        shows: "a restart of what runs stops a running service and starts it again",
+        entries: 0,
+        steps: &[
+            (PUT, "", None),
+            (Comes::Reload, "", None),
+            (START, SPAWN_1, RUNNING),
+            (TRY_RESTART, TERM_1, STOPPING),
+            (FIRST_ENDS, SPAWN_2, RUNNING),
+        ],
+        main: Some(2),
+    },
     Script {
         shows: "a restart starts what does not run and a restart of what runs changes nothing",
         entries: 0,
@@ -149,161 +144,122 @@ const A_RESTART_STARTS_WHAT_DOES_NOT_RUN_AND_A_RESTART_OF_WHAT_RUNS_CHANGES_NOTH
             (RESTART, SPAWN_1, RUNNING),
         ],
         main: Some(1),
-    };
+    },
+    Script {
+        shows: "mode fail refuses a stop that drops a waiting start",
+        entries: 0,
+        steps: &[
+            (PUT, "", None),
+            (Comes::Reload, "", None),
+            (START_OR_FAIL, SPAWN_1, RUNNING),
+            (STOP_OR_FAIL, TERM_1, STOPPING),
+            (START_OR_FAIL, "", STOPPING),
+            (STOP_OR_FAIL, "E10 JobConflict a.service", None),
+            (FIRST_ENDS, SPAWN_2, RUNNING),
+        ],
+        main: Some(2),
+    },
+    Script {
+        shows: "mode replace drops a waiting start",
+        entries: 0,
+        steps: &[
+            (PUT, "", None),
+            (Comes::Reload, "", None),
+            (START_OR_FAIL, SPAWN_1, RUNNING),
+            (STOP_OR_FAIL, TERM_1, STOPPING),
+            (START_OR_FAIL, "", STOPPING),
+            (STOP, "", STOPPING),
+            (FIRST_ENDS, "", DEAD),
+        ],
+        main: None,
+    },
+    Script {
+        shows: "after a boot all are dead and process numbers go on",
+        entries: 0,
+        steps: &[
+            (PUT, "", None),
+            (Comes::Reload, "", None),
+            (START, SPAWN_1, RUNNING),
+            (Comes::Booted("one"), "", DEAD),
+            (START, SPAWN_2, RUNNING),
+        ],
+        main: Some(2),
+    },
+    Script {
+        shows: "the boot that is known has no effect",
+        entries: 0,
+        steps: &[
+            (PUT, "", None),
+            (Comes::Reload, "", None),
+            (START, SPAWN_1, RUNNING),
+            (Comes::Booted("one"), "", DEAD),
+            (START, SPAWN_2, RUNNING),
+            (Comes::Booted("one"), NO_EFFECT, None),
+        ],
+        main: Some(2),
+    },
+    Script {
+        shows: "what stands under run is gone after a boot",
+        entries: 0,
+        steps: &[
+            (Comes::Put("run/a.service", SLEEPS), "", None),
+            (Comes::Reload, "", None),
+            (START, SPAWN_1, RUNNING),
+            (Comes::Booted("one"), "", DEAD),
+            (START, "E4 NotFound a.service", None),
+        ],
+        main: None,
+    },
+];
 
-const MODE_FAIL_REFUSES_A_STOP_THAT_DROPS_A_WAITING_START: Script = Script {
-    shows: "mode fail refuses a stop that drops a waiting start",
-    entries: 0,
-    steps: &[
-        (PUT, "", None),
-        (Comes::Reload, "", None),
-        (START_OR_FAIL, SPAWN_1, RUNNING),
-        (STOP_OR_FAIL, TERM_1, STOPPING),
-        (START_OR_FAIL, "", STOPPING),
-        (STOP_OR_FAIL, "E10 JobConflict a.service", None),
-        (FIRST_ENDS, SPAWN_2, RUNNING),
-    ],
-    main: Some(2),
-};
-
-const MODE_REPLACE_DROPS_A_WAITING_START: Script = Script {
-    shows: "mode replace drops a waiting start",
-    entries: 0,
-    steps: &[
-        (PUT, "", None),
-        (Comes::Reload, "", None),
-        (START_OR_FAIL, SPAWN_1, RUNNING),
-        (STOP_OR_FAIL, TERM_1, STOPPING),
-        (START_OR_FAIL, "", STOPPING),
-        (STOP, "", STOPPING),
-        (FIRST_ENDS, "", DEAD),
-    ],
-    main: None,
-};
-
-const AFTER_A_BOOT_ALL_ARE_DEAD_AND_PROCESS_NUMBERS_GO_ON: Script = Script {
-    shows: "after a boot all are dead and process numbers go on",
-    entries: 0,
-    steps: &[
-        (PUT, "", None),
-        (Comes::Reload, "", None),
-        (START, SPAWN_1, RUNNING),
-        (Comes::Booted("one"), "", DEAD),
-        (START, SPAWN_2, RUNNING),
-    ],
-    main: Some(2),
-};
-
-const THE_BOOT_THAT_IS_KNOWN_HAS_NO_EFFECT: Script = Script {
-    shows: "the boot that is known has no effect",
-    entries: 0,
-    steps: &[
-        (PUT, "", None),
-        (Comes::Reload, "", None),
-        (START, SPAWN_1, RUNNING),
-        (Comes::Booted("one"), "", DEAD),
-        (START, SPAWN_2, RUNNING),
-        (Comes::Booted("one"), NO_EFFECT, None),
-    ],
-    main: Some(2),
-};
-
-const WHAT_STANDS_UNDER_RUN_IS_GONE_AFTER_A_BOOT: Script = Script {
-    shows: "what stands under run is gone after a boot",
-    entries: 0,
-    steps: &[
-        (Comes::Put("run/a.service", SLEEPS), "", None),
-        (Comes::Reload, "", None),
-        (START, SPAWN_1, RUNNING),
-        (Comes::Booted("one"), "", DEAD),
-        (START, "E4 NotFound a.service", None),
-    ],
-    main: None,
-};
-
-/// A file is put.
-fn put(rt: &(impl AllocGlobal + Abort), path: &str, content: &str) -> Event {
-    let path = text(rt, path);
-    let text = text(rt, content);
-    Event::Commanded(Command::PutFile { path, text })
-}
-
-/// A command for `a.service`.
-fn asked(rt: &(impl AllocGlobal + Abort), verb: UnitVerb, mode: JobMode) -> Event {
-    let unit = unit(rt, "a.service");
-    Event::Commanded(Command::ForUnit { verb, unit, mode })
-}
-
-/// The machine is booted, with this id.
-fn booted(rt: &(impl AllocGlobal + Abort), id: &str) -> Event {
-    let boot = BootId::new(text(rt, id)).expect(rt, "no boot");
-    Event::Happened(Happening::Booted { boot })
-}
-
-/// The process of this number ends.
-fn ended(number: u64, end: End) -> Event {
-    Event::Happened(Happening::ProcessEnded { number, end })
-}
-
-/// The event that comes in.
-fn event_of(rt: &(impl AllocGlobal + Abort), comes: &Comes) -> Event {
-    match comes {
-        Comes::Put(path, content) => put(rt, path, content),
-        Comes::Reload => Event::Commanded(Command::DaemonReload),
-        Comes::Asked(verb, mode) => asked(rt, *verb, *mode),
-        Comes::Ended(_, number, end) => ended(*number, *end),
-        Comes::Booted(id) => booted(rt, id),
-    }
-}
-
-/// When it comes in, in microseconds.
-fn micros_of(comes: &Comes) -> u64 {
-    match comes {
-        Comes::Ended(micros, _, _) => *micros,
-        Comes::Booted(_) => 7,
-        _ => 5,
-    }
-}
-
-/// The input that comes in.
+/// The input.
 fn input_of(rt: &(impl AllocGlobal + Abort), comes: &Comes) -> Input {
-    Input::new(at(rt, micros_of(comes)), event_of(rt, comes))
-}
-
-/// Puts the file of this number.
-fn put_numbered(rt: &(impl AllocGlobal + Abort), state: &mut State, number: usize) {
-    let path = format!(in rt.alloc(); "lib/u{number}.service").expect(rt, "no memory");
-    let put: Result<_, _> = state.put_file(path.as_str(), "#");
-    put.expect(rt, "not put");
+    let (micros, event) = match comes {
+        Comes::Put(path, content) => {
+            let path = text(rt, path);
+            let text = text(rt, content);
+            (5, Event::Commanded(Command::PutFile { path, text }))
+        }
+        Comes::Reload => (5, Event::Commanded(Command::DaemonReload)),
+        Comes::Asked(verb, mode) => {
+            let (verb, unit, mode) = (*verb, unit(rt, "a.service"), *mode);
+            (5, Event::Commanded(Command::ForUnit { verb, unit, mode }))
+        }
+        Comes::Ended(micros, number, end) => {
+            let (number, end) = (*number, *end);
+            let ended = Happening::ProcessEnded { number, end };
+            (*micros, Event::Happened(ended))
+        }
+        Comes::Booted(id) => {
+            let boot = BootId::new(text(rt, id)).expect(rt, "no boot");
+            (7, Event::Happened(Happening::Booted { boot }))
+        }
+    };
+    Input::new(at(rt, micros), event)
 }
 
 /// An engine in a state with so many files.
 fn engine_with(rt: &(impl AllocGlobal + Abort), entries: usize) -> Engine {
     let mut state = State::empty(rt.alloc());
     for number in 0..entries {
-        put_numbered(rt, &mut state, number);
+        let path = format!(in rt.alloc(); "lib/u{number}.service").expect(rt, "no memory");
+        let put: Result<_, _> = state.put_file(path.as_str(), "#");
+        put.expect(rt, "not put");
     }
     let engine = Engine::of(rt.alloc(), state, SIZE).expect(rt, "no memory");
     engine.expect(rt, "not served")
 }
 
-/// Takes the step: what it asks for.
-fn committed(engine: &mut Engine, next: Next) -> Vec<Action> {
-    let (_, actions, _) = engine.commit(next);
-    actions
-}
-
-/// Takes the step: that it has no effect, or what it asks for.
-fn taken(rt: &(impl AllocGlobal + Abort), engine: &mut Engine, next: Next) -> String {
-    let effect = if next.has_effect() { "" } else { NO_EFFECT };
-    let asked = told(rt, committed(engine, next).as_slice());
-    format!(in rt.alloc(); "{effect}{asked}").expect(rt, "no memory")
-}
-
 /// What comes of the input: its refusal; or it is taken, and has no effect or asks for this.
 fn answer_to(rt: &(impl AllocGlobal + Abort), engine: &mut Engine, input: &Input) -> String {
     match engine.plan(input) {
-        Ok(next) => taken(rt, engine, next),
+        Ok(next) => {
+            let has_effect = next.has_effect();
+            let (_, actions, _) = engine.commit(next);
+            let asked = told(rt, actions.as_slice());
+            let effect = if has_effect { "" } else { NO_EFFECT };
+            format!(in rt.alloc(); "{effect}{asked}").expect(rt, "no memory")
+        }
         Err(refusal) => refusal.to_string(rt.alloc()).expect(rt, "no memory"),
     }
 }
@@ -318,30 +274,20 @@ fn standing(rt: &(impl AllocGlobal + Abort), engine: &Engine) -> UnitState {
     }
 }
 
-/// Asserts that what comes in has this answer, in this row.
-fn is_answered(
-    rt: &(impl AllocGlobal + Abort),
-    engine: &mut Engine,
-    comes: &Comes,
-    wanted: &str,
-    row: (&str, usize),
-) {
-    let answer = answer_to(rt, engine, &input_of(rt, comes));
-    same_at(rt, answer.as_str(), wanted, row);
-}
-
 /// Asserts that each step has its answer, and that `a.service` stands then as it is told.
 fn play(rt: &(impl AllocGlobal + Abort), script: &Script) {
     let mut engine = engine_with(rt, script.entries);
     let mut stands = standing(rt, &engine);
     same_at(rt, stands, UnitState::DEAD, script.shows);
     for (at, (comes, wanted, sub)) in script.steps.iter().enumerate() {
+        let input = input_of(rt, comes);
         let row = (script.shows, at + 1);
-        is_answered(rt, &mut engine, comes, wanted, row);
+        let answer = answer_to(rt, &mut engine, &input);
+        same_at(rt, answer.as_str(), *wanted, row);
         let now = standing(rt, &engine);
         match sub {
             Some(sub) => same_at(rt, now.sub, *sub, row),
-            None => same_at(rt, now, stands, row),
+            None => assert_eq!(rt; now, stands, "at {row:?}"),
         }
         stands = now;
     }
@@ -351,23 +297,9 @@ fn play(rt: &(impl AllocGlobal + Abort), script: &Script) {
 
 #[test]
 fn steps_are_taken_or_refused(rt: HostRuntime) {
-    play(&rt, &A_START_OF_NOTHING_IS_REFUSED);
-    play(&rt, &A_PUT_INTO_A_FULL_TREE_IS_REFUSED);
-    play(&rt, &THE_END_OF_NO_PROCESS_HAS_NO_EFFECT);
-    play(&rt, &A_RESTART_STOPS_A_RUNNING_SERVICE_AND_STARTS_IT_AGAIN);
-    play(
-        &rt,
-        &A_RESTART_OF_WHAT_RUNS_STOPS_A_RUNNING_SERVICE_AND_STARTS_IT_AGAIN,
-    );
-    play(
-        &rt,
-        &A_RESTART_STARTS_WHAT_DOES_NOT_RUN_AND_A_RESTART_OF_WHAT_RUNS_CHANGES_NOTHING,
-    );
-    play(&rt, &MODE_FAIL_REFUSES_A_STOP_THAT_DROPS_A_WAITING_START);
-    play(&rt, &MODE_REPLACE_DROPS_A_WAITING_START);
-    play(&rt, &AFTER_A_BOOT_ALL_ARE_DEAD_AND_PROCESS_NUMBERS_GO_ON);
-    play(&rt, &THE_BOOT_THAT_IS_KNOWN_HAS_NO_EFFECT);
-    play(&rt, &WHAT_STANDS_UNDER_RUN_IS_GONE_AFTER_A_BOOT);
+    for script in SCRIPTS {
+        play(&rt, script);
+    }
 }
 
 /// Asserts that the step is taken to the clock of so many microseconds and that the way back leads to the other; `a.service` stands
@@ -384,10 +316,10 @@ fn is_taken_back(
     let (_, actions, back) = engine.commit(next.expect(rt, "a step is refused"));
     let taken = (actions.len(), engine.clock().micros());
     same(rt, taken, (0, clock));
-    same(rt, standing(rt, engine), stands);
+    assert_eq!(rt; standing(rt, engine), stands);
     engine.back(back);
     same(rt, engine.clock().micros(), clock_before);
-    same(rt, standing(rt, engine), stands);
+    assert_eq!(rt; standing(rt, engine), stands);
 }
 
 /// What leads to a running service.

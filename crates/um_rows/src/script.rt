@@ -4,8 +4,8 @@ use std::alloc::{AllocError, Global};
 use std::process::Abort;
 use um_memory::{Ending, Fault, memory};
 
-/// A script: what it shows, and its requests, each with the reply that is wanted for it. Each is a constant of its own: what the prover
-/// takes for one grows with its texts times their bytes.
+/// A script: what it shows, and its requests, each with the reply that is wanted for it. Most are constants of their own: what the
+/// prover takes for one grows with its texts times their bytes.
 pub struct Script {
     pub shows: &'static str,
     pub steps: &'static [(&'static str, &'static str)],
@@ -70,6 +70,13 @@ pub fn play(rt: &(impl AllocGlobal + Abort), shows: &str, steps: &[(&str, &str)]
     let (output, ending) = served(rt.alloc(), input.as_slice()).expect(rt, "not served");
     has_replies(rt, output.as_slice(), shows, steps);
     same_at(rt, ending, Ending::Between, shows);
+}
+
+/// Plays the scripts, each on a store of its own.
+pub fn play_all(rt: &(impl AllocGlobal + Abort), scripts: &[Script]) {
+    for script in scripts {
+        play(rt, script.shows, script.steps);
+    }
 }
 
 /// Plays the script on a store of its own.
