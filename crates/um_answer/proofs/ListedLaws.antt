@@ -4,7 +4,7 @@ use Rattle.std.proofs.lemmas.List.{map-append, take_more}
 use Rattle.std.proofs.lemmas.Option.{get_or_from_slice_get, none-some, slice_get-get_or}
 use Rattle.std.specs.Prelude.{AllPairs, Contains, slice_get}
 use Rattle.um_graph.specs.Graph.{GraphView, IsGraphOf}
-use Rattle.um_model.proofs.KnownLaws.{known_grows}
+use Rattle.um_laws.proofs.KnownLaws.{known_grows}
 use Rattle.um_model.specs.Dependencies.{IsKnown, extra}
 use Rattle.um_model.specs.Least.{IsNamedBefore}
 use Rattle.um_model.specs.Machine.{State, Listed, ListUnits, UnitListed, IsHeld, IsReplyTo, lists_units, unit_listed}

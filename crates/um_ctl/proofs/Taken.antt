@@ -6,7 +6,7 @@ use Rattle.std.specs.Io.KnownBytes.{Consumes}
 use Rattle.byteorder.specs.Endian.{big_bytes, big_number}
 use Rattle.byteorder.specs.Numbers.{big_number-reads_back}
 use Rattle.um_ctl.specs.Streams.{TakesReply}
-use Rattle.um_model.proofs.InputLengthLaws.{number_long}
+use Rattle.um_laws.proofs.InputLengthLaws.{number_long}
 use Rattle.um_model.specs.Frames.{frame_of}
 use Rattle.um_model.specs.Replies.{reply_limit}
 

@@ -14,16 +14,16 @@ use Rattle.um_model.specs.declared.commands.UnitVerb.{UnitVerb}
 use Rattle.um_model.specs.declared.commands.UnitVerb.TheVariants as verbs
 use Rattle.um_model.specs.declared.install.InstallVerb.{InstallVerb}
 use Rattle.um_model.specs.declared.jobs.UnitJobs.{UnitJobs}
-use Rattle.um_model.proofs.InstallLaws.{one_install}
-use Rattle.um_model.proofs.WaitingLaws.{none_told, none_waiting}
+use Rattle.um_laws.proofs.InstallLaws.{one_install}
+use Rattle.um_laws.proofs.WaitingLaws.{none_told, none_waiting}
 use Rattle.um_model.specs.Waiting.{has_waiting}
 use Rattle.um_engine.specs.Planned.{HasPlan}
 use Rattle.um_model.specs.Plan.{IsPlan, CausesOfPlan, NamesCycle}
 use Rattle.um_model.specs.declared.dependencies.Demand.{Demand}
-use Rattle.um_model.proofs.PlannedLaws.{one_plan}
-use Rattle.um_model.proofs.SceneLaws.{finite_scene}
+use Rattle.um_laws.proofs.PlannedLaws.{one_plan}
+use Rattle.um_laws.proofs.SceneLaws.{finite_scene}
 use Rattle.std.proofs.lemmas.Option.{none-some, same_Some}
-use Rattle.um_model.proofs.RefusesLaws.{missing_there}
+use Rattle.um_laws.proofs.RefusesLaws.{missing_there}
 use Rattle.um_engine.specs.Demanded.{wants_it_there}
 use Rattle.um_wire.specs.Gives.{RefusesBy}
 use Rattle.um_wire.specs.Refusal.{refused_of}

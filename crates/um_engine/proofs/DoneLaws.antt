@@ -10,7 +10,7 @@ use Rattle.um_model.specs.Standing.{Standing}
 use Rattle.um_model.specs.declared.service.End.{End}
 use Rattle.um_model.specs.declared.transition.UnitEvent.{UnitEvent}
 use Rattle.um_model.specs.declared.transition.UnitEvent.TheVariants.{Executed}
-use Rattle.um_model.proofs.MachineLaws.{end_has_effect, report_has_effect}
+use Rattle.um_laws.proofs.MachineLaws.{end_has_effect, report_has_effect}
 use Rattle.um_state.specs.Deltas.{delta_after}
 use Rattle.um_state.specs.Rows.{put_row, rows_after, timed}
 use Rattle.um_state.specs.View.{state_of}

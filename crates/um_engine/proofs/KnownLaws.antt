@@ -10,11 +10,11 @@ use Rattle.um_model.specs.Machine.{State, IsHeld, IsHeldOr, IsTooHeavy, Settles,
 use Rattle.um_model.specs.Reached.{first}
 use Rattle.um_model.specs.Tree.{Tree, without_run}
 use Rattle.um_model.specs.Weight.{weight_of}
-use Rattle.um_model.proofs.FewLaws.{booted_none}
+use Rattle.um_laws.proofs.FewLaws.{booted_none}
 use Rattle.um_model.specs.Live.{HoldsNoMore}
-use Rattle.um_model.proofs.KeepsLaws.{settles_keeps}
-use Rattle.um_model.proofs.KnownLaws.{more_known}
-use Rattle.um_model.proofs.SceneLaws.{one_count}
+use Rattle.um_laws.proofs.KeepsLaws.{settles_keeps}
+use Rattle.um_laws.proofs.KnownLaws.{more_known}
+use Rattle.um_laws.proofs.SceneLaws.{one_count}
 use Rattle.um_model.proofs.TreeLaws.{without_run_twice}
 use Rattle.um_name.specs.Names.{IsApart}
 use Rattle.um_graph.specs.Graph.{GraphView, IsGraphOf}

@@ -17,7 +17,7 @@ use Rattle.um_model.specs.declared.jobs.JobKind.TheVariants.{Start, Stop}
 use Rattle.um_model.specs.declared.jobs.JobState.TheVariants.{Waiting}
 use Rattle.um_model.specs.declared.jobs.UnitJobs.{UnitJobs}
 use Rattle.um_model.specs.declared.refusals.Limit.TheVariants.{Units}
-use Rattle.um_model.proofs.OrderLaws.{cycle_weaker}
+use Rattle.um_laws.proofs.OrderLaws.{cycle_weaker}
 use Rattle.um_model.proofs.OwnNameLaws.{precedes_anyhow}
 use Rattle.um_graph.specs.Graph.{GraphView, IsGraph, IsGraphOf, IsNumberOf}
 use Rattle.um_graph.specs.Kinds.{before_bit}

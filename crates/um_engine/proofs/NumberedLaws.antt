@@ -18,7 +18,7 @@ use Rattle.um_model.specs.declared.jobs.UnitJobs.{UnitJobs}
 use Rattle.um_model.specs.declared.service.ActiveState.{ActiveState}
 use Rattle.um_model.specs.Refusals.{Refused}
 use Rattle.um_model.specs.Plan.{IsPlan, CausesOfPlan}
-use Rattle.um_model.proofs.PlanLaws.{AreAlike, alike_back, causes_same, plan_same}
+use Rattle.um_laws.proofs.PlanLaws.{AreAlike, alike_back, causes_same, plan_same}
 use Rattle.um_graph.specs.Graph.{GraphView, IsGraph, IsNumberOf}
 use Rattle.um_graph.specs.Named.{name_at}
 use Rattle.um_graph.proofs.NamedLaws.{got_within, name_is, names_once}

@@ -5,8 +5,8 @@ use Rattle.um_model.specs.Machine.{State, Command, CausesOfLoad, IsTooHeavy}
 use Rattle.um_model.specs.Refusals.{Refused}
 use Rattle.um_model.specs.Servable.{IsServable}
 use Rattle.um_model.specs.Tree.{Tree}
-use Rattle.um_model.proofs.RefusesLaws.{IsOfCommand, refused_of_command, no_room_of_command}
-use Rattle.um_model.proofs.ServableLaws.{loads_servable, refused_unservable}
+use Rattle.um_laws.proofs.RefusesLaws.{IsOfCommand, refused_of_command, no_room_of_command}
+use Rattle.um_laws.proofs.ServableLaws.{loads_servable, refused_unservable}
 use Rattle.um_wire.specs.Refusal.{refused_of}
 use Rattle.um_wire.specs.declared.refusal.Refusal.{Refusal}
 use Rattle.um_wire.specs.declared.refusal.Refusal.TheVariants as refusal

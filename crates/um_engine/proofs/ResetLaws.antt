@@ -13,8 +13,8 @@ use Rattle.um_model.specs.declared.service.UnitState.{UnitState}
 use Rattle.um_model.specs.declared.transition.Around.{Around}
 use Rattle.um_model.specs.declared.transition.StartJob.TheVariants.{Stays}
 use Rattle.um_model.specs.declared.transition.UnitEvent.TheVariants.{Reset}
-use Rattle.um_model.proofs.FewLaws.{none_there}
-use Rattle.um_model.proofs.KeepsLaws.{resets_keep}
+use Rattle.um_laws.proofs.FewLaws.{none_there}
+use Rattle.um_laws.proofs.KeepsLaws.{resets_keep}
 use Rattle.um_model.proofs.TimersLaws.{same_name}
 use Rattle.um_model.proofs.UnitLaws.{unlike}
 use Rattle.um_state.specs.View.{state_of}

@@ -5,7 +5,7 @@ use Rattle.um_model.specs.Reached.{first}
 use Rattle.um_model.specs.Tree.{Tree, without_run}
 use Rattle.um_model.specs.declared.dependencies.DependencyKind.{DependencyKind}
 use Rattle.um_model.specs.declared.dependencies.DependencyKind.TheVariants as kinds
-use Rattle.um_model.proofs.KnownLaws.{known_grows, more_known}
+use Rattle.um_laws.proofs.KnownLaws.{known_grows, more_known}
 use Rattle.um_graph.specs.Graph.{GraphView, IsGraphOf}
 use Rattle.um_engine.specs.Known.{IsFull, IsGraphFor}
 

@@ -8,7 +8,7 @@ use Rattle.um_model.specs.Machine.{State, Command, Happening, Event, Commanded, 
 use Rattle.um_model.specs.Refusals.{Refused, no_room}
 use Rattle.um_model.specs.Standing.{Standing}
 use Rattle.um_model.specs.Service.{Action}
-use Rattle.um_model.proofs.KeepsLaws.{settles_keeps}
+use Rattle.um_laws.proofs.KeepsLaws.{settles_keeps}
 use Rattle.um_state.specs.View.{state_of}
 use Rattle.um_wire.specs.Refusal.{refused_of}
 use Rattle.um_wire.specs.declared.refusal.Refusal.{Refusal}

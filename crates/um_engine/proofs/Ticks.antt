@@ -7,9 +7,9 @@ use Rattle.std.specs.Cmp.Lexicographic.{pointwise, same_text, other_text}
 use Rattle.std.specs.Prelude.{nat_eq}
 use Rattle.std.proofs.lemmas.Bool.{and_parts}
 use Rattle.std.proofs.lemmas.Bool.Decides.{Decides-eqb}
-use Rattle.um_model.proofs.KeepsLaws.{fires_keeps, same_state}
-use Rattle.um_model.proofs.MachineLaws.{boot_has_effect, one_process, tick_has_effect}
-use Rattle.um_model.proofs.SettleLaws.{a_deadline_map}
+use Rattle.um_laws.proofs.KeepsLaws.{fires_keeps, same_state}
+use Rattle.um_laws.proofs.MachineLaws.{boot_has_effect, one_process, tick_has_effect}
+use Rattle.um_laws.proofs.SettleLaws.{a_deadline_map}
 use Rattle.um_model.specs.Ends.{waits_for_report, has_one_command}
 use Rattle.um_model.specs.Machine.{State, ProcessEnded, ProcessExecuted, Tick, Booted, IsProcessOf, IsOver, AreDeadlines, none_due, AwaitsReport, settings_in, booted, end_of, Happens, Follows, ends, reports, ticks, boots, HasNoEffect, is_idle, isnt_awaited, is_known}
 use Rattle.um_model.specs.Service.{Action, is_number, state_of_unit}

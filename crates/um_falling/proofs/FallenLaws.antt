@@ -14,7 +14,7 @@ use Rattle.um_model.specs.declared.transition.Change.{Change}
 use Rattle.um_model.specs.declared.transition.UnitEvent.{UnitEvent}
 use Rattle.um_model.specs.declared.transition.UnitEvent.TheVariants.{BoundStop}
 use Rattle.um_model.specs.Jobs.{with_jobs}
-use Rattle.um_model.proofs.FallTotal.{bound_stop_down, bound_stop_leaves, goes_at, stays_up}
+use Rattle.um_laws.proofs.FallTotal.{bound_stop_down, bound_stop_leaves, goes_at, stays_up}
 use Rattle.um_model.specs.Transitions.{comes_to_rest}
 use Rattle.um_model.proofs.TimersLaws.{same_name}
 use Rattle.um_model.proofs.UnitLaws.{state_apart, state_here}

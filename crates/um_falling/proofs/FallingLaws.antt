@@ -15,12 +15,12 @@ use Rattle.um_model.specs.Service.{Action, dead_unit}
 use Rattle.um_model.specs.declared.dependencies.DependencyKind.TheVariants.{BindsTo}
 use Rattle.um_model.specs.declared.transition.UnitEvent.{UnitEvent}
 use Rattle.um_model.specs.declared.transition.UnitEvent.TheVariants.{BoundStop}
-use Rattle.um_model.proofs.AmongLaws.{among_contained, contains_among}
-use Rattle.um_model.proofs.FallTotal.{goes_at, rest_told, rest_is}
+use Rattle.um_laws.proofs.AmongLaws.{among_contained, contains_among}
+use Rattle.um_laws.proofs.FallTotal.{goes_at, rest_told, rest_is}
 use Rattle.um_model.specs.Transitions.{comes_to_rest}
 use Rattle.um_model.proofs.LeastLaws.{Among}
-use Rattle.um_model.proofs.OnceLaws.{among_at}
-use Rattle.um_model.proofs.SceneLaws.{first_before, others_sorted}
+use Rattle.um_laws.proofs.OnceLaws.{among_at}
+use Rattle.um_laws.proofs.SceneLaws.{first_before, others_sorted}
 use Rattle.um_graph.specs.Graph.{GraphView, IsNumberOf, row_of}
 use Rattle.um_graph.specs.Kinds.{has, inverse_bit_of}
 use Rattle.um_graph.specs.declared.row.Neighbour.{Neighbour}

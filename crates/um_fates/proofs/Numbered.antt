@@ -5,13 +5,13 @@ use Rattle.std.specs.List.{list_all, dedup, dedup_from}
 use Rattle.std.proofs.lemmas.Bool.{eqb-true, eq-eqb, true≢false}
 use Rattle.std.proofs.lemmas.List.Folds.{list_any-append}
 use Rattle.um_model.proofs.EntriesLaws.{at_each, from_each, left_true, right_true}
-use Rattle.um_model.proofs.ScanLaws.{held_with_number}
+use Rattle.um_laws.proofs.ScanLaws.{held_with_number}
 use Rattle.um_model.specs.Machine.{IsOver, IsProcessOf}
 use Rattle.um_model.specs.Service.{ByUnit, state_of_unit, dead_unit}
 use Rattle.um_model.specs.StateSpellings.{numbers_in}
 use Rattle.um_model.specs.Transitions.{live_numbers, HasNumber}
 use Rattle.um_model.specs.declared.service.UnitState.{UnitState}
-use Rattle.um_model.proofs.MachineLaws.{one_process}
+use Rattle.um_laws.proofs.MachineLaws.{one_process}
 use Rattle.um_model.specs.declared.service.SubState.{SubState}
 use Rattle.std.specs.List.{AllPairs}
 use Rattle.std.specs.List.Sorted.{IsPermutation, IsSorted}

@@ -22,7 +22,7 @@ use Rattle.um_model.specs.Tree.{Tree}
 use Rattle.um_model.specs.Units.{LoadedUnit, load, unit_named}
 use Rattle.um_model.specs.declared.dependencies.DependencyKind.{DependencyKind}
 use Rattle.um_model.specs.declared.dependencies.DependencyKind.TheVariants as kinds
-use Rattle.um_model.proofs.KnownLaws.{target_suffix}
+use Rattle.um_laws.proofs.KnownLaws.{target_suffix}
 use Rattle.um_model.specs.Names.{is_target}
 use Rattle.um_unit.specs.View.{loading_of}
 use Rattle.um_graph.specs.Edges.{AreUnits, comes_after, comes_after_by, declines, declines_by, edge, edge_between, edge_bonds, edge_seen, edges_seen, names_of, number_in, order_seen, pair, pair_bonds, unit_seen}

@@ -12,9 +12,9 @@ use Rattle.um_model.specs.Tree.{Tree, Entry, File, Link as link_to, PathParts, P
 use Rattle.um_model.specs.Units.{LoadedUnit, unit_named}
 use Rattle.um_model.specs.declared.dependencies.DependencyKind.{DependencyKind}
 use Rattle.um_model.specs.declared.dependencies.DependencyKind.TheVariants as kinds
-use Rattle.um_model.proofs.GivesLaws as says
-use Rattle.um_model.proofs.GivesLaws.{Says, HasLink, link_there, there_linked}
-use Rattle.um_model.proofs.KnownLaws.{entry_there, there_entered}
+use Rattle.um_laws.proofs.GivesLaws as says
+use Rattle.um_laws.proofs.GivesLaws.{Says, HasLink, link_there, there_linked}
+use Rattle.um_laws.proofs.KnownLaws.{entry_there, there_entered}
 use Rattle.um_model.proofs.TreeLaws.{path_of_parts}
 use Rattle.um_graph.specs.Known.{links_told}
 use Rattle.um_graph.specs.Tells.{both_of, defaults_told, entry_names, entry_told, follows_by, kind_told, link_names, link_told, names_at, names_given, needs_told, own_name, place_names, place_told, shutdown_told, tell, told_at, told_between, told_from, told_in, told_of, told_to, told_where, unless_template}

@@ -19,9 +19,9 @@ use Rattle.um_model.specs.Tree.{Tree, Entry, File, Link, PathParts, Place, Unit,
 use Rattle.um_model.specs.Units.{Loading}
 use Rattle.um_model.specs.declared.install.Enabling.{Enabling}
 use Rattle.um_model.specs.declared.install.InstallVerb.TheVariants as verbs
-use Rattle.um_model.proofs.InstallLaws.{unlinked_by, unlinked_test, pulls_in, is_link_for, is_link_of}
+use Rattle.um_laws.proofs.InstallLaws.{unlinked_by, unlinked_test, pulls_in, is_link_for, is_link_of}
 use Rattle.um_model.specs.Install.{is_etc}
-use Rattle.um_model.proofs.NameMaps.{After, Rising}
+use Rattle.um_laws.proofs.NameMaps.{After, Rising}
 use Rattle.um_model.proofs.Forms.{cause}
 use Rattle.um_wire.specs.Refusal.{refused_of}
 use Rattle.um_wire.specs.declared.refusal.Refusal.{Refusal}

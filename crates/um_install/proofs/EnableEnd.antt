@@ -15,7 +15,7 @@ use Rattle.um_model.specs.Tree.{Tree, IsTree, Link, entry_limit, is_fit_target, 
 use Rattle.um_model.specs.Units.{LoadedUnit, Loading, Found, Masked, NotFound, BadSetting, load}
 use Rattle.um_model.specs.declared.install.InstallVerb.TheVariants as verbs
 use Rattle.um_model.specs.declared.refusals.Limit.TheVariants.{Entries}
-use Rattle.um_model.proofs.NameMaps.{After, Rising}
+use Rattle.um_laws.proofs.NameMaps.{After, Rising}
 use Rattle.um_wire.specs.Refusal.{refused_of}
 use Rattle.um_wire.specs.declared.refusal.Refusal.{Refusal}
 use Rattle.um_install.specs.Changes.{linked}

@@ -10,7 +10,7 @@ use Rattle.std.proofs.lemmas.Option.{none-some}
 use Rattle.um_model.specs.Tree.{Tree, Entry, Link, entry_limit, is_fit_target, is_full_for, is_other_than_link, path_parts, put_link}
 use Rattle.um_model.specs.Refusals.{Refused, bad_path, exists_at, too_large, unless_refused}
 use Rattle.um_model.specs.declared.refusals.Limit.TheVariants.{Entries}
-use Rattle.um_model.proofs.NameMaps.{After, Rising}
+use Rattle.um_laws.proofs.NameMaps.{After, Rising}
 use Rattle.um_install.specs.Changes.{and_then, linked}
 use Rattle.um_install.specs.Checks.{new_paths, one_if}
 use Rattle.um_install.proofs.Members.{after_at, contains_later}

@@ -23,11 +23,11 @@ use Rattle.um_model.specs.declared.install.InstallVerb.TheVariants as verbs
 use Rattle.um_model.specs.declared.refusals.Limit.TheVariants.{Entries}
 use Rattle.um_model.specs.declared.tree.Layer.{Layer}
 use Rattle.um_model.specs.declared.tree.Layer.TheVariants.{Etc, Run, Lib}
-use Rattle.um_model.proofs.AmongLaws.{among_contained, contains_among, among_map, among_left, among_right, among_either, AnyOf, from_map}
-use Rattle.um_model.proofs.InstallLaws.{also_any, any_also, enabled_drop_ins, free_of_causes, fit_of_causes, few_of_causes, open_of_causes, one_enabled, one_install, unlinked_or_not, unlinked_by, disabled_drop_ins, same_tree, is_link_for, is_link_of}
+use Rattle.um_laws.proofs.AmongLaws.{among_contained, contains_among, among_map, among_left, among_right, among_either, AnyOf, from_map}
+use Rattle.um_laws.proofs.InstallLaws.{also_any, any_also, enabled_drop_ins, free_of_causes, fit_of_causes, few_of_causes, open_of_causes, one_enabled, one_install, unlinked_or_not, unlinked_by, disabled_drop_ins, same_tree, is_link_for, is_link_of}
 use Rattle.um_model.proofs.LeastLaws.{Among}
-use Rattle.um_model.proofs.LoadsLaws.{loads_as}
-use Rattle.um_model.proofs.NamedLaws.{AreNames, names_installed, named_by_name, also_names}
+use Rattle.um_laws.proofs.LoadsLaws.{loads_as}
+use Rattle.um_laws.proofs.NamedLaws.{AreNames, names_installed, named_by_name, also_names}
 use Rattle.um_model.proofs.OwnNameLaws.{named_by_loading}
 use Rattle.um_model.proofs.SpecifiersLaws.{after_last-found}
 use Rattle.um_model.proofs.TreeLaws.{parts_at, name-no_slash}

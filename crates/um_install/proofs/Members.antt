@@ -16,7 +16,7 @@ use Rattle.std.proofs.lemmas.Option.{same_Some, none-some}
 use Rattle.std.specs.BTreeMap as tree
 use Rattle.std.specs.BTreeMap.{BTreeMap}
 use Rattle.um_model.proofs.BytesLaws.{left_holds, right_holds}
-use Rattle.um_model.proofs.NameMaps.{After, Rising}
+use Rattle.um_laws.proofs.NameMaps.{After, Rising}
 use Rattle.um_tree.proofs.TextMaps.{entries-map_of, get-map_of, map_of, map_of_inserted, text_and_value}
 
 -- ---- lists

@@ -15,8 +15,8 @@ use Rattle.um_model.specs.Service.{Action}
 use Rattle.um_model.specs.Standing.{Standing}
 use Rattle.um_model.specs.Store.{body_limit}
 use Rattle.um_model.specs.declared.layout.Layout.{Layout}
-use Rattle.um_model.proofs.DiskLaws.{weaker, followed}
-use Rattle.um_model.proofs.NumbersLaws.{run_numbers_rise}
+use Rattle.um_laws.proofs.DiskLaws.{weaker, followed}
+use Rattle.um_laws.proofs.NumbersLaws.{run_numbers_rise}
 use Rattle.um_keeper.specs.Answering.{Answer, is_turned_away, Answered, accepted, refused, turned_away, AreAnswered, all_answered, and_next, FellBack, StopsAt, HasFault, HasReceipt, denied, where_step, taken, all_asked, IsIdle, IsRefusal, NeedNoRecord, HasNoRecord, HaveNoRecord, sectors_for, all_sectors, state_before_all}
 use Rattle.um_keeper.specs.Keeping.{IsBegun}
 use Rattle.um_engine.specs.OfStore.{is_of_store}

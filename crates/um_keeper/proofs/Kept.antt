@@ -19,13 +19,13 @@ use Rattle.um_slot.specs.Snapshots.{HasStore, EitherSnapshot}
 use Rattle.um_log.specs.Appending.{EitherRecord}
 use Rattle.um_model.specs.declared.layout.Layout.{Layout}
 use Rattle.um_model.specs.declared.layout.Slot.{Slot}
-use Rattle.um_model.proofs.DiskLaws.{started, weaker, followed}
-use Rattle.um_model.proofs.ImageLaws.{newest_some, records_are}
-use Rattle.um_model.proofs.NumbersLaws.{numbers_rise}
-use Rattle.um_model.proofs.ServableLaws.{step_servable}
-use Rattle.um_model.proofs.StandsLaws.{contents, ComesTo, HasContents, has_contents, contents_are, newest_told, records_told, store_of, comes_further, comes_anew, run_to, only_end, state_back, anew}
+use Rattle.um_laws.proofs.DiskLaws.{started, weaker, followed}
+use Rattle.um_laws.proofs.ImageLaws.{newest_some, records_are}
+use Rattle.um_laws.proofs.NumbersLaws.{numbers_rise}
+use Rattle.um_laws.proofs.ServableLaws.{step_servable}
+use Rattle.um_laws.proofs.StandsLaws.{contents, ComesTo, HasContents, has_contents, contents_are, newest_told, records_told, store_of, comes_further, comes_anew, run_to, only_end, state_back, anew}
 use Rattle.um_keeper.proofs.Meanwhile.{either_state}
-use Rattle.um_model.proofs.WholeLaws.{step_fits, spelled_room, accepted_room}
+use Rattle.um_laws.proofs.WholeLaws.{step_fits, spelled_room, accepted_room}
 use Rattle.um_keeper.specs.Keeping.{MayHold, Keeps, IsBegun, snapshot_calls}
 
 -- ---- answers

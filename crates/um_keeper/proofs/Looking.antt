@@ -9,8 +9,8 @@ use Rattle.um_model.specs.Stands.{inputs_of}
 use Rattle.um_model.specs.Store as sectors
 use Rattle.um_model.specs.declared.layout.Layout.{Layout}
 use Rattle.um_model.specs.declared.layout.Slot.{Slot}
-use Rattle.um_model.proofs.StandsLaws.{bound, has_contents}
-use Rattle.um_model.proofs.StoreLaws.{same_newest}
+use Rattle.um_laws.proofs.StandsLaws.{bound, has_contents}
+use Rattle.um_laws.proofs.StoreLaws.{same_newest}
 use Rattle.um_keeper.specs.Inspecting.{IsSummed}
 use Rattle.um_keeper.specs.Opening.{IsTakenUp, IsBehind}
 use Rattle.um_keeper.specs.declared.inspecting.Summary.{Summary}

@@ -9,7 +9,7 @@ use Rattle.um_model.specs.Stands.{IsStoreOf}
 use Rattle.um_model.specs.Store.{body_limit}
 use Rattle.um_model.specs.declared.layout.Layout.{Layout}
 use Rattle.um_model.specs.declared.layout.Slot.{Slot}
-use Rattle.um_model.proofs.StandsLaws.{ComesTo, store_of, one_more}
+use Rattle.um_laws.proofs.StandsLaws.{ComesTo, store_of, one_more}
 use Rattle.um_log.specs.Appending.{EitherRecord}
 
 -- ---- what a crash leaves meanwhile

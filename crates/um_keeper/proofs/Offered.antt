@@ -7,13 +7,13 @@ use Rattle.um_keeper.specs.Answering.{Answer, Answered, accepted, refused, turne
 use Rattle.um_keeper.specs.Keeping.{IsBegun}
 use Rattle.um_keeper.specs.Offers.{outcome_of, offers, untold, untold_offers, HasCome, GoesOn}
 use Rattle.um_keeper.specs.Opening.{IsSomeStore, IsStill, IsAsBefore}
-use Rattle.um_model.proofs.DiskLaws.{weaker}
+use Rattle.um_laws.proofs.DiskLaws.{weaker}
 use Rattle.um_model.specs.Disk.{Image, Past, During, Images}
 use Rattle.um_model.specs.Lives.{Outcome, Offer, AreUnanswered, none, turned, lost, MayLeave, holds, takes, turns_away}
 use Rattle.um_model.specs.Lives as lives
 use Rattle.um_model.specs.Machine.{State, Input, Run, rests, goes}
 use Rattle.um_model.specs.Machine as machine
-use Rattle.um_model.proofs.StandsLaws.{one_state}
+use Rattle.um_laws.proofs.StandsLaws.{one_state}
 use Rattle.um_model.specs.Service.{Action}
 use Rattle.um_model.specs.Stands.{StandsFor, IsStoreOf}
 use Rattle.um_model.specs.Store.{body_limit}

@@ -18,10 +18,10 @@ use Rattle.um_slot.specs.Snapshots.{HasNewest, EitherNewest}
 use Rattle.um_model.specs.Store as sectors
 use Rattle.um_model.specs.declared.layout.Layout.{Layout}
 use Rattle.um_model.specs.declared.layout.Slot.{Slot}
-use Rattle.um_model.proofs.DiskLaws.{started, weaker, followed, during_sync, settled_after_sync}
-use Rattle.um_model.proofs.ImageLaws.{newest_some, newest_none, records_are, only_records}
-use Rattle.um_model.proofs.StandsLaws.{ComesTo, contents, one_contents, has_contents, newest_told, records_told, contents_are, state_back, ends_of, anew, one_layout, bound}
-use Rattle.um_model.proofs.StoreLaws.{superblock_name, same_newest, same_records}
+use Rattle.um_laws.proofs.DiskLaws.{started, weaker, followed, during_sync, settled_after_sync}
+use Rattle.um_laws.proofs.ImageLaws.{newest_some, newest_none, records_are, only_records}
+use Rattle.um_laws.proofs.StandsLaws.{ComesTo, contents, one_contents, has_contents, newest_told, records_told, contents_are, state_back, ends_of, anew, one_layout, bound}
+use Rattle.um_laws.proofs.StoreLaws.{superblock_name, same_newest, same_records}
 use Rattle.um_sector.specs.Refused.{IsLost}
 use Rattle.um_wire.specs.declared.refusal.Refusal.{Refusal}
 use Rattle.um_wire.specs.declared.refusal.Refusal.TheVariants.{Damaged, NotFormatted, GenerationsSpent, OtherLayout}

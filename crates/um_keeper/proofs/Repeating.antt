@@ -8,8 +8,8 @@ use Rattle.um_model.specs.Machine.{State, Input, Run, goes}
 use Rattle.um_model.specs.Stands.{IsStoreOf}
 use Rattle.um_model.specs.Store.{body_limit}
 use Rattle.um_model.specs.declared.layout.Layout.{Layout}
-use Rattle.um_model.proofs.FinishedLaws.{step_rests, finished_is_at_rest}
-use Rattle.um_model.proofs.LivesLaws.{lives_from}
+use Rattle.um_laws.proofs.FinishedLaws.{step_rests, finished_is_at_rest}
+use Rattle.um_laws.proofs.LivesLaws.{lives_from}
 use Rattle.um_keeper.specs.Finished.{WaitsForCommand, RepeatsNone}
 
 -- no start of a unit at rest begins before a command puts one

@@ -6,8 +6,8 @@ use Rattle.um_model.specs.InputSpellings.{input_at}
 use Rattle.um_model.specs.Machine.{State, Input}
 use Rattle.um_model.specs.Store.{log_start, part_count, placed, records_of, sectors_of, IsRecord, AreRecords, stops, goes_on}
 use Rattle.um_model.specs.declared.layout.Layout.{Layout}
-use Rattle.um_model.proofs.ImageLaws.{records_are}
-use Rattle.um_model.proofs.LogLaws.{one_record, same_list}
+use Rattle.um_laws.proofs.ImageLaws.{records_are}
+use Rattle.um_laws.proofs.LogLaws.{one_record, same_list}
 use Rattle.um_wire.specs.declared.refusal.Refusal.{Refusal}
 use Rattle.um_wire.specs.declared.refusal.Refusal.TheVariants.{Damaged}
 use Rattle.um_keeper.specs.Opening.{Leads, Replays, no_more, and_then, IsNoInput, here, later, IsBehind}

@@ -13,8 +13,8 @@ use Rattle.um_model.specs.StateSpellings.{FitState, state_spelling}
 use Rattle.um_model.specs.Store.{body_limit, store_sectors, records_of, IsStore, GoesOn}
 use Rattle.um_model.specs.declared.layout.Layout.{Layout}
 use Rattle.um_model.specs.declared.layout.Slot.{Slot}
-use Rattle.um_model.proofs.DiskLaws.{started, weaker, followed}
-use Rattle.um_model.proofs.StandsLaws.{ComesTo, records_told, store_of, comes_further, comes_anew, state_back, run_step}
+use Rattle.um_laws.proofs.DiskLaws.{started, weaker, followed}
+use Rattle.um_laws.proofs.StandsLaws.{ComesTo, records_told, store_of, comes_further, comes_anew, state_back, run_step}
 use Rattle.um_slot.specs.Snapshots.{HasStore, EitherSnapshot}
 use Rattle.um_log.specs.Ahead.{HasSome, GoesOnAhead}
 use Rattle.um_log.proofs.Behind.{ahead_by_nothing, nothing_ahead}

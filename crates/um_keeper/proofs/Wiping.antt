@@ -11,11 +11,11 @@ use Rattle.um_model.specs.Store.{superblock, slot_start, body_limit, log_start, 
 use Rattle.um_model.specs.declared.layout.Layout.{Layout}
 use Rattle.um_model.specs.declared.layout.Slot.{Slot}
 use Rattle.um_model.specs.declared.layout.Slot.TheVariants.{A, B}
-use Rattle.um_model.proofs.DiskLaws.{with_same, during_write, during_sync, followed, weaker, started, at_end, image_synced}
-use Rattle.um_model.proofs.FitStateLaws.{empty_fit}
-use Rattle.um_model.proofs.StandsLaws.{contents_are, empty_store, empty_back, empty_may}
-use Rattle.um_model.proofs.StoreLaws.{blank_header, blank_log, made_store}
-use Rattle.um_model.proofs.WholeLaws.{spelled_room}
+use Rattle.um_laws.proofs.DiskLaws.{with_same, during_write, during_sync, followed, weaker, started, at_end, image_synced}
+use Rattle.um_laws.proofs.FitStateLaws.{empty_fit}
+use Rattle.um_laws.proofs.StandsLaws.{contents_are, empty_store, empty_back, empty_may}
+use Rattle.um_laws.proofs.StoreLaws.{blank_header, blank_log, made_store}
+use Rattle.um_laws.proofs.WholeLaws.{spelled_room}
 use Rattle.um_sector.specs.Unsynced.{is_sync, sync_count}
 use Rattle.um_keeper.specs.Creating.{blank, IsNoStore, WasOrIsNone, IsEmptyStore, NoneOrEmpty, WhileCreated, synced, IsWiped}
 

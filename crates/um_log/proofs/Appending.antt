@@ -5,12 +5,12 @@ use Rattle.std.proofs.lemmas.Bool.{cases_lt}
 use Rattle.std.proofs.lemmas.List.{length-append, append-nil}
 use Rattle.byteorder.specs.Endian.{big_number}
 use Rattle.um_model.specs.Disk.{Sector, Image, Past, seen, IsImage, During, IsSettled}
-use Rattle.um_model.proofs.DiskLaws.{started, weaker}
+use Rattle.um_laws.proofs.DiskLaws.{started, weaker}
 use Rattle.um_model.specs.declared.layout.Layout.{Layout}
 use Rattle.um_model.specs.declared.layout.Slot.{Slot}
 use Rattle.um_model.specs.Store.{log_start, log_end, record_limit, part_count, part_of, log_sector, IsRecord, AreRecords, stops, goes_on, HasRecords, sectors_of, IsOf, IsFree, IsLogEnd, IsStore, GoesOn}
-use Rattle.um_model.proofs.StoreLaws.{log_generation, log_size, is_of, none_of, unread_newest}
-use Rattle.um_model.proofs.LogLaws.{record_size, all_or_one, read_below, records_front, sectors_push}
+use Rattle.um_laws.proofs.StoreLaws.{log_generation, log_size, is_of, none_of, unread_newest}
+use Rattle.um_laws.proofs.LogLaws.{record_size, all_or_one, read_below, records_front, sectors_push}
 use Rattle.um_sector.specs.Runs.{IsLaid, MaybeLaid, AfterRun}
 use Rattle.um_sector.proofs.RunLaws.{laid_maybe}
 use Rattle.um_log.specs.Appending.{record_run, EitherRecord, IsElsewhere}

@@ -3,11 +3,11 @@ use Rattle.std.specs.Prelude.{◌≡◌, ◌⊎◌, ◌+◌, ◌^◌, ◌<◌, �
 use Rattle.std.proofs.Common.{sym, ◌∙◌, ap, subst, inl, inr, ⊎_elim, arith, append_assoc, refl}
 use Rattle.std.proofs.lemmas.List.{length-append, append-nil, take-append-le, take_all}
 use Rattle.um_model.specs.Disk.{Image, Past, seen, IsImage, Images, During, Synced, after, synced}
-use Rattle.um_model.proofs.DiskLaws.{started, weaker, at_end, during_sync, image_synced}
+use Rattle.um_laws.proofs.DiskLaws.{started, weaker, at_end, during_sync, image_synced}
 use Rattle.um_model.specs.declared.layout.Layout.{Layout}
 use Rattle.um_model.specs.declared.layout.Slot.{Slot}
 use Rattle.um_model.specs.Store.{log_start, log_end, record_limit, part_count, HasRecords, IsLogEnd, IsStore, GoesOn}
-use Rattle.um_model.proofs.LogLaws.{all_or_one}
+use Rattle.um_laws.proofs.LogLaws.{all_or_one}
 use Rattle.um_sector.specs.Runs.{IsLaid, MaybeLaid, AfterRun}
 use Rattle.um_log.specs.Appending.{record_run}
 use Rattle.um_log.specs.Ahead.{EndsWith, HasSome, HasBegun, GoesOnAhead}

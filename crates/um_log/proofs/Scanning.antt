@@ -8,7 +8,7 @@ use Rattle.byteorder.specs.Endian.{big_number}
 use Rattle.um_model.specs.Disk.{Sector, Image}
 use Rattle.um_model.specs.declared.layout.Layout.{Layout}
 use Rattle.um_model.specs.Store.{log_sector, part_count, part_of, log_end, sectors_of, placed, IsRecord, AreRecords, stops, goes_on, HasRecords}
-use Rattle.um_model.proofs.LogLaws.{record_size, part_bytes, sectors_push, placed_push}
+use Rattle.um_laws.proofs.LogLaws.{record_size, part_bytes, sectors_push, placed_push}
 use Rattle.um_log.specs.declared.read.Record.{Record}
 use Rattle.um_log.specs.Reading.{Fits, bytes_of, places_of}
 

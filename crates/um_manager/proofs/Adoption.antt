@@ -3,7 +3,7 @@ use Rattle.std.proofs.Common.{◌≡◌, ◌||◌, ◌⊎◌, inl, inr, ℕ, zer
 use Rattle.std.proofs.lemmas.List.{map-append}
 use Rattle.um_engine.specs.OfStore.{is_of_store}
 use Rattle.um_keeper.specs.Answering.{Answer, Answered, accepted, refused as declined, turned_away, AreAnswered, all_answered, and_next, FellBack, HasFault, denied, is_turned_away, all_asked}
-use Rattle.um_model.proofs.AmongLaws.{among_contained}
+use Rattle.um_laws.proofs.AmongLaws.{among_contained}
 use Rattle.um_model.proofs.LeastLaws.{Among}
 use Rattle.std.specs.List.{list_any}
 use Rattle.um_children.specs.History.{lets_any}

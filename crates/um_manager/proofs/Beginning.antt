@@ -7,7 +7,7 @@ use Rattle.std.specs.Result.{IsErrAnd}
 use Rattle.um_keeper.specs.Answering.{Answer, is_turned_away, where_step, taken}
 use Rattle.um_keeper.specs.Keeping.{IsBegun, Keeps}
 use Rattle.um_keeper.specs.Opening.{IsAsBefore}
-use Rattle.um_model.proofs.DiskLaws.{weaker, followed}
+use Rattle.um_laws.proofs.DiskLaws.{weaker, followed}
 use Rattle.um_model.specs.Children.{Call, Tale, ForgotOthers}
 use Rattle.um_log.specs.Reading.{Fits}
 use Rattle.um_model.specs.Disk.{Past, Image, During, seen}

@@ -9,7 +9,7 @@ use Rattle.std.specs.Bool.{⊤}
 use Rattle.std.specs.FinMap as map
 use Rattle.byteorder.specs.Endian.{big_bytes}
 use Rattle.um_log.specs.Reading.{Fits}
-use Rattle.um_model.proofs.InputLengthLaws.{text_long, number_long}
+use Rattle.um_laws.proofs.InputLengthLaws.{text_long, number_long}
 use Rattle.um_model.specs.Bytes.{text_spelling}
 use Rattle.um_model.specs.InputSpellings.{input_spelling}
 use Rattle.um_model.specs.Refusals.{Refused, no_room}

@@ -9,7 +9,7 @@ use Rattle.um_model.specs.Machine as model_machine
 use Rattle.um_model.specs.Replies.{reply_text}
 use Rattle.um_model.specs.Sessions.{Session, Deed, Room, Feed, Read, Put, GiveUp, Does, Lives, rests, goes_on, Reads, waits, takes, refuses, bytes_fed, readings, IsReadOf}
 use Rattle.um_model.specs.Sessions as model
-use Rattle.um_model.proofs.SessionsLaws.{session_reads}
+use Rattle.um_laws.proofs.SessionsLaws.{session_reads}
 use Rattle.um_keeper.specs.Answering.{Answer}
 use Rattle.um_proto.specs.View.{request_of}
 use Rattle.um_proto.specs.declared.request.Asked.{Asked}

@@ -5,7 +5,7 @@ use Rattle.um_keeper.specs.Answering.{Answer, AreAnswered, taken}
 use Rattle.um_keeper.specs.Keeping.{IsBegun}
 use Rattle.um_keeper.specs.Offers.{offers, untold_offers, HasCome}
 use Rattle.um_keeper.proofs.Offered.{answered_come, come_on, all_untold, begun_leaves}
-use Rattle.um_model.proofs.DiskLaws.{weaker}
+use Rattle.um_laws.proofs.DiskLaws.{weaker}
 use Rattle.um_model.specs.Disk.{Image, Past, During}
 use Rattle.um_model.specs.Lives.{Offer}
 use Rattle.um_model.specs.Machine.{State, Input}

@@ -5,12 +5,12 @@ use Rattle.std.proofs.lemmas.List.Kept.{AllPairs-cons}
 use Rattle.std.specs.FinMap as map
 use Rattle.std.specs.List.{list_all}
 use Rattle.std.specs.Prelude.{get_or, option_to_list}
-use Rattle.um_model.proofs.AmongLaws.{among_contained, contains_among}
-use Rattle.um_model.proofs.CrowdedLaws.{a_weight}
+use Rattle.um_laws.proofs.AmongLaws.{among_contained, contains_among}
+use Rattle.um_laws.proofs.CrowdedLaws.{a_weight}
 use Rattle.um_model.proofs.EntriesLaws.{left_true, right_true}
 use Rattle.um_model.proofs.LeastLaws.{Among}
-use Rattle.um_model.proofs.OnceLaws.{no_more, among_at}
-use Rattle.um_model.proofs.StateLengthLaws.{entries_few}
+use Rattle.um_laws.proofs.OnceLaws.{no_more, among_at}
+use Rattle.um_laws.proofs.StateLengthLaws.{entries_few}
 use Rattle.um_model.specs.Dependencies.{KnowsSoMany, extra, unit_limit}
 use Rattle.um_model.specs.Machine.{State, IsHeld}
 use Rattle.um_model.specs.Reached.{first}

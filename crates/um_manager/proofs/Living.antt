@@ -21,10 +21,10 @@ use Rattle.um_model.specs.Store.{body_limit}
 use Rattle.um_model.specs.declared.layout.Layout.{Layout}
 use Rattle.um_model.specs.declared.service.Signal.{Signal}
 use Rattle.um_model.specs.declared.service.Signal.TheVariants.{Term, Kill}
-use Rattle.um_model.proofs.DiskLaws.{weaker, followed, at_end, counts_now}
-use Rattle.um_model.proofs.LivesLaws.{one_life, run_of}
-use Rattle.um_model.proofs.NumbersLaws.{numbers_rise, run_numbers_rise}
-use Rattle.um_model.proofs.StandsLaws.{one_state}
+use Rattle.um_laws.proofs.DiskLaws.{weaker, followed, at_end, counts_now}
+use Rattle.um_laws.proofs.LivesLaws.{one_life, run_of}
+use Rattle.um_laws.proofs.NumbersLaws.{numbers_rise, run_numbers_rise}
+use Rattle.um_laws.proofs.StandsLaws.{one_state}
 use Rattle.um_wire.specs.declared.refusal.Refusal.{Refusal}
 use Rattle.um_manager.proofs.Beginning.{boot_then, opening_left}
 use Rattle.um_manager.proofs.Outliving.{none_new, new_both, new_front, new_longer, HasStores, AreStarted, ComesFrom, Leads, MayLead, outlives}

@@ -11,7 +11,7 @@ use Rattle.um_model.specs.Machine.{State, Input, Reply, Refusal, rests}
 use Rattle.um_model.specs.Numbers.{AreNew, started_numbers}
 use Rattle.um_model.specs.Stands.{IsStoreOf}
 use Rattle.um_model.specs.declared.layout.Layout.{Layout}
-use Rattle.um_model.proofs.DiskLaws.{started}
+use Rattle.um_laws.proofs.DiskLaws.{started}
 use Rattle.um_sector.specs.Refused.{CountsDevice}
 use Rattle.um_wire.specs.Refusal.{refused_of}
 use Rattle.um_wire.specs.declared.refusal.Refusal as declared

@@ -12,10 +12,10 @@ use Rattle.um_model.specs.Numbers.{AreNew, started_numbers}
 use Rattle.um_model.specs.Stands.{IsStoreOf}
 use Rattle.um_model.specs.Store.{body_limit}
 use Rattle.um_model.specs.declared.layout.Layout.{Layout}
-use Rattle.um_model.proofs.BegunLaws.{begun_next}
-use Rattle.um_model.proofs.LivesLaws.{one_life, kept_of, run_of, life_has_answered}
-use Rattle.um_model.proofs.NumbersLaws.{run_numbers_rise}
-use Rattle.um_model.proofs.StandsLaws.{one_state}
+use Rattle.um_laws.proofs.BegunLaws.{begun_next}
+use Rattle.um_laws.proofs.LivesLaws.{one_life, kept_of, run_of, life_has_answered}
+use Rattle.um_laws.proofs.NumbersLaws.{run_numbers_rise}
+use Rattle.um_laws.proofs.StandsLaws.{one_state}
 use Rattle.um_manager.specs.Lives.{Life, IsFound, Follow, RunsThrough, at_end, and_on, all_answered, EachWasNext, Outlives}
 
 -- ---- new numbers, and others behind them

@@ -4,7 +4,7 @@ use Rattle.std.proofs.lemmas.List.Concat.{flat_map-append}
 use Rattle.um_model.specs.Machine.{Reply}
 use Rattle.um_model.specs.Sessions.{Session, Deed, Room, Take, Does, Lives, goes_on, bytes_fed, readings, IsReadOf}
 use Rattle.um_model.specs.Sessions as model
-use Rattle.um_model.proofs.SessionsLaws.{session_reads}
+use Rattle.um_laws.proofs.SessionsLaws.{session_reads}
 use Rattle.um_wire.specs.declared.refusal.Refusal.{Refusal}
 use Rattle.um_manager.proofs.Clients.{none_some, some_same, joined, one_turn, closed_turn, Story, put_more, given_join, map_join}
 use Rattle.um_manager.specs.Clients.{Exchange, AreGiven, frame_in, ArePut, bytes_in, IsSameAt, HasHad, opens, closes, turns, takes, rests, AreHad, with_taken, IsServed}

@@ -2,7 +2,7 @@
 use Rattle.std.proofs.Common.{◌≡◌, ◌∙◌, ◌-◌, ◌*◌, ℕ, List, [], sym, ap, subst}
 use Rattle.um_memory.specs.Stores.{StandsIn}
 use Rattle.um_keeper.specs.Creating.{IsEmptyStore}
-use Rattle.um_model.proofs.StandsLaws.{one_layout, one_state}
+use Rattle.um_laws.proofs.StandsLaws.{one_layout, one_state}
 use Rattle.um_model.specs.Disk.{Image, Images, Sector, seen}
 use Rattle.um_memory.specs.Stores.{memory_size}
 use Rattle.um_model.specs.Machine.{State, empty_state}

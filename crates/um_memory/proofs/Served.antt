@@ -6,7 +6,7 @@ use Rattle.um_memory.specs.Managers.{state_of, size_of, kept_of, BeginsReply, no
 use Rattle.um_memory.specs.Streams.{Comes, WritesFrom, BeginsFrom}
 use Rattle.um_memory.specs.declared.frames.Piece.TheVariants.{Frame, End}
 use Rattle.um_memory.specs.declared.serving.Manager.{Manager}
-use Rattle.um_model.proofs.FramesLaws.{serves_frame, serves_end}
+use Rattle.um_laws.proofs.FramesLaws.{serves_frame, serves_end}
 use Rattle.um_model.specs.Frames.{frame_of, Answers, last_reply}
 use Rattle.um_memory.specs.Streams.{stops, in_reply, at_end, goes_on}
 use Rattle.um_model.specs.Machine.{State, Reply}

@@ -9,7 +9,7 @@ use Rattle.json.specs.Print.{quoted}
 use Rattle.serde_json.specs.Data.{Data, Members, boolean, string, member, no_members}
 use Rattle.serde_json.specs.View.{items_of}
 use Rattle.serde_json.specs.Written.{has_float, compact_text, items_text, members_text, comma_if}
-use Rattle.um_model.proofs.RepliesLaws.{reply_plain}
+use Rattle.um_laws.proofs.RepliesLaws.{reply_plain}
 use Rattle.um_model.specs.Machine as model
 use Rattle.um_model.specs.Machine.{Reply, Shown}
 use Rattle.um_model.specs.Replies.{number_data, list_data, warning_data, shown_data, reply_data, is_told_whole}

@@ -10,7 +10,7 @@ use Rattle.std.proofs.lemmas.List.FromFn.{length-map-range_with_len, get_or-map-
 use Rattle.std.proofs.lemmas.List.Elements.{All-nil}
 use Rattle.um_model.specs.Disk.{Sector, Image, with_sector, Call, wrote, synced, Past, seen_after, seen, candidates, after}
 use Rattle.um_sector.specs.Unsynced.{unsynced, picked}
-use Rattle.um_model.proofs.DiskLaws.{same_image, one_only, candidates-wrote_same, candidates-wrote_other}
+use Rattle.um_laws.proofs.DiskLaws.{same_image, one_only, candidates-wrote_same, candidates-wrote_other}
 use Rattle.um_sector.specs.declared.noted.Noted.{Noted}
 use Rattle.um_sector.specs.declared.noted.Noted.TheVariants.{Write, Sync}
 use Rattle.um_sector.specs.Noted.{call_of, image_of, past_of, seen_is_image, is_write_within}

@@ -5,7 +5,7 @@ use Rattle.std.proofs.lemmas.Bool.{cases_eq, cases_lt}
 use Rattle.std.proofs.lemmas.List.{get_or-append-add, get_or_past, get_or_default, get_or_append_left}
 use Rattle.std.proofs.lemmas.List.Elements.{Contains-get_or}
 use Rattle.um_model.specs.Disk.{Sector, Image, Past, IsImage, candidates}
-use Rattle.um_model.proofs.DiskLaws.{some_candidate, one_only}
+use Rattle.um_laws.proofs.DiskLaws.{some_candidate, one_only}
 use Rattle.um_sector.specs.Unsynced.{unsynced, picked}
 use Rattle.um_sector.proofs.Notes.{unsynced_no, turn_yes}
 

@@ -4,7 +4,7 @@ use Rattle.std.proofs.Common.{cond, get_or, length-take, sym, ◌∙◌, ap, sub
 use Rattle.std.proofs.lemmas.Bool.{cases_eq}
 use Rattle.std.proofs.lemmas.List.{get_or-take}
 use Rattle.um_model.specs.Disk.{Sector, Image, with_sector, Past, seen, IsImage, after, synced, Wrote, Synced, During, IsSettled, one_more}
-use Rattle.um_model.proofs.DiskLaws.{with_same, with_other, started, followed, weaker, at_end, during_write, during_sync}
+use Rattle.um_laws.proofs.DiskLaws.{with_same, with_other, started, followed, weaker, at_end, during_write, during_sync}
 use Rattle.um_sector.specs.Runs.{IsLaid, MaybeLaid, AfterRun, more}
 use Rattle.std.proofs.lemmas.List.Sums.{sum_by-cons}
 use Rattle.um_sector.specs.Unsynced.{is_sync, sync_count}

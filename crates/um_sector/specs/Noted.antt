@@ -7,7 +7,7 @@ use Rattle.std.proofs.Common.{sym, subst, ⊎_elim}
 use Rattle.std.proofs.lemmas.Bool.{cases_eq}
 use Rattle.std.proofs.lemmas.List.Elements.{Contains-push}
 use Rattle.um_model.specs.Disk.{Sector, Image, Call, wrote, synced, Past, seen_after, candidates_after, IsImage, seen}
-use Rattle.um_model.proofs.DiskLaws.{with_same, with_other, candidates-wrote_same, candidates-wrote_other}
+use Rattle.um_laws.proofs.DiskLaws.{with_same, with_other, candidates-wrote_same, candidates-wrote_other}
 use Rattle.um_sector.specs.declared.noted.Noted.{Noted}
 use Rattle.um_sector.specs.declared.noted.Noted.TheVariants.{Write, Sync}
 

@@ -5,7 +5,7 @@ use Rattle.std.proofs.lemmas.Bool.{cases_Bool}
 use Rattle.um_model.specs.Commands.{Command}
 use Rattle.um_model.specs.Substitution.{Variable}
 use Rattle.um_model.specs.Transitions.{AreStarted, no_command, substituted as with_variables, as_written}
-use Rattle.um_model.proofs.TransitionLaws.{same_started}
+use Rattle.um_laws.proofs.TransitionLaws.{same_started}
 use Rattle.um_service.specs.Started.{started_words, arguments, is_too_long}
 use Rattle.um_words.proofs.CountLemmas.{are_substituted}
 use Rattle.um_words.proofs.RoomLemmas.{left_front, left_none}

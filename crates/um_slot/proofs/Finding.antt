@@ -6,7 +6,7 @@ use Rattle.um_model.specs.Disk.{Image}
 use Rattle.um_model.specs.declared.layout.Layout.{Layout}
 use Rattle.um_model.specs.declared.layout.Slot.TheVariants.{A, B}
 use Rattle.um_model.specs.Store.{slot_start, HasNoHeader}
-use Rattle.um_model.proofs.StoreLaws.{same_header}
+use Rattle.um_laws.proofs.StoreLaws.{same_header}
 use Rattle.um_slot.specs.declared.header.Header.{Header}
 use Rattle.um_slot.specs.Reading.{ReadsHeader, newer_of, Finds}
 

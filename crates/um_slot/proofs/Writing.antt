@@ -3,10 +3,10 @@ use Rattle.std.specs.Prelude.{◌≡◌, ◌⊎◌, ◌+◌, ◌<◌, ◌≤◌,
 use Rattle.std.proofs.Common.{refl, sym, ◌∙◌, ap, inl, inr, ⊎_elim, arith}
 use Rattle.um_model.specs.Disk.{Sector, Image, Past, seen, IsImage, Images, During}
 use Rattle.um_sector.specs.Runs.{IsLaid, MaybeLaid, AfterRun}
-use Rattle.um_model.proofs.DiskLaws.{started, weaker, followed}
+use Rattle.um_laws.proofs.DiskLaws.{started, weaker, followed}
 use Rattle.um_model.specs.declared.layout.Layout.{Layout}
 use Rattle.um_model.specs.declared.layout.Slot.{Slot}
-use Rattle.um_model.proofs.StoreLaws.{before_slot}
+use Rattle.um_laws.proofs.StoreLaws.{before_slot}
 use Rattle.um_model.specs.Store.{slot_start, body_limit, sector_count, header_sector}
 use Rattle.um_slot.specs.Snapshots.{body_sector, body_run, IsSnapshot, MaybeSnapshot, AfterSnapshot}
 use Rattle.std.proofs.lemmas.List.FromFn.{length-map-range_with_len, get_or-map-range_with_len}

@@ -7,7 +7,7 @@ use Rattle.std.specs.FinMap as map
 use Rattle.std.proofs.lemmas.List.Elements.{Contains-append_left, Contains-append_right, Contains-append_cases}
 use Rattle.std.proofs.lemmas.Map.Views.{list_any-from_Contains}
 use Rattle.std.proofs.lemmas.Option.{none-some}
-use Rattle.um_model.proofs.AmongLaws.{contains_among}
+use Rattle.um_laws.proofs.AmongLaws.{contains_among}
 use Rattle.um_model.proofs.TimersLaws.{among_keys}
 use Rattle.um_model.proofs.UnitLaws.{IsTidy, no_job_held, nothing_held}
 use Rattle.um_model.specs.Jobs.{has_job, jobs_of_unit, no_jobs}

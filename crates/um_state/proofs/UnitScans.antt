@@ -6,7 +6,7 @@ use Rattle.std.specs.Cmp.Lexicographic.{slice_cmp}
 use Rattle.std.specs.FinMap as map
 use Rattle.std.specs.List.{list_all}
 use Rattle.std.specs.Ordering.{nat_cmp}
-use Rattle.um_model.proofs.NameMaps.{seen, entries_kept}
+use Rattle.um_laws.proofs.NameMaps.{seen, entries_kept}
 
 module _ {X : Type 0} (test : List ℕ × X → Bool) (m : BTreeMap (List ℕ) X) (ordered : tree.IsOrdered (slice_cmp nat_cmp) m) where
   whole : (initial left : List (List ℕ × X)) → initial ≡ m.entries → list_all test left ≡ list_all test initial → list_all test (map.entries (seen m)) ≡ list_all test left

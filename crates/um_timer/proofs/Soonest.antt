@@ -14,7 +14,7 @@ use Rattle.std.proofs.lemmas.Map.Lookups.{exact_bytes}
 use Rattle.um_model.specs.Timers.{IsDueBefore, earlier, by_name, IsDueFirst}
 use Rattle.um_model.proofs.TimersLaws.{due_before_others}
 use Rattle.um_timer.specs.Due.{sooner, soonest, seen_due}
-use Rattle.um_model.proofs.NameMaps.{seen, get_seen, seen_nothing, After, Rising, rising}
+use Rattle.um_laws.proofs.NameMaps.{seen, get_seen, seen_nothing, After, Rising, rising}
 
 abbrev AfterDue : Option (ℕ × List ℕ) → List (List ℕ × ℕ) → Type 0
 AfterDue None es = Unit {0}

@@ -12,7 +12,7 @@ use Rattle.um_order.specs.Pairs as numbers
 use Rattle.um_model.specs.Plan.{BeginsWithLeast, NamesCycle, units_of}
 use Rattle.um_model.specs.Refusals.{Refused, ordering_cycle}
 use Rattle.um_model.specs.Service.{ByUnit}
-use Rattle.um_model.proofs.OrderLaws.{no_cycle}
+use Rattle.um_laws.proofs.OrderLaws.{no_cycle}
 use Rattle.um_model.specs.declared.jobs.JobKind.{JobKind}
 use Rattle.um_model.specs.declared.jobs.JobKind.TheVariants.{Stop, Start}
 use Rattle.um_model.specs.declared.jobs.JobState.{JobState}

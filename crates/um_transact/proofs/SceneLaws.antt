@@ -8,7 +8,7 @@ use Rattle.um_model.specs.declared.dependencies.DependencyKind.{DependencyKind}
 use Rattle.um_model.specs.declared.jobs.UnitJobs.{UnitJobs}
 use Rattle.um_model.specs.declared.service.ActiveState.{ActiveState}
 use Rattle.um_model.specs.declared.service.ActiveState.TheVariants.{Inactive, Active}
-use Rattle.um_model.proofs.DemandsLaws.{demanded_back, demanded_forth}
+use Rattle.um_laws.proofs.DemandsLaws.{demanded_back, demanded_forth}
 use Rattle.um_unit.specs.View.{loading_of}
 use Rattle.um_unit.specs.declared.loaded.Loading.TheVariants.{NotFound}
 use Rattle.um_graph.specs.Graph.{GraphView, IsGraph, Stands}

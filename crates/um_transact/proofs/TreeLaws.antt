@@ -14,7 +14,7 @@ use Rattle.um_model.specs.declared.dependencies.DependencyKind.{DependencyKind}
 use Rattle.um_model.specs.declared.dependencies.DependencyKind.TheVariants.{Wants, Requires}
 use Rattle.um_model.specs.declared.jobs.UnitJobs.{UnitJobs}
 use Rattle.um_model.specs.declared.service.ActiveState.{ActiveState}
-use Rattle.um_model.proofs.PlanLaws.{AreAlike}
+use Rattle.um_laws.proofs.PlanLaws.{AreAlike}
 use Rattle.um_unit.specs.View.{loading_of}
 use Rattle.um_unit.specs.declared.loaded.Loading.{Loading}
 use Rattle.um_unit.specs.declared.loaded.Loading.TheVariants.{NotFound}

@@ -4,7 +4,7 @@ use Rattle.std.proofs.lemmas.List.{length-set, length-replicate, length-append}
 use Rattle.std.proofs.lemmas.List.Sums.{sum_by-cons}
 use Rattle.std.proofs.lemmas.List.Elements.{Contains-append_left, Contains-push, Contains-push_cases}
 use Rattle.um_model.specs.Reached.{Reached, first, next}
-use Rattle.um_model.proofs.DemandsLaws.{reached_in}
+use Rattle.um_laws.proofs.DemandsLaws.{reached_in}
 use Rattle.um_model.specs.declared.dependencies.Demand.{Demand}
 use Rattle.um_model.specs.declared.dependencies.Demand.TheVariants.{Start, Stop, Restart}
 use Rattle.um_transact.specs.Walk.{Demanded, IsMarked, Met, all_met, count_if, has_mark, is_marked, marks_at, met, no_marks, unmarked, with_mark}

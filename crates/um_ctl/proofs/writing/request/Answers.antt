@@ -1,5 +1,5 @@
 use Rattle.um_ctl.proofs.Texts.{request_depth, request_plain}
-use Rattle.um_model.proofs.RequestsLaws.{request_of-read}
+use Rattle.um_laws.proofs.RequestsLaws.{request_of-read}
 use Rattle.um_model.specs.declared.requests.Mode.TheVariants.{Service}
 use Rattle.um_ctl.proofs.writing.request.Goals as goal
 

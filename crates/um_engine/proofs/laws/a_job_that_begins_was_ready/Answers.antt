@@ -1,4 +1,4 @@
-use Rattle.um_model.proofs.BegunLaws.{begun_next}
+use Rattle.um_laws.proofs.BegunLaws.{begun_next}
 use Rattle.um_engine.proofs.laws.a_job_that_begins_was_ready.Goals as goal
 
 pub returns : goal.returns

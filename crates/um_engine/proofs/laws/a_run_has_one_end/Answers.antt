@@ -1,4 +1,4 @@
-use Rattle.um_model.proofs.MachineLaws.{one_run}
+use Rattle.um_laws.proofs.MachineLaws.{one_run}
 use Rattle.um_engine.proofs.laws.a_run_has_one_end.Goals as goal
 
 pub returns : goal.returns

@@ -1,4 +1,4 @@
-use Rattle.um_model.proofs.MachineLaws.{one_outcome}
+use Rattle.um_laws.proofs.MachineLaws.{one_outcome}
 use Rattle.um_engine.proofs.laws.a_step_has_one_outcome.Goals as goal
 
 pub returns : goal.returns

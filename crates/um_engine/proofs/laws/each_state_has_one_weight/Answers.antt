@@ -1,4 +1,4 @@
-use Rattle.um_model.proofs.CrowdedLaws.{a_weight, one_weight, heavy_by_weight}
+use Rattle.um_laws.proofs.CrowdedLaws.{a_weight, one_weight, heavy_by_weight}
 use Rattle.um_engine.proofs.laws.each_state_has_one_weight.Goals as goal
 
 pub returns-clause-some : goal.returns-clause-some

@@ -1,4 +1,4 @@
-use Rattle.um_model.proofs.FewLaws.{empty_blank}
+use Rattle.um_laws.proofs.FewLaws.{empty_blank}
 use Rattle.um_engine.proofs.laws.nothing_is_held_in_the_empty_state.Goals as goal
 
 pub returns : goal.returns

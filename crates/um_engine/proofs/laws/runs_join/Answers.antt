@@ -1,4 +1,4 @@
-use Rattle.um_model.proofs.MachineLaws.{run-append, run-cut}
+use Rattle.um_laws.proofs.MachineLaws.{run-append, run-cut}
 use Rattle.um_engine.proofs.laws.runs_join.Goals as goal
 
 pub returns : goal.returns

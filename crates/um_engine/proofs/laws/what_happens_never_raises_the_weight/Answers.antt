@@ -1,4 +1,4 @@
-use Rattle.um_model.proofs.LightLaws.{happening_done, happening_light}
+use Rattle.um_laws.proofs.LightLaws.{happening_done, happening_light}
 use Rattle.um_engine.proofs.laws.what_happens_never_raises_the_weight.Goals as goal
 
 pub returns : goal.returns

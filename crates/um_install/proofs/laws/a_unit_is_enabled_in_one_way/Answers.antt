@@ -1,4 +1,4 @@
-use Rattle.um_model.proofs.InstallLaws.{an_enabling, one_enabling}
+use Rattle.um_laws.proofs.InstallLaws.{an_enabling, one_enabling}
 use Rattle.um_install.proofs.laws.a_unit_is_enabled_in_one_way.Goals as goal
 
 pub returns-clause-there : goal.returns-clause-there

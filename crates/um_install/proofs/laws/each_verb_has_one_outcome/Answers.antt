@@ -1,4 +1,4 @@
-use Rattle.um_model.proofs.InstallLaws.{an_install, one_install, one_install_refusal}
+use Rattle.um_laws.proofs.InstallLaws.{an_install, one_install, one_install_refusal}
 use Rattle.um_install.proofs.laws.each_verb_has_one_outcome.Goals as goal
 
 pub returns-clause-there : goal.returns-clause-there

@@ -1,6 +1,6 @@
 use Rattle.um_model.specs.Jobs.{IsToldBefore}
 use Rattle.um_model.proofs.LeastLaws.{one_least}
-use Rattle.um_model.proofs.MachineLaws.{same_job, told_one_way}
+use Rattle.um_laws.proofs.MachineLaws.{same_job, told_one_way}
 use Rattle.um_jobs.specs.Jobs.{IsReadyIn}
 use Rattle.um_jobs.proofs.laws.one_ready_job_is_the_least.Goals as goal
 

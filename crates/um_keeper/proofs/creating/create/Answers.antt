@@ -1,5 +1,5 @@
 use Rattle.std.proofs.Common.{◌∙◌, inl, refl, ap}
-use Rattle.um_model.proofs.DiskLaws.{started}
+use Rattle.um_laws.proofs.DiskLaws.{started}
 use Rattle.um_model.specs.StateSpellings.{state_spelling}
 use Rattle.um_keeper.specs.Creating.{unsynced}
 use Rattle.um_model.specs.Lives.{AreUnanswered, holds}

@@ -6,7 +6,7 @@ use Rattle.um_model.specs.Machine.{empty_state}
 use Rattle.um_model.specs.StateSpellings.{state_spelling}
 use Rattle.um_model.specs.Store.{superblock, log_start, IsNewest, IsFree}
 use Rattle.um_model.specs.declared.layout.Slot.TheVariants.{A}
-use Rattle.um_model.proofs.DiskLaws.{at_end, followed, weaker}
+use Rattle.um_laws.proofs.DiskLaws.{at_end, followed, weaker}
 use Rattle.um_keeper.specs.Creating.{blank, unsynced, NoneOrEmpty, IsEmptyStore}
 use Rattle.um_keeper.proofs.Wiping.{IsZeroed, while_zeroed, while_made, wiped_none, wiped_free, empty_room, made, made_maybe}
 use Rattle.um_keeper.proofs.creating.lay.Goals as goal

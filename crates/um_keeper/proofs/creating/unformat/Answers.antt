@@ -1,6 +1,6 @@
 use Rattle.std.proofs.Common.{◌∙◌, ap}
 use Rattle.um_model.specs.Disk.{seen, Past}
-use Rattle.um_model.proofs.DiskLaws.{with_same}
+use Rattle.um_laws.proofs.DiskLaws.{with_same}
 use Rattle.um_keeper.specs.Creating.{blank}
 use Rattle.um_keeper.proofs.Results.{err_from}
 use Rattle.um_keeper.proofs.Wiping.{unformat_write, unformat_sync, wrote_count, synced_count, failed_count, zeroed_ok}

@@ -1,4 +1,4 @@
-use Rattle.um_model.proofs.StandsLaws.{one_state, one_layout}
+use Rattle.um_laws.proofs.StandsLaws.{one_state, one_layout}
 use Rattle.um_keeper.proofs.laws.an_image_stands_for_one_state.Goals as goal
 
 pub returns : goal.returns

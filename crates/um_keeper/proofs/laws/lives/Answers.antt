@@ -1,4 +1,4 @@
-use Rattle.um_model.proofs.LivesLaws.{lives_run, all_kept_of, whole_run_of, has_answered}
+use Rattle.um_laws.proofs.LivesLaws.{lives_run, all_kept_of, whole_run_of, has_answered}
 use Rattle.um_keeper.proofs.laws.lives.Goals as goal
 
 pub returns : goal.returns

@@ -1,4 +1,4 @@
-use Rattle.um_model.proofs.UnreadLaws.{unread}
+use Rattle.um_laws.proofs.UnreadLaws.{unread}
 use Rattle.um_keeper.proofs.laws.unread.Goals as goal
 
 pub returns : goal.returns

@@ -2,7 +2,7 @@ use Rattle.std.proofs.Common.{inr, refl, subst}
 use Rattle.um_log.specs.Greatest.{IsGreatest}
 use Rattle.um_model.specs.Disk.{seen}
 use Rattle.um_model.specs.Store.{records_of}
-use Rattle.um_model.proofs.ImageLaws.{records_are}
+use Rattle.um_laws.proofs.ImageLaws.{records_are}
 use Rattle.um_keeper.proofs.opening.greatest_but_last.Goals as goal
 
 pub returns-then-greatest-clause-err : goal.returns-then-greatest-clause-err

@@ -1,7 +1,7 @@
 use Rattle.std.proofs.Common.{◌<◌, inr, sym, ◌∙◌, arith}
 use Rattle.um_model.specs.Disk.{seen}
 use Rattle.um_model.specs.Store.{store_sectors}
-use Rattle.um_model.proofs.StoreLaws.{superblock_name}
+use Rattle.um_laws.proofs.StoreLaws.{superblock_name}
 use Rattle.um_keeper.specs.Opening.{no_sector}
 use Rattle.um_keeper.proofs.Results.{err_same}
 use Rattle.um_keeper.proofs.Reopening.{first_unread, too_small}

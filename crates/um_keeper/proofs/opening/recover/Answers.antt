@@ -1,7 +1,7 @@
 use Rattle.std.proofs.Common.{◌≡◌, ◌∙◌, ◌-◌, ◌^◌, inl, inr, ⊎_elim, sym, subst}
 use Rattle.um_engine.specs.Engine.{state_in}
 use Rattle.um_model.specs.Disk.{seen, IsSettled, after, synced}
-use Rattle.um_model.proofs.DiskLaws.{settled_after_sync}
+use Rattle.um_laws.proofs.DiskLaws.{settled_after_sync}
 use Rattle.um_log.specs.Greatest.{IsGreatest}
 use Rattle.um_keeper.specs.Opening.{IsUnread, IsUntaken, unread, spent, IsTakenUp, IsRead, StaysFor}
 use Rattle.um_keeper.proofs.Results.{err_same, if_ok_from, if_err_from, if_err_all, or_more}

@@ -5,8 +5,8 @@ use Rattle.um_model.specs.Servable.{IsServable}
 use Rattle.um_model.specs.StateSpellings.{FitState, state_spelling}
 use Rattle.um_model.specs.Store.{body_limit, log_start, GoesOn}
 use Rattle.um_model.specs.Store as sectors
-use Rattle.um_model.proofs.DiskLaws.{started}
-use Rattle.um_model.proofs.WholeLaws.{spelled_room}
+use Rattle.um_laws.proofs.DiskLaws.{started}
+use Rattle.um_laws.proofs.WholeLaws.{spelled_room}
 use Rattle.um_keeper.specs.Keeping.{Keeps}
 use Rattle.um_keeper.proofs.Reopening.{have_newest, renewed, keeps_anew, still_here}
 use Rattle.um_keeper.proofs.opening.renew.Goals as goal

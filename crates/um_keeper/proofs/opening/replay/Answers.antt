@@ -10,7 +10,7 @@ use Rattle.um_model.specs.InputSpellings.{input_at}
 use Rattle.um_model.specs.Servable.{IsServable}
 use Rattle.um_model.specs.Store.{log_start, placed, part_count, records_of}
 use Rattle.um_model.specs.declared.layout.Layout.{Layout}
-use Rattle.um_model.proofs.ServableLaws.{step_servable}
+use Rattle.um_laws.proofs.ServableLaws.{step_servable}
 use Rattle.um_state.specs.View.{input_of}
 use Rattle.um_wire.specs.declared.refusal.Refusal.TheVariants.{Damaged}
 use Rattle.um_keeper.specs.Opening.{Leads, IsNoInput, IsBehind}

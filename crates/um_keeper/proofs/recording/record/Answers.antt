@@ -1,5 +1,5 @@
 use Rattle.std.proofs.Common.{◌≡◌, ◌∙◌, ◌+◌, ◌≤◌, [], ◌∷◌, length, sym, ap, subst, arith}
-use Rattle.um_model.proofs.DiskLaws.{weaker}
+use Rattle.um_laws.proofs.DiskLaws.{weaker}
 use Rattle.um_state.specs.View.{input_of}
 use Rattle.um_keeper.proofs.Batching.{begun_longer}
 use Rattle.um_keeper.proofs.Kept.{record_short}

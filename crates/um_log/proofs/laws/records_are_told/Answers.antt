@@ -1,4 +1,4 @@
-use Rattle.um_model.proofs.ImageLaws.{records_are}
+use Rattle.um_laws.proofs.ImageLaws.{records_are}
 use Rattle.um_log.proofs.laws.records_are_told.Goals as goal
 
 pub returns : goal.returns

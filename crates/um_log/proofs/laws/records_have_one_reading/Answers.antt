@@ -1,5 +1,5 @@
 use Rattle.um_model.specs.Store.{log_start}
-use Rattle.um_model.proofs.LogLaws.{same_list}
+use Rattle.um_laws.proofs.LogLaws.{same_list}
 use Rattle.um_log.proofs.laws.records_have_one_reading.Goals as goal
 
 pub returns : goal.returns

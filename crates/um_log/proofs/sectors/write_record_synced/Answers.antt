@@ -1,6 +1,6 @@
 use Rattle.std.proofs.Common.{◌∙◌}
 use Rattle.std.specs.Prelude.{IsTrue}
-use Rattle.um_model.proofs.DiskLaws.{settled_at_ok}
+use Rattle.um_laws.proofs.DiskLaws.{settled_at_ok}
 use Rattle.um_sector.proofs.RunLaws.{run_sync}
 use Rattle.um_log.specs.Appending.{record_run}
 use Rattle.um_log.proofs.sectors.write_record_synced.Goals as goal

@@ -1,4 +1,4 @@
-use Rattle.um_model.proofs.FramesLaws.{each_stream, one_stream}
+use Rattle.um_laws.proofs.FramesLaws.{each_stream, one_stream}
 use Rattle.um_memory.proofs.laws.a_stream_has_one_reading.Goals as goal
 
 pub returns : goal.returns

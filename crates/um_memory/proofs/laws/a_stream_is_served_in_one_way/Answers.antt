@@ -1,4 +1,4 @@
-use Rattle.um_model.proofs.FramesLaws.{one_serving}
+use Rattle.um_laws.proofs.FramesLaws.{one_serving}
 use Rattle.um_memory.proofs.laws.a_stream_is_served_in_one_way.Goals as goal
 
 pub returns : goal.returns

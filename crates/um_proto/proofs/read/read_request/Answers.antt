@@ -1,5 +1,5 @@
 use Rattle.std.proofs.Common.{rules}
-use Rattle.um_model.proofs.RequestsLaws.{request_of-read, request_of-unread}
+use Rattle.um_laws.proofs.RequestsLaws.{request_of-read, request_of-unread}
 use Rattle.um_proto.proofs.read.read_request.Goals as goal
 
 pub returns-in-Ok : goal.returns-in-Ok

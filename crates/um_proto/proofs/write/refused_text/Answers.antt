@@ -1,6 +1,6 @@
 use Rattle.std.proofs.Common.{◌≡◌}
 use Rattle.serde_json.specs.Written.{compact_text}
-use Rattle.um_model.proofs.RepliesLaws.{refused_plain, too_large_short}
+use Rattle.um_laws.proofs.RepliesLaws.{refused_plain, too_large_short}
 use Rattle.um_model.specs.Refusals.{too_large}
 use Rattle.um_model.specs.Replies.{refused_data}
 use Rattle.um_model.specs.declared.refusals.Limit.TheVariants.{Reply as ReplyLimit}

@@ -1,4 +1,4 @@
-use Rattle.um_model.proofs.DiskLaws.{image_synced}
+use Rattle.um_laws.proofs.DiskLaws.{image_synced}
 use Rattle.um_sector.proofs.laws.a_sync_leaves_what_a_read_gives.Goals as goal
 
 pub returns : goal.returns

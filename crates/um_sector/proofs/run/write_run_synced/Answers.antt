@@ -1,6 +1,6 @@
 use Rattle.std.proofs.Common.{◌∙◌}
 use Rattle.std.specs.Prelude.{IsTrue}
-use Rattle.um_model.proofs.DiskLaws.{settled_at_ok}
+use Rattle.um_laws.proofs.DiskLaws.{settled_at_ok}
 use Rattle.um_sector.proofs.RunLaws.{run_sync, from_settled}
 use Rattle.um_sector.proofs.run.write_run_synced.Goals as goal
 

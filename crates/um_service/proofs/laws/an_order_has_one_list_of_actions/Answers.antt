@@ -1,4 +1,4 @@
-use Rattle.um_model.proofs.TransitionLaws.{same_actions}
+use Rattle.um_laws.proofs.TransitionLaws.{same_actions}
 use Rattle.um_service.proofs.laws.an_order_has_one_list_of_actions.Goals as goal
 
 pub returns : goal.returns

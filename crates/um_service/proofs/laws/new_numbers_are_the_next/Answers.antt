@@ -1,4 +1,4 @@
-use Rattle.um_model.proofs.TransitionLaws.{numbers_are_next}
+use Rattle.um_laws.proofs.TransitionLaws.{numbers_are_next}
 use Rattle.um_service.proofs.laws.new_numbers_are_the_next.Goals as goal
 
 pub returns : goal.returns

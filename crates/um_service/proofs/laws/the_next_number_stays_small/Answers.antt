@@ -1,4 +1,4 @@
-use Rattle.um_model.proofs.TransitionLaws.{next_is_small}
+use Rattle.um_laws.proofs.TransitionLaws.{next_is_small}
 use Rattle.um_service.proofs.laws.the_next_number_stays_small.Goals as goal
 
 pub returns : goal.returns

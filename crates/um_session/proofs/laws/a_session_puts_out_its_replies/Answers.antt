@@ -1,4 +1,4 @@
-use Rattle.um_model.proofs.SessionsLaws.{session_puts_out}
+use Rattle.um_laws.proofs.SessionsLaws.{session_puts_out}
 use Rattle.um_session.proofs.laws.a_session_puts_out_its_replies.Goals as goal
 
 pub returns : goal.returns

@@ -4,7 +4,7 @@ use Rattle.std.proofs.Common.{refl, sym, ◌∙◌, ap, inr, arith}
 use Rattle.byteorder.specs.Endian.{big_number}
 use Rattle.um_model.specs.declared.layout.Layout.{Layout}
 use Rattle.um_model.specs.Store as store
-use Rattle.um_model.proofs.StoreLaws.{superblock_says, same_superblock}
+use Rattle.um_laws.proofs.StoreLaws.{superblock_says, same_superblock}
 use Rattle.um_slot.proofs.first.read_superblock.Goals as goal
 
 -- what is told of the sector of a layout

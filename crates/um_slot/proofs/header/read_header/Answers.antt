@@ -2,7 +2,7 @@ use Rattle.std.specs.Prelude.{◌≡◌}
 use Rattle.std.specs.Cmp.Lexicographic.{other_text}
 use Rattle.std.proofs.Common.{sym, ◌∙◌, arith}
 use Rattle.um_model.specs.Store as store
-use Rattle.um_model.proofs.StoreLaws.{header_says}
+use Rattle.um_laws.proofs.StoreLaws.{header_says}
 use Rattle.um_slot.proofs.header.read_header.Goals.{then-generation-eq0-via-then-generation-eq0, then-generation-eq0-via-else-generation-eq0+then-size-body_limit}
 use Rattle.um_slot.proofs.header.read_header.Goals as goal
 

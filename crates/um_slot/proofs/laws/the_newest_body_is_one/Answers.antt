@@ -1,4 +1,4 @@
-use Rattle.um_model.proofs.StoreLaws.{same_newest}
+use Rattle.um_laws.proofs.StoreLaws.{same_newest}
 use Rattle.um_slot.proofs.laws.the_newest_body_is_one.Goals as goal
 
 pub returns : goal.returns

@@ -1,4 +1,4 @@
-use Rattle.um_model.proofs.ImageLaws.{newest_some, newest_none}
+use Rattle.um_laws.proofs.ImageLaws.{newest_some, newest_none}
 use Rattle.um_slot.proofs.laws.the_newest_body_is_told.Goals as goal
 
 pub returns-clause-one : goal.returns-clause-one

@@ -1,4 +1,4 @@
-use Rattle.um_model.proofs.StoreLaws.{unread_newest, unread_none}
+use Rattle.um_laws.proofs.StoreLaws.{unread_newest, unread_none}
 use Rattle.um_slot.proofs.laws.unread_sectors_of_the_slots_do_not_count.Goals as goal
 
 pub returns-clause-one : goal.returns-clause-one

@@ -2,7 +2,7 @@ use Rattle.std.proofs.Common.{subst, arith}
 use Rattle.um_model.specs.Disk.{seen}
 use Rattle.um_model.specs.Store.{IsNewest}
 use Rattle.um_model.specs.declared.layout.Slot.TheVariants.{A}
-use Rattle.um_model.proofs.DiskLaws.{started}
+use Rattle.um_laws.proofs.DiskLaws.{started}
 use Rattle.um_slot.proofs.Snapshots.{first_newest, kept_free}
 use Rattle.um_slot.proofs.Writing.{first_kept}
 use Rattle.um_slot.proofs.write.write_first.Goals as goal

@@ -1,5 +1,5 @@
 use Rattle.std.proofs.Common.{arith}
-use Rattle.um_model.proofs.AsciiLaws.{name_utf8}
+use Rattle.um_laws.proofs.AsciiLaws.{name_utf8}
 use Rattle.um_model.proofs.WeightLaws.{short_name}
 use Rattle.um_state.proofs.fitting.name_fits.Goals as goal
 

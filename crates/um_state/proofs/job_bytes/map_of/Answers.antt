@@ -1,6 +1,6 @@
 use Rattle.std.proofs.Common.{map, ap, sym, ◌∙◌}
 use Rattle.std.proofs.lemmas.List.{map_push}
-use Rattle.um_model.proofs.NameMaps.{seen, seen_nothing}
+use Rattle.um_laws.proofs.NameMaps.{seen, seen_nothing}
 use Rattle.um_model.specs.Jobs.{with_jobs, with_job}
 use Rattle.um_state.specs.Shown.{job_of}
 use Rattle.um_state.proofs.JobLists.{with_list, all_of_list, last_first, set_is}

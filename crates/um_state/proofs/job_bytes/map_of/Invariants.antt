@@ -1,5 +1,5 @@
 use Rattle.std.proofs.Common.{◌≡◌, length, map}
-use Rattle.um_model.proofs.NameMaps.{seen}
+use Rattle.um_laws.proofs.NameMaps.{seen}
 use Rattle.um_model.specs.StateSpellings.{pending_of}
 use Rattle.um_state.specs.Shown.{job_of}
 use Rattle.um_state.proofs.JobLists.{with_list}

@@ -1,4 +1,4 @@
-use Rattle.um_model.proofs.FitStateLaws.{accepted_after}
+use Rattle.um_laws.proofs.FitStateLaws.{accepted_after}
 use Rattle.um_state.proofs.laws.an_accepted_input_is_short.Goals as goal
 
 pub returns : goal.returns

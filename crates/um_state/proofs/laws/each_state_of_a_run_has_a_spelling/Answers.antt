@@ -1,4 +1,4 @@
-use Rattle.um_model.proofs.FitStateLaws.{fits_after}
+use Rattle.um_laws.proofs.FitStateLaws.{fits_after}
 use Rattle.um_state.proofs.laws.each_state_of_a_run_has_a_spelling.Goals as goal
 
 pub returns : goal.returns

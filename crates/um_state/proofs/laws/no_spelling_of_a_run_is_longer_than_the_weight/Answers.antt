@@ -1,4 +1,4 @@
-use Rattle.um_model.proofs.FitStateLaws.{spelled_after}
+use Rattle.um_laws.proofs.FitStateLaws.{spelled_after}
 use Rattle.um_state.proofs.laws.no_spelling_of_a_run_is_longer_than_the_weight.Goals as goal
 
 pub returns : goal.returns

@@ -1,6 +1,6 @@
 use Rattle.std.proofs.Common.{◌∙◌, ap}
 use Rattle.std.specs.FinMap as map
-use Rattle.um_model.proofs.NameMaps.{seen, seen_inserted, seen_removed}
+use Rattle.um_laws.proofs.NameMaps.{seen, seen_inserted, seen_removed}
 use Rattle.um_state.proofs.maps.hold_jobs.Goals as goal
 
 pub returns-in_ok-insert-clause-ok : goal.returns-in_ok-insert-clause-ok

@@ -1,5 +1,5 @@
 use Rattle.std.proofs.Common.{ap, unwrap_or}
-use Rattle.um_model.proofs.NameMaps.{get_seen}
+use Rattle.um_laws.proofs.NameMaps.{get_seen}
 use Rattle.um_model.specs.Jobs.{no_jobs}
 use Rattle.um_state.proofs.maps.jobs_in.Goals as goal
 

@@ -1,5 +1,5 @@
 use Rattle.std.proofs.Common.{◌∙◌, ◌++◌, append-nil, map, ap, sym}
-use Rattle.um_model.proofs.NameMaps.{entries_kept}
+use Rattle.um_laws.proofs.NameMaps.{entries_kept}
 use Rattle.um_state.proofs.maps.push_keys.Goals as goal
 
 pub returns : goal.returns

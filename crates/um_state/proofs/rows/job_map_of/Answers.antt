@@ -1,5 +1,5 @@
 use Rattle.std.proofs.Common.{◌∙◌, sym, arith}
-use Rattle.um_model.proofs.NameMaps.{seen, seen_nothing}
+use Rattle.um_laws.proofs.NameMaps.{seen, seen_nothing}
 use Rattle.um_model.specs.Jobs.{no_jobs, with_jobs}
 use Rattle.um_state.proofs.BackLaws.{all_passed, none_passed, one_passed}
 use Rattle.um_state.proofs.rows.job_map_of.Goals as goal

@@ -1,6 +1,6 @@
 use Rattle.std.proofs.Common.{◌≡◌, ◌∙◌, ℕ, List, [], arith, ap, sym}
 use Rattle.std.proofs.lemmas.Option.{get_or_from_slice_get}
-use Rattle.um_model.proofs.NameMaps.{seen}
+use Rattle.um_laws.proofs.NameMaps.{seen}
 use Rattle.um_model.specs.Jobs.{no_jobs, jobs_of_unit}
 use Rattle.um_name.specs.Names.{name_at}
 use Rattle.um_state.proofs.RenumberLaws.{rows_more, len_more}

@@ -1,5 +1,5 @@
 use Rattle.std.proofs.Common.{◌≡◌, ◌<◌, ℕ, get_or, length}
-use Rattle.um_model.proofs.NameMaps.{seen}
+use Rattle.um_laws.proofs.NameMaps.{seen}
 use Rattle.um_model.specs.Jobs.{no_jobs, jobs_of_unit}
 use Rattle.um_name.specs.Names.{name_at}
 use Rattle.um_state.proofs.rows.job_rows_in.Given as goal

@@ -1,5 +1,5 @@
 use Rattle.std.proofs.Common.{◌∙◌, ◌-◌, ap, sym, arith}
-use Rattle.um_model.proofs.NameMaps.{seen, seen_nothing}
+use Rattle.um_laws.proofs.NameMaps.{seen, seen_nothing}
 use Rattle.um_model.specs.Service.{dead_unit, with_unit}
 use Rattle.um_state.proofs.BackLaws.{all_passed, none_passed, one_passed}
 use Rattle.um_name.specs.Names.{name_at}

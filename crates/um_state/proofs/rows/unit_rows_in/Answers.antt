@@ -1,6 +1,6 @@
 use Rattle.std.proofs.Common.{◌∙◌, arith}
 use Rattle.std.proofs.lemmas.List.{length-set}
-use Rattle.um_model.proofs.NameMaps.{seen}
+use Rattle.um_laws.proofs.NameMaps.{seen}
 use Rattle.um_model.specs.Service.{dead_unit, state_of_unit}
 use Rattle.um_name.specs.Names.{name_at}
 use Rattle.um_state.proofs.RenumberLaws.{rows_set}

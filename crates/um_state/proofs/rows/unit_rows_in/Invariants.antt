@@ -1,5 +1,5 @@
 use Rattle.std.proofs.Common.{◌≡◌, ◌<◌, ℕ, get_or, length}
-use Rattle.um_model.proofs.NameMaps.{seen}
+use Rattle.um_laws.proofs.NameMaps.{seen}
 use Rattle.um_model.specs.Service.{dead_unit, state_of_unit}
 use Rattle.um_name.specs.Names.{name_at}
 use Rattle.um_state.proofs.rows.unit_rows_in.Given as goal

@@ -1,4 +1,4 @@
-use Rattle.um_model.proofs.DiskLaws.{settled_after_sync}
+use Rattle.um_laws.proofs.DiskLaws.{settled_after_sync}
 use Rattle.std.proofs.Common.{sym, subst}
 use Rattle.um_model.specs.Disk.{IsSettled}
 use Rattle.um_sector.proofs.RunLaws.{synced_syncs}

@@ -2,7 +2,7 @@ use Rattle.std.proofs.Common.{IsTrue, ◌≡◌, ◌⊎◌, ◌∙◌, ◌+◌, 
 use Rattle.std.proofs.lemmas.Bool.{cases_eq, cases_lt}
 use Rattle.um_model.specs.Disk.{Image, Sector, Past, seen}
 use Rattle.um_model.specs.Store.{log_start, log_end, part_count, part_of, sectors_of, AreRecords, stops, goes_on, IsOf}
-use Rattle.um_model.proofs.StoreLaws.{log_generation}
+use Rattle.um_laws.proofs.StoreLaws.{log_generation}
 use Rattle.um_model.specs.declared.layout.Layout.{Layout}
 use Rattle.um_log.specs.Greatest.{IsTold}
 use Rattle.um_log.proofs.write.Log.greatest_generation.Goals as goal

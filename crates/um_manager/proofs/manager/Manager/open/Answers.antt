@@ -3,8 +3,8 @@ use Rattle.std.specs.Bool.{IsTrue}
 use Rattle.um_keeper.specs.Keepers.{disk_in, state_in, layout_in, has_failed, opened_in}
 use Rattle.um_keeper.specs.Opening.{IsRead, IsSomeStore, IsAsBefore}
 use Rattle.um_keeper.specs.Answering.{taken}
-use Rattle.um_model.proofs.DiskLaws.{weaker}
-use Rattle.um_model.proofs.StandsLaws.{one_layout}
+use Rattle.um_laws.proofs.DiskLaws.{weaker}
+use Rattle.um_laws.proofs.StandsLaws.{one_layout}
 use Rattle.um_model.specs.Disk.{During, Images, seen}
 use Rattle.um_model.specs.Store.{body_limit}
 use Rattle.um_model.specs.declared.layout.Layout.{Layout}

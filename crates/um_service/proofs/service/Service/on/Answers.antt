@@ -1,6 +1,6 @@
 use Rattle.std.proofs.Common.{◌+◌, map, ap, subst, ◌∙◌}
 use Rattle.um_model.specs.Transitions.{transition, spawned, AreActions}
-use Rattle.um_model.proofs.TransitionLaws.{keeps_process, has_room, next_is_small}
+use Rattle.um_laws.proofs.TransitionLaws.{keeps_process, has_room, next_is_small}
 use Rattle.um_service.specs.View.{action_of}
 use Rattle.um_unit.specs.ServiceView.{service_settings_of}
 use Rattle.um_service.proofs.service.Service.on.Goals as goal

@@ -1,6 +1,6 @@
 use Rattle.std.proofs.Common.{rules, ◌≡◌, true, false, Some, drop, ap, sym, ◌∙◌}
 use Rattle.um_model.proofs.BytesLaws.{at_some}
-use Rattle.um_model.proofs.NameMaps.{seen}
+use Rattle.um_laws.proofs.NameMaps.{seen}
 use Rattle.um_model.proofs.StateSpellingsLaws.{known_is_tidy}
 use Rattle.um_model.specs.StateSpellings.{are_known}
 use Rattle.um_state.proofs.UnitsRead.{same_map, units_here, units_unknown}

@@ -1,6 +1,6 @@
 use Rattle.std.proofs.Common.{◌∙◌, ◌++◌, ap}
 use Rattle.std.specs.FinMap as map
-use Rattle.um_model.proofs.NameMaps.{seen}
+use Rattle.um_laws.proofs.NameMaps.{seen}
 use Rattle.um_model.specs.Jobs.{no_jobs}
 use Rattle.um_state.proofs.SameLaws.{unheld}
 use Rattle.um_state.proofs.units.Pending.of_map.Goals as goal

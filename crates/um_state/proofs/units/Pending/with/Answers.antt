@@ -1,5 +1,5 @@
 use Rattle.std.proofs.Common.{◌∙◌, ap, sym, subst}
-use Rattle.um_model.proofs.NameMaps.{seen}
+use Rattle.um_laws.proofs.NameMaps.{seen}
 use Rattle.um_model.proofs.UnitLaws.{tidy_jobs}
 use Rattle.um_model.specs.Jobs.{no_jobs, with_jobs, AreTidyJobs}
 use Rattle.um_state.proofs.PutLaws.{jobs_put_well}

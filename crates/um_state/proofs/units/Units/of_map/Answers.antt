@@ -1,6 +1,6 @@
 use Rattle.std.proofs.Common.{◌∙◌, ◌++◌, ap}
 use Rattle.std.specs.FinMap as map
-use Rattle.um_model.proofs.NameMaps.{seen}
+use Rattle.um_laws.proofs.NameMaps.{seen}
 use Rattle.um_model.specs.Service.{dead_unit}
 use Rattle.um_state.proofs.SameLaws.{unheld}
 use Rattle.um_state.proofs.units.Units.of_map.Goals as goal

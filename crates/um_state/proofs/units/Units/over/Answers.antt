@@ -1,5 +1,5 @@
 use Rattle.std.proofs.Common.{◌∙◌}
-use Rattle.um_model.proofs.NameMaps.{seen}
+use Rattle.um_laws.proofs.NameMaps.{seen}
 use Rattle.um_model.specs.Service.{dead_unit, with_unit}
 use Rattle.um_state.proofs.PutLaws.{units_put}
 use Rattle.um_state.proofs.RenumberLaws.{by_looks}

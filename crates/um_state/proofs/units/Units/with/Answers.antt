@@ -1,5 +1,5 @@
 use Rattle.std.proofs.Common.{◌∙◌, ap, sym, subst}
-use Rattle.um_model.proofs.NameMaps.{seen}
+use Rattle.um_laws.proofs.NameMaps.{seen}
 use Rattle.um_model.proofs.UnitLaws.{tidy_units}
 use Rattle.um_model.specs.Service.{dead_unit, with_unit, AreTidyUnits}
 use Rattle.um_state.proofs.PutLaws.{units_put}

@@ -1,6 +1,6 @@
 use Rattle.std.proofs.Common.{◌∙◌, ap, sym}
 use Rattle.std.specs.FinMap as map
-use Rattle.um_model.proofs.NameMaps.{get_seen}
+use Rattle.um_laws.proofs.NameMaps.{get_seen}
 use Rattle.um_timer.proofs.timers.Timers.get.Goals as goal
 
 pub returns : goal.returns

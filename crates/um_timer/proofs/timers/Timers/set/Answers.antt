@@ -1,6 +1,6 @@
 use Rattle.std.proofs.Common.{◌∙◌, ap}
 use Rattle.std.specs.FinMap as map
-use Rattle.um_model.proofs.NameMaps.{seen_inserted}
+use Rattle.um_laws.proofs.NameMaps.{seen_inserted}
 use Rattle.um_timer.proofs.timers.Timers.set.Goals as goal
 
 pub returns-clause-ok : goal.returns-clause-ok

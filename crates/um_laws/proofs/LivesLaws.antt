@@ -1,0 +1,135 @@
+-- What outlives a crash: the state that the last image stands for comes of what was kept, and that holds all that was answered.
+use Rattle.std.proofs.Common.{◌≡◌, inl, inr, ℕ, List, [], ◌∷◌, ◌++◌, refl, sym, subst}
+use Rattle.std.specs.List.{Contains}
+use Rattle.um_model.specs.Disk.{Image}
+use Rattle.um_model.specs.Machine.{State, Input, Reply, Run, rests, goes}
+use Rattle.um_model.specs.Stands.{IsStoreOf}
+use Rattle.um_model.specs.Store.{body_limit}
+use Rattle.um_model.specs.Lives.{Outcome, answered, turned_away, unanswered, Offer, Life, AreUnanswered, none, turned, lost, MayLeave, holds, takes, turns_away, Lived, ended, lived, IsKept, no_more, keeps, passes, AreKept, all_kept, and_life}
+use Rattle.um_model.specs.Lives.{RunsOver, stays, steps, leaves_out, RunsThrough, at_end, and_on, where_answered, answered_in, all_answered, HasInOrder, no_others, has, between}
+use Rattle.um_model.specs.declared.layout.Layout.{Layout}
+use Rattle.um_laws.proofs.AmongLaws.{among_contained, contains_among}
+use Rattle.um_model.proofs.LeastLaws.{Among}
+use Rattle.um_laws.proofs.MachineLaws.{run-append}
+use Rattle.um_laws.proofs.StandsLaws.{one_state}
+
+-- ---- one life
+
+-- the image that a life left is of a store of the state that a run over what was kept comes to
+pub one_life : (layout : Layout) (s : State) (offers : List Offer) (image : Image) → MayLeave layout s offers image
+    → (b : List Input) × (t : State) × RunsOver (body_limit layout) s offers b t × IsStoreOf layout image t
+one_life layout s offers image (holds store none_answered) = ([], s, stays none_answered, store)
+one_life layout s (offer ∷ offers) image (takes reply actions may step leaves) =
+    let (b, t, run, store) = one_life layout _ offers image leaves in
+    (offer.input ∷ b, t, steps reply actions may step run, store)
+one_life layout s (offer ∷ offers) image (turns_away leaves) =
+    let (b, t, run, store) = one_life layout s offers image leaves in
+    (b, t, leaves_out run, store)
+
+-- what it runs over is kept, and it is a run
+pub kept_of : {size : ℕ} {s t : State} {offers : List Offer} {b : List Input} → RunsOver size s offers b t → IsKept offers b
+kept_of (stays none_answered) = no_more none_answered
+kept_of (steps reply actions may step run) = keeps reply may (kept_of run)
+kept_of (leaves_out run) = passes (kept_of run)
+
+pub run_of : {size : ℕ} {s t : State} {offers : List Offer} {b : List Input} → RunsOver size s offers b t → Run size s b t
+run_of (stays none_answered) = rests
+run_of (steps reply actions may step run) = goes reply actions step (run_of run)
+run_of (leaves_out run) = run_of run
+
+-- ---- all lives
+
+-- All lives are one run over what was kept of them, from the state on that the first image stands for, and the last image stands for its end.
+pub lives_run : (layout : Layout) (first last : Image) (lives : List Life) (s : State) → IsStoreOf layout first s → Lived layout first lives last
+    → (b : List Input) × (t : State) × RunsThrough (body_limit layout) s lives b t × IsStoreOf layout last t
+lives_run layout first last [] s store ended = ([], s, at_end, store)
+lives_run layout first last (life ∷ lives) s store (lived {s = begun} opened leaves more) =
+    let same : begun ≡ s = one_state layout first begun s opened.stands store.stands in
+    let (here, t, run, left) = one_life layout s life.offers life.image (subst (λ x. MayLeave layout x life.offers life.image) same leaves) in
+    let (others, u, later, stands) = lives_run layout life.image last lives t left more in
+    (here ++ others, u, and_on run later, stands)
+
+pub all_kept_of : {size : ℕ} {s t : State} {lives : List Life} {b : List Input} → RunsThrough size s lives b t → AreKept lives b
+all_kept_of at_end = all_kept
+all_kept_of (and_on run later) = and_life (kept_of run) (all_kept_of later)
+
+pub whole_run_of : {size : ℕ} {s t : State} {lives : List Life} {b : List Input} → RunsThrough size s lives b t → Run size s b t
+whole_run_of at_end = rests
+whole_run_of (and_on run later) = run-append _ _ _ _ _ _ (run_of run) (whole_run_of later)
+
+-- so the last image stands for the state that what was kept comes to
+pub lives_from : (layout : Layout) (first last : Image) (lives : List Life) (s : State) → IsStoreOf layout first s → Lived layout first lives last
+    → (b : List Input) × AreKept lives b × (t : State) × Run (body_limit layout) s b t × IsStoreOf layout last t
+lives_from layout first last all s store led =
+    let (b, t, run, stands) = lives_run layout first last all s store led in
+    (b, all_kept_of run, t, whole_run_of run, stands)
+
+-- ---- what was answered is kept
+
+-- nothing was answered
+none_had : (offers : List Offer) → AreUnanswered offers → answered_in offers ≡ []
+none_had [] none = refl
+none_had (_ ∷ offers) (turned more) = none_had offers more
+none_had (_ ∷ offers) (lost more) = none_had offers more
+
+-- two such lists, one behind the other
+in_order_both : (a b c d : List Input) → HasInOrder a b → HasInOrder c d → HasInOrder (a ++ c) (b ++ d)
+in_order_both a b c d no_others more = more
+in_order_both a b c d (has {some = some} {all = all} rest) more = has (in_order_both some all c d rest more)
+in_order_both a b c d (between {all = all} rest) more = between (in_order_both a all c d rest more)
+
+-- What is kept of a life holds all that was answered in it, in its order.
+pub life_has_answered : (offers : List Offer) (b : List Input) → IsKept offers b → HasInOrder (answered_in offers) b
+life_has_answered offers [] (no_more none_answered) = subst (λ l. HasInOrder l []) (sym (none_had offers none_answered)) no_others
+life_has_answered (offer ∷ offers) (_ ∷ b) (keeps reply may kept) = by offer.outcome (life_has_answered offers b kept)
+  where
+    by : (o : Outcome) → HasInOrder (answered_in offers) b → HasInOrder (where_answered o offer.input ++ answered_in offers) (offer.input ∷ b)
+    by (answered r) rest = has rest
+    by turned_away rest = between rest
+    by unanswered rest = between rest
+life_has_answered (offer ∷ offers) b (passes kept) = life_has_answered offers b kept
+
+-- What is kept of all lives holds all that was answered, in its order.
+pub has_answered : (all : List Life) (b : List Input) → AreKept all b → HasInOrder (all_answered all) b
+has_answered all b all_kept = no_others
+has_answered all b (and_life {life = life} {lives = more_lives} {here = here} {more = more} kept rest) =
+    in_order_both (answered_in life.offers) here (all_answered more_lives) more (life_has_answered life.offers here kept) (has_answered more_lives more rest)
+
+-- ---- one offer
+
+among_behind : (xs ys : List Input) (x : Input) → Among ys x → Among (xs ++ ys) x
+among_behind [] ys x there = there
+among_behind (_ ∷ xs) ys x there = inr (among_behind xs ys x there)
+
+among_front : (xs ys : List Input) (x : Input) → Among xs x → Among (xs ++ ys) x
+among_front [] ys x none_there = absurd none_there
+among_front (y ∷ xs) ys x (inl is) = inl is
+among_front (y ∷ xs) ys x (inr later) = inr (among_front xs ys x later)
+
+-- what a list has in its order stands in it
+among_all : (some all : List Input) (x : Input) → HasInOrder some all → Among some x → Among all x
+among_all _ _ x no_others none_there = absurd none_there
+among_all _ _ x (has rest) (inl is) = inl is
+among_all _ _ x (has {some = some} {all = all} rest) (inr later) = inr (among_all some all x rest later)
+among_all some _ x (between {all = all} rest) there = inr (among_all some all x rest there)
+
+in_life : (offers : List Offer) (offer : Offer) (reply : Reply) → offer.outcome ≡ answered reply → Among offers offer → Among (answered_in offers) offer.input
+in_life [] offer reply is none_there = absurd none_there
+in_life (first ∷ offers) offer reply is (inl same) =
+    among_front (where_answered first.outcome first.input) (answered_in offers) offer.input
+    (subst (λ (o : Offer). Among (where_answered o.outcome o.input) offer.input) same (subst (λ (o : Outcome). Among (where_answered o offer.input) offer.input) (sym is) (inl refl)))
+in_life (first ∷ offers) offer reply is (inr later) =
+    among_behind (where_answered first.outcome first.input) (answered_in offers) offer.input (in_life offers offer reply is later)
+
+in_lives : (all : List Life) (life : Life) (input : Input) → Among all life → Among (answered_in life.offers) input → Among (all_answered all) input
+in_lives [] life input none_there there = absurd none_there
+in_lives (first ∷ all) life input (inl same) there =
+    among_front (answered_in first.offers) (all_answered all) input (subst (λ (l : Life). Among (answered_in l.offers) input) same there)
+in_lives (first ∷ all) life input (inr later) there = among_behind (answered_in first.offers) (all_answered all) input (in_lives all life input later there)
+
+-- Each input that was answered in a life is kept.
+pub answered_is_kept : (all : List Life) (b : List Input) → AreKept all b → (life : Life) → Contains all life → (offer : Offer) → Contains life.offers offer
+    → (reply : Reply) → offer.outcome ≡ answered reply → Contains b offer.input
+answered_is_kept all b kept life lives_it offer offers_it reply is =
+    contains_among b offer.input (among_all (all_answered all) b offer.input (has_answered all b kept)
+    (in_lives all life offer.input (among_contained all life lives_it) (in_life life.offers offer reply is (among_contained life.offers offer offers_it))))

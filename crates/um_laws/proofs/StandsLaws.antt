@@ -1,0 +1,337 @@
+-- What an image of a store stands for is one state at most, of one layout; and what the sectors of a store say as its state.
+use Rattle.std.specs.Prelude.{drop, map, is_some, true}
+use Rattle.std.specs.List.{AllByRecursion}
+use Rattle.std.proofs.Common.{◌≡◌, ◌∙◌, ℕ, ◌+◌, ◌≤◌, List, [], ◌∷◌, ◌++◌, Option, Some, None, refl, sym, ap, subst, arith}
+use Rattle.std.proofs.Math.Bridge.{le_prop}
+use Rattle.std.proofs.lemmas.Bool.{false≢true}
+use Rattle.std.proofs.lemmas.List.{append-nil}
+use Rattle.std.proofs.lemmas.Option.{same_Some, none-some}
+use Rattle.byteorder.specs.Endian.{big_number}
+use mathlib.Core.HLevel.{×_prop}
+use Rattle.um_model.specs.Bytes.{◌>>=◌, nothing_left}
+use Rattle.um_model.specs.Disk.{Sector, Image}
+use Rattle.um_model.specs.InputSpellings.{input_spelling, input_at, FitInput}
+use Rattle.um_model.specs.Machine.{State, Input, Reply, Step, Run, rests, goes, empty_state}
+use Rattle.um_model.specs.Servable.{IsServable}
+use Rattle.um_model.specs.Service.{Action}
+use Rattle.um_model.specs.Stands.{inputs_of, Contents, contents_of, StandsFor, IsStoreOf}
+use Rattle.um_model.specs.StateSpellings.{state_spelling, state_at, FitState}
+use Rattle.um_model.specs.Store.{superblock, other, body_limit, log_start, Newest, newest_of, records_of, IsNewest, HasRecords, IsFree, IsStore}
+use Rattle.um_model.specs.declared.layout.Layout.{Layout}
+use Rattle.um_model.specs.declared.layout.Slot.{Slot}
+use Rattle.um_laws.proofs.FewLaws.{empty_blank}
+use Rattle.um_laws.proofs.FitStateLaws.{empty_fit}
+use Rattle.um_laws.proofs.ImageLaws.{newest_some, records_are, only_records}
+use Rattle.um_model.proofs.InputSpellingsLaws.{canonical_input}
+use Rattle.um_laws.proofs.MachineLaws.{one_run, run-append}
+use Rattle.um_laws.proofs.ServableLaws.{blank_servable, step_servable}
+use Rattle.um_model.proofs.StateSpellingsLaws.{canonical_state}
+use Rattle.um_laws.proofs.StoreLaws.{superblock_says, same_newest}
+use Rattle.um_laws.proofs.TotalLaws.{a_step}
+
+-- ---- one state
+
+-- an image holds one store at most
+pub one_contents : (layout : Layout) (image : Image) (c d : Contents) → contents_of layout image ≡ Some c → contents_of layout image ≡ Some d → c ≡ d
+one_contents layout image c d one two = same_Some c d (sym one ∙ two)
+
+-- An image stands for one state at most.
+pub one_state : (layout : Layout) (image : Image) (s t : State) → StandsFor layout image s → StandsFor layout image t → s ≡ t
+one_state layout image s t one two =
+    let same = one_contents layout image two.contents one.contents two.holds one.holds in
+    one_run (body_limit layout) one.contents.start s t one.contents.inputs one.run (subst (λ (c : Contents). Run (body_limit layout) c.start c.inputs t) same two.run)
+
+-- ---- one layout
+
+-- what sizes a layout may have
+abbrev Bounds : ℕ → ℕ → Type 0
+Bounds slot log = (64 ≤ slot) × ((slot ≤ 1048576) × ((512 ≤ log) × (log ≤ 1048576)))
+
+of_sizes : (slot log : ℕ) → Bounds slot log → Layout
+of_sizes slot log b =
+    record { slot_sectors = slot; log_sectors = log; slot_least = b.0; slot_most = b.1.0; log_least = b.1.1.0; log_most = b.1.1.1 }
+
+bounds_once : (slot log : ℕ) → IsProp (Bounds slot log)
+bounds_once slot log = ×_prop le_prop (×_prop le_prop (×_prop le_prop le_prop))
+
+-- layouts of the same sizes are the same
+pub same_layout : (l m : Layout) → l.slot_sectors ≡ m.slot_sectors → l.log_sectors ≡ m.log_sectors → l ≡ m
+unfolding of_sizes
+same_layout l m slot log = by m.slot_sectors m.log_sectors (bounds m) slot log
+  where
+    bounds : (l : Layout) → Bounds l.slot_sectors l.log_sectors
+    bounds l = (l.slot_least, (l.slot_most, (l.log_least, l.log_most)))
+
+    by : (s g : ℕ) (b : Bounds s g) → l.slot_sectors ≡ s → l.log_sectors ≡ g → l ≡ of_sizes s g b
+    by s g b e f = subst (λ s. (b : Bounds s g) → l ≡ of_sizes s g b) e (subst (λ g. (b : Bounds l.slot_sectors g) → l ≡ of_sizes l.slot_sectors g b) f
+        (λ b. ap (of_sizes l.slot_sectors l.log_sectors) (bounds_once l.slot_sectors l.log_sectors (bounds l) b))) b
+
+-- An image is of one layout at most.
+pub one_layout : (l m : Layout) (image : Image) → image 0 ≡ superblock l → image 0 ≡ superblock m → l ≡ m
+one_layout l m image one two =
+    let same : superblock l ≡ superblock m = sym one ∙ two in
+    let a = superblock_says l in
+    let b = superblock_says m in
+    same_layout l m (sym a.0 ∙ ap (λ (s : Sector). big_number 4 (drop 8 s)) same ∙ b.0)
+    (sym a.1 ∙ ap (λ (s : Sector). big_number 4 (drop 12 s)) same ∙ b.1)
+
+-- ---- runs
+
+-- Each list of inputs has a run from each state.
+pub runs_exist : (size : ℕ) (s : State) (inputs : List Input) → (t : State) × Run size s inputs t
+runs_exist size s [] = (s, rests)
+runs_exist size s (input ∷ inputs) =
+    let (reply, actions, t, step) = a_step size s input in
+    let (u, run) = runs_exist size t inputs in
+    (u, goes reply actions step run)
+
+-- so a state is the end of a run where no run ends elsewhere
+pub run_to : {size : ℕ} {s t : State} {inputs : List Input} → ((u : State) → Run size s inputs u → u ≡ t) → Run size s inputs t
+run_to {size} {s} {t} {inputs} only = let (u, run) = runs_exist size s inputs in subst (Run size s inputs) (only u run) run
+
+-- and no run ends elsewhere than one
+pub only_end : {size : ℕ} {s t : State} {inputs : List Input} → Run size s inputs t → (u : State) → Run size s inputs u → u ≡ t
+only_end {size} {s} {t} {inputs} run u other = one_run size s u t inputs other run
+
+-- a run and then a step
+pub run_step : {size : ℕ} {s t u : State} {inputs : List Input} {input : Input} {reply : Reply} {actions : List Action} → Run size s inputs t → Step size t input reply actions u
+    → Run size s (inputs ++ input ∷ []) u
+run_step {size} {s} {t} {u} {inputs} {input} run step = run-append size s t u inputs (input ∷ []) run (goes _ _ step rests)
+
+-- what may be held stays so along a run
+pub run_servable : (size : ℕ) (s t : State) (inputs : List Input) → Run size s inputs t → IsServable size s → IsServable size t
+run_servable size s t [] rests may = may
+run_servable size s t (input ∷ inputs) (goes {t = v} reply actions step run) may = run_servable size v t inputs run (step_servable size s input reply actions v step may)
+
+-- a store holds only what it may
+pub stands_servable : {layout : Layout} {image : Image} {s : State} → StandsFor layout image s → IsServable (body_limit layout) s
+stands_servable {layout} {s = s} one = run_servable (body_limit layout) one.contents.start s one.contents.inputs one.run one.servable
+
+-- ---- what is spelled
+
+-- what comes of both, where something does
+pub bound : {A B : Type 0} (o : Option A) (f : A → Option B) (b : B) → (o >>= f) ≡ Some b → (a : A) × (o ≡ Some a) × (f a ≡ Some b)
+bound None f b e = absurd (none-some b e)
+bound (Some a) f b e = (a, refl, e)
+
+-- a state's spelling is read as that state
+pub state_back : (s : State) → FitState s → nothing_left (state_at (state_spelling s)) ≡ Some s
+state_back s fit = ap (λ l. nothing_left (state_at l)) (sym (append-nil (state_spelling s))) ∙ ap nothing_left (canonical_state.again s [] fit)
+
+-- an input's spelling is read as that input
+pub input_back : (input : Input) → FitInput input → nothing_left (input_at (input_spelling input)) ≡ Some input
+input_back input fit = ap (λ l. nothing_left (input_at l)) (sym (append-nil (input_spelling input))) ∙ ap nothing_left (canonical_input.again input [] fit)
+
+-- and so are those of several
+pub inputs_back : (inputs : List Input) → AllByRecursion FitInput inputs → inputs_of (map input_spelling inputs) ≡ Some inputs
+inputs_back [] fit = refl
+inputs_back (input ∷ inputs) fit = λ k. input_back input fit.0 k >>= λ i. inputs_back inputs fit.1 k >>= λ is. Some (i ∷ is)
+
+-- one record more is one input more
+pub inputs_push : (records : List (List ℕ)) (inputs : List Input) (input : Input) → inputs_of records ≡ Some inputs → FitInput input
+    → inputs_of (records ++ input_spelling input ∷ []) ≡ Some (inputs ++ input ∷ [])
+inputs_push [] inputs input is fit = inputs_back (input ∷ []) (fit, tt) ∙ ap (λ l. Some (l ++ input ∷ [])) (same_Some [] inputs is)
+inputs_push (bytes ∷ records) inputs input is fit =
+    let (first, here, more) = bound (nothing_left (input_at bytes)) (λ i. inputs_of records >>= λ is. Some (i ∷ is)) inputs is in
+    let (others, there, both) = bound (inputs_of records) (λ is. Some (first ∷ is)) inputs more in
+    let rest = inputs_push records others input there fit in
+    (λ k. here k >>= λ i. rest k >>= λ is. Some (i ∷ is)) ∙ ap (λ l. Some (l ++ input ∷ [])) (same_Some (first ∷ others) inputs both)
+
+-- ---- from the sectors of a store to its state, and back
+
+abbrev pub contents : Slot → ℕ → State → List Input → Contents
+contents slot generation start inputs = record { slot = slot; generation = generation; start = start; inputs = inputs }
+
+-- A body spells the start and the records the inputs, and a run from there comes to the state.
+pub record ComesTo (size : ℕ) (body : List ℕ) (records : List (List ℕ)) (start : State) (inputs : List Input) (s : State) : Type 0 where
+  pub start_is : nothing_left (state_at body) ≡ Some start
+  pub inputs_are : inputs_of records ≡ Some inputs
+  pub servable : IsServable size start
+  pub run : Run size start inputs s
+
+module _ {layout : Layout} {image : Image} {slot : Slot} {generation : ℕ} {body : List ℕ} {records : List (List ℕ)} (store : IsStore layout image slot generation body records) where
+  -- its newest slot and its records, as functions of the image
+  pub newest_told : newest_of layout image ≡ Some (record { slot = slot; generation = generation; body = body })
+  newest_told = (newest_some layout image _).1 store.newest
+
+  pub records_told : records_of layout generation image ≡ records
+  records_told = only_records layout generation image records store.records_are
+
+  -- what a store holds
+  pub contents_are : {start : State} {inputs : List Input} → nothing_left (state_at body) ≡ Some start → inputs_of records ≡ Some inputs
+      → contents_of layout image ≡ Some (contents slot generation start inputs)
+  contents_are {start} {inputs} start_is inputs_are =
+      (λ k. newest_told k >>= λ n. nothing_left (state_at n.body) >>= λ s. inputs_of (records_of layout n.generation image) >>= λ is. Some (contents n.slot n.generation s is))
+      ∙ (λ k. start_is k >>= λ s. inputs_of (records_told k) >>= λ is. Some (contents slot generation s is))
+      ∙ (λ k. inputs_are k >>= λ is. Some (contents slot generation start is))
+
+  -- A store whose sectors come to a state is a store of it.
+  pub store_of : {start : State} {inputs : List Input} {s : State} → ComesTo (body_limit layout) body records start inputs s → IsStoreOf layout image s
+  store_of {start} {inputs} comes = record {
+    stands = record {
+      first = store.first;
+      contents = contents slot generation start inputs;
+      holds = contents_are comes.start_is comes.inputs_are;
+      servable = comes.servable;
+      run = comes.run;
+    };
+    none_later = store.none_later;
+  }
+
+-- the store of an image whose newest slot is told
+pub store_told : {layout : Layout} {image : Image} {n : Newest} → image 0 ≡ superblock layout → newest_of layout image ≡ Some n → IsFree layout (n.generation + 1) image (log_start layout (n.generation + 1))
+    → IsStore layout image n.slot n.generation n.body (records_of layout n.generation image)
+store_told {layout} {image} {n} first newest free = record { first = first; newest = (newest_some layout image n).0 newest; records_are = records_are layout n.generation image; none_later = free }
+
+-- what an image holds, told by its parts
+pub record HasContents (layout : Layout) (image : Image) (c : Contents) : Type 0 where
+  pub body : List ℕ
+  pub newest : IsNewest layout image c.slot c.generation body
+  pub start_is : nothing_left (state_at body) ≡ Some c.start
+  pub inputs_are : inputs_of (records_of layout c.generation image) ≡ Some c.inputs
+
+from_parts : (layout : Layout) (image : Image) (n : Newest) (s : State) (inputs : List Input) → newest_of layout image ≡ Some n → nothing_left (state_at n.body) ≡ Some s
+    → inputs_of (records_of layout n.generation image) ≡ Some inputs → HasContents layout image (contents n.slot n.generation s inputs)
+from_parts layout image n s inputs newest start are = record { body = n.body; newest = (newest_some layout image n).0 newest; start_is = start; inputs_are = are }
+
+pub has_contents : (layout : Layout) (image : Image) (c : Contents) → contents_of layout image ≡ Some c → HasContents layout image c
+has_contents layout image c is =
+    let (n, newest, more) = bound (newest_of layout image) _ c is in
+    let (s, start, others) = bound (nothing_left (state_at n.body)) _ c more in
+    let (inputs, are, same) = bound (inputs_of (records_of layout n.generation image)) _ c others in
+    subst (HasContents layout image) (same_Some _ c same) (from_parts layout image n s inputs newest start are)
+
+-- The sectors of a store of a state, and what they come to.
+pub record IsHeld (layout : Layout) (image : Image) (s : State) : Type 0 where
+  pub slot : Slot
+  pub generation : ℕ
+  pub body : List ℕ
+  pub records : List (List ℕ)
+  pub start : State
+  pub inputs : List Input
+  pub store : IsStore layout image slot generation body records
+  pub comes : ComesTo (body_limit layout) body records start inputs s
+  pub holds : contents_of layout image ≡ Some (contents slot generation start inputs)
+
+pub held : {layout : Layout} {image : Image} {s : State} → IsStoreOf layout image s → IsHeld layout image s
+held {layout} {image} {s} is =
+    let c = is.stands.contents in
+    let has = has_contents layout image c is.stands.holds in
+    record {
+      slot = c.slot;
+      generation = c.generation;
+      body = has.body;
+      records = records_of layout c.generation image;
+      start = c.start;
+      inputs = c.inputs;
+      store = record { first = is.stands.first; newest = has.newest; records_are = records_are layout c.generation image; none_later = is.none_later };
+      comes = record { start_is = has.start_is; inputs_are = has.inputs_are; servable = is.stands.servable; run = is.stands.run };
+      holds = is.stands.holds;
+    }
+
+-- Sectors that are known to be those of a store of a state come to it.
+pub comes_of : {layout : Layout} {image : Image} {s : State} {slot : Slot} {generation : ℕ} {body : List ℕ} {records : List (List ℕ)} → IsStoreOf layout image s
+    → IsStore layout image slot generation body records → (start : State) × (inputs : List Input) × ComesTo (body_limit layout) body records start inputs s
+comes_of {layout} {image} {s} {slot} {generation} {body} {records} is store =
+    let h = held is in
+    let same = same_newest h.store.newest store.newest in
+    let are : h.records ≡ records =
+    sym (only_records layout h.generation image h.records h.store.records_are) ∙ ap (λ (g : ℕ). records_of layout g image) same.1
+    ∙ only_records layout generation image records store.records_are in (
+      h.start,
+      h.inputs,
+      subst (λ b. ComesTo (body_limit layout) b records h.start h.inputs s) same.2
+          (subst (λ r. ComesTo (body_limit layout) h.body r h.start h.inputs s) are h.comes),
+    )
+
+-- Images with the same store are of the same state.
+pub same_store : {layout : Layout} {a b : Image} {s : State} {slot : Slot} {generation : ℕ} {body : List ℕ} {records : List (List ℕ)} → IsStoreOf layout a s
+    → IsStore layout a slot generation body records → IsStore layout b slot generation body records → IsStoreOf layout b s
+same_store is one other = let (start, inputs, comes) = comes_of is one in store_of other comes
+
+-- what has a store's newest slot and its records is that store too
+pub store_like : {layout : Layout} {a b : Image} {slot : Slot} {generation : ℕ} {body : List ℕ} {records : List (List ℕ)} → IsStore layout a slot generation body records → b 0 ≡ superblock layout
+    → newest_of layout b ≡ newest_of layout a → records_of layout generation b ≡ records_of layout generation a → IsFree layout (generation + 1) b (log_start layout (generation + 1))
+    → IsStore layout b slot generation body records
+store_like {layout} {b = b} {generation = generation} store first newest same free = record {
+  first = first;
+  newest = (newest_some layout b _).0 (newest ∙ newest_told store);
+  records_are = subst (HasRecords layout generation b) (same ∙ records_told store) (records_are layout generation b);
+  none_later = free;
+}
+
+-- ---- what a keeper makes of a store
+
+-- a record more is a step more
+pub comes_further : {size : ℕ} {body : List ℕ} {records : List (List ℕ)} {start : State} {inputs : List Input} {s t : State} {input : Input} {reply : Reply} {actions : List Action}
+    → ComesTo size body records start inputs s → FitInput input → Step size s input reply actions t → ComesTo size body (records ++ input_spelling input ∷ []) start (inputs ++ input ∷ []) t
+comes_further {records} {inputs} {input} comes fit step = record {
+  start_is = comes.start_is;
+  inputs_are = inputs_push records inputs input comes.inputs_are fit;
+  servable = comes.servable;
+  run = run_step comes.run step;
+}
+
+-- a state's own spelling comes to it without a record
+pub comes_anew : {size : ℕ} {s : State} → nothing_left (state_at (state_spelling s)) ≡ Some s → IsServable size s → ComesTo size (state_spelling s) [] s [] s
+comes_anew is may = record { start_is = is; inputs_are = refl; servable = may; run = rests }
+
+-- and so do spellings of a start and of inputs
+pub comes_spelled : {size : ℕ} {body : List ℕ} {records : List (List ℕ)} {start s : State} {inputs : List Input} → body ≡ state_spelling start → FitState start
+    → records ≡ map input_spelling inputs → AllByRecursion FitInput inputs → IsServable size start → Run size start inputs s → ComesTo size body records start inputs s
+comes_spelled {start = start} {inputs = inputs} is fit are fits may run = record {
+  start_is = ap (λ (b : List ℕ). nothing_left (state_at b)) is ∙ state_back start fit;
+  inputs_are = ap inputs_of are ∙ inputs_back inputs fits;
+  servable = may;
+  run = run;
+}
+
+-- With one record more it is a store of the state after the step.
+pub one_more : {layout : Layout} {image : Image} {slot : Slot} {generation : ℕ} {body : List ℕ} {records : List (List ℕ)} {start : State} {inputs : List Input} {s t : State} {input : Input} {reply : Reply}
+    {actions : List Action} → IsStore layout image slot generation body (records ++ input_spelling input ∷ []) → ComesTo (body_limit layout) body records start inputs s
+    → FitInput input → Step (body_limit layout) s input reply actions t → IsStoreOf layout image t
+one_more store comes fit step = store_of store (comes_further comes fit step)
+
+-- With a state's own spelling and no record it is a store of that state.
+pub anew : {layout : Layout} {image : Image} {slot : Slot} {generation : ℕ} {s : State} → IsStore layout image slot generation (state_spelling s) []
+    → nothing_left (state_at (state_spelling s)) ≡ Some s → IsServable (body_limit layout) s → IsStoreOf layout image s
+anew store is may = store_of store (comes_anew is may)
+
+-- the empty state has bytes, and any store may hold it
+pub empty_back : nothing_left (state_at (state_spelling empty_state)) ≡ Some empty_state
+empty_back = state_back empty_state empty_fit
+
+pub empty_may : (layout : Layout) → IsServable (body_limit layout) empty_state
+empty_may layout = blank_servable (body_limit layout) empty_state (omega (arith, layout.slot_least)) empty_blank
+
+-- With the empty state's spelling and no record it is a store of the empty state.
+pub empty_store : {layout : Layout} {image : Image} {slot : Slot} {generation : ℕ} → IsStore layout image slot generation (state_spelling empty_state) [] → IsStoreOf layout image empty_state
+empty_store {layout} store = anew store empty_back (empty_may layout)
+
+-- From what a keeper knows of an image without a run: no run over what it holds ends elsewhere.
+pub stands_by_ends : {layout : Layout} {image : Image} {c : Contents} {s : State} → image 0 ≡ superblock layout → contents_of layout image ≡ Some c → IsServable (body_limit layout) c.start
+    → ((t : State) → Run (body_limit layout) c.start c.inputs t → t ≡ s) → StandsFor layout image s
+stands_by_ends {c} first holds may only = record { first = first; contents = c; holds = holds; servable = may; run = run_to only }
+
+pub store_by_ends : {layout : Layout} {image : Image} {c : Contents} {s : State} → image 0 ≡ superblock layout → contents_of layout image ≡ Some c → IsServable (body_limit layout) c.start
+    → ((t : State) → Run (body_limit layout) c.start c.inputs t → t ≡ s) → IsFree layout (c.generation + 1) image (log_start layout (c.generation + 1)) → IsStoreOf layout image s
+unfolding stands_by_ends
+store_by_ends first holds may only free = record { stands = stands_by_ends first holds may only; none_later = free }
+
+-- and back: of whatever is told as its contents
+pub ends_of : {layout : Layout} {image : Image} {c : Contents} {s : State} → StandsFor layout image s → contents_of layout image ≡ Some c
+    → IsServable (body_limit layout) c.start × ((t : State) → Run (body_limit layout) c.start c.inputs t → t ≡ s)
+ends_of {layout} {image} {c} {s} one holds =
+    subst (λ (d : Contents). IsServable (body_limit layout) d.start × ((t : State) → Run (body_limit layout) d.start d.inputs t → t ≡ s))
+    (one_contents layout image one.contents c one.holds holds) (one.servable, only_end one.run)
+
+-- the same where it is known only that something is held
+held_any : (layout : Layout) (image : Image) (o : Option Contents) → contents_of layout image ≡ o → is_some o ≡ true → (c : Contents) × (contents_of layout image ≡ Some c)
+held_any layout image (Some c) is there = (c, is)
+held_any layout image None is there = absurd (false≢true there)
+
+pub stands_by_any : {layout : Layout} {image : Image} {s : State} → image 0 ≡ superblock layout → is_some (contents_of layout image) ≡ true
+    → ((c : Contents) → contents_of layout image ≡ Some c → IsServable (body_limit layout) c.start × ((t : State) → Run (body_limit layout) c.start c.inputs t → t ≡ s)) → StandsFor layout image s
+stands_by_any {layout} {image} first there each =
+    let (c, is) = held_any layout image (contents_of layout image) refl there in
+    stands_by_ends first is (each c is).0 (each c is).1

@@ -1,0 +1,53 @@
+-- What a store's reading doesn't look at doesn't count: images that agree in all else stand for the same state, or for none.
+use Rattle.std.proofs.Common.{◌≡◌, ◌↔◌, ◌∙◌, ℕ, List, Option, Some, None, refl, sym, ap}
+use Rattle.um_model.specs.Bytes.{◌>>=◌, nothing_left}
+use Rattle.um_model.specs.Disk.{Image}
+use Rattle.um_model.specs.Machine.{State}
+use Rattle.um_model.specs.StateSpellings.{state_at}
+use Rattle.um_model.specs.Stands.{Contents, inputs_of, contents_of, StandsFor}
+use Rattle.um_model.specs.Store.{Newest, newest_of, records_of, log_start}
+use Rattle.um_model.specs.Unread.{IsRead, is_first, of_slots, of_log}
+use Rattle.um_model.specs.declared.layout.Layout.{Layout}
+use Rattle.um_laws.proofs.ImageLaws.{newest_some, newest_none, records_are, only_records}
+use Rattle.um_laws.proofs.LogLaws.{unread_records}
+use Rattle.um_laws.proofs.StoreLaws.{unread_newest, unread_none}
+
+-- what the newest slot holds with these records
+abbrev held_with : Newest → List (List ℕ) → Option Contents
+held_with n records =
+    nothing_left (state_at n.body) >>= λ s. inputs_of records >>= λ inputs. Some (record { slot = n.slot; generation = n.generation; start = s; inputs = inputs })
+
+-- images with the same newest slot and the same records of its generation hold the same
+pub same_contents : (layout : Layout) (a b : Image) → newest_of layout b ≡ newest_of layout a
+    → ((n : Newest) → newest_of layout a ≡ Some n → records_of layout n.generation b ≡ records_of layout n.generation a) → contents_of layout b ≡ contents_of layout a
+same_contents layout a b newest records = ap (λ o. o >>= λ n. held_with n (records_of layout n.generation b)) newest ∙ by (newest_of layout a) refl
+  where
+    by : (o : Option Newest) → newest_of layout a ≡ o
+        → (o >>= λ n. held_with n (records_of layout n.generation b)) ≡ (o >>= λ n. held_with n (records_of layout n.generation a))
+    by None is = refl
+    by (Some n) is = ap (held_with n) (records n is)
+
+module _ (layout : Layout) (a b : Image) (same : (j : ℕ) → IsRead layout a j → b j ≡ a j) where
+  unread_slots : newest_of layout b ≡ newest_of layout a
+  unread_slots = by (newest_of layout a) refl
+    where
+      by : (o : Option Newest) → newest_of layout a ≡ o → newest_of layout b ≡ newest_of layout a
+      by None is = (newest_none layout b).1 (unread_none layout a b (λ j read. same j (of_slots read)) ((newest_none layout a).0 is)) ∙ sym is
+      by (Some n) is = (newest_some layout b n).1 (unread_newest layout a b (λ j read. same j (of_slots read)) ((newest_some layout a n).0 is)) ∙ sym is
+
+  unread_log : (n : Newest) → newest_of layout a ≡ Some n → records_of layout n.generation b ≡ records_of layout n.generation a
+  unread_log n is =
+      only_records layout n.generation b (records_of layout n.generation a)
+      (unread_records layout n.generation a b 0 (log_start layout n.generation) (records_of layout n.generation a) (λ j read. same j (of_log n is read))
+      (records_are layout n.generation a))
+
+  -- they hold the same
+  pub unread_contents : contents_of layout b ≡ contents_of layout a
+  unread_contents = same_contents layout a b unread_slots unread_log
+
+  -- Images that agree in all sectors that the reading of a store looks at stand for the same state, or for none.
+  pub unread : (s : State) → StandsFor layout a s ↔ StandsFor layout b s
+  unread s = (
+    λ one. record { first = same 0 is_first ∙ one.first; contents = one.contents; holds = unread_contents ∙ one.holds; servable = one.servable; run = one.run },
+    λ one. record { first = sym (same 0 is_first) ∙ one.first; contents = one.contents; holds = sym unread_contents ∙ one.holds; servable = one.servable; run = one.run },
+  )
