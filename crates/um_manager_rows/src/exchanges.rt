@@ -1,4 +1,5 @@
 //! A request and its reply over a connection, whose other side answers as it likes.
+use crate::asserts::{same, same_at};
 use std::process::Abort;
 use um_ctl::exchange;
 use um_stream::Fault;
@@ -17,8 +18,12 @@ fn exchanged(
 #[test]
 fn a_frame_goes_and_a_frame_comes(rt: HostRuntime) {
     let (written, reply) = exchanged(&rt, b"{}", b"\0\0\0\x03abcd");
-    assert!(rt; written.as_slice() == b"\0\0\0\x02{}".as_slice());
-    assert!(rt; reply.is_ok_and(|text| text.as_slice() == b"abc".as_slice()));
+    same(&rt, written.as_slice() == b"\0\0\0\x02{}".as_slice(), true);
+    same(
+        &rt,
+        reply.is_ok_and(|text| text.as_slice() == b"abc".as_slice()),
+        true,
+    );
 }
 
 /// What is no frame of a reply.
@@ -28,6 +33,7 @@ const CUT: &[&[u8]] = &[b"", b"\0\0\0", b"\0\0\0\x03ab", b"\x01\0\0\x01abcd"];
 fn a_reply_that_is_cut_or_too_long_is_a_fault(rt: HostRuntime) {
     for coming in CUT {
         let (_, reply) = exchanged(&rt, b"{}", coming);
-        assert!(rt; matches!(reply, Err(Fault::Read(_))), "{reply:?}");
+        let is_fault = matches!(&reply, Err(Fault::Read(_)));
+        same_at(&rt, is_fault, true, &reply);
     }
 }

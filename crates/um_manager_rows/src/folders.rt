@@ -1,4 +1,5 @@
 //! Children through runners, over a folder of files that a test has put there. No process is started.
+use crate::asserts::{same, same_at};
 use crate::orders::{next, number, told};
 use crate::places::{put, remove};
 use std::fs::{File, Files, Permissions};
@@ -24,7 +25,7 @@ fn folder(rt: &HostRuntime, name: &str) -> Result<PathBuf, Fail> {
 fn stands(rt: &(impl AllocGlobal + Files + Abort), folder: &str, name: &str, wanted: bool) {
     let path = format!(in rt.alloc(); "{folder}/{name}").expect(rt, "no memory");
     let found = fs::exists(rt, path.as_str()).expect(rt, "not looked");
-    assert_eq!(rt; found, wanted, "{name}");
+    same_at(rt, found, wanted, name);
 }
 
 /// Asserts that a file of the folder holds these bytes.
@@ -36,7 +37,7 @@ fn holds(
 ) {
     let path = format!(in rt.alloc(); "{folder}/{name}").expect(rt, "no memory");
     let bytes = fs::read(rt, path.as_str()).expect(rt, "not read");
-    assert_eq!(rt; bytes.as_slice(), wanted);
+    same(rt, bytes.as_slice(), wanted);
 }
 
 fn children<'a, R: AllocGlobal + Files + Processes + Clock + Abort>(
@@ -69,7 +70,7 @@ fn files_of_another_form_are_never_an_error(rt: HostRuntime) -> Result<(), Fail>
     children
         .signal(number(&rt, 5), Signal::Kill)
         .expect(&rt, "a failure");
-    assert_eq!(rt; children.failures(), 0);
+    same(&rt, children.failures(), 0);
     remove(&rt, place);
     Ok(())
 }
@@ -131,7 +132,7 @@ fn a_number_that_ended_is_forgotten_with_its_files(rt: HostRuntime) -> Result<()
     has_none(&rt, place, 1);
     stands(&rt, place, "2.claim", true);
     stands(&rt, place, "2.pid", true);
-    assert_eq!(rt; children.failures(), 0);
+    same(&rt, children.failures(), 0);
     remove(&rt, place);
     Ok(())
 }
@@ -161,7 +162,7 @@ fn an_end_is_found_within_a_second_whatever_the_time_of_the_folder_says(
     put(&rt, place, "1.status", b"code 3\n");
     File::open(&rt, place)?.set_modified(time)?;
     thread::sleep(&rt, Duration::from_millis(1100));
-    assert!(rt; children.has_news());
+    same(&rt, children.has_news(), true);
     told(&rt, &mut children, 1, false, Fate::Ended(End::Code(3)));
     remove(&rt, place);
     Ok(())
@@ -178,16 +179,16 @@ fn files_of_a_number_that_was_never_started_are_another_stores(
     put(&rt, place, "09.claim", b"manager\n");
     let mut children = children(&rt, place);
     let refused = children.forget_others(&[], next(&rt, 7));
-    assert_eq!(rt; refused, Err(ChildFault::Device));
-    assert!(rt; children.foreign() == Some(number(&rt, 7)));
+    same(&rt, refused, Err(ChildFault::Device));
+    same(&rt, children.foreign() == Some(number(&rt, 7)), true);
     stands(&rt, place, "7.status", true);
     let refused = children.fate(number(&rt, 1), true);
-    assert_eq!(rt; refused, Err(ChildFault::Device));
+    same(&rt, refused, Err(ChildFault::Device));
     stands(&rt, place, "1.claim", false);
     children
         .forget_others(&[], next(&rt, 8))
         .expect(&rt, "not forgotten");
-    assert!(rt; children.foreign().is_none());
+    same(&rt, children.foreign().is_none(), true);
     has_none(&rt, place, 7);
     remove(&rt, place);
     Ok(())
@@ -215,9 +216,13 @@ fn a_folder_that_others_may_write_is_refused(rt: HostRuntime) -> Result<(), Fail
     let place = place.as_str();
     fs::set_permissions(&rt, place, Permissions::from_mode(0o770))?;
     let opened = RunnerDir::open(&rt, rt.alloc(), "/nonexistent", place);
-    assert!(rt; matches!(opened, Err(OpenFault::Writable)));
+    same(&rt, matches!(opened, Err(OpenFault::Writable)), true);
     fs::set_permissions(&rt, place, Permissions::from_mode(0o755))?;
-    assert!(rt; RunnerDir::open(&rt, rt.alloc(), "/nonexistent", place).is_ok());
+    same(
+        &rt,
+        RunnerDir::open(&rt, rt.alloc(), "/nonexistent", place).is_ok(),
+        true,
+    );
     remove(&rt, place);
     Ok(())
 }

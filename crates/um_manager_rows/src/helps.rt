@@ -1,4 +1,5 @@
 //! What the help says of verbs and refusals, and text as it is shown.
+use crate::asserts::{same, same_at};
 use std::process::Abort;
 use um_ctl::{meaning_line, shown, verb_lines};
 
@@ -29,7 +30,7 @@ const VERBS: &str = "  put-file <path> < FILE
 #[test]
 fn each_verb_has_a_line_with_its_arguments(rt: HostRuntime) {
     let lines = verb_lines(rt.alloc()).expect(&rt, "no memory");
-    assert!(rt; lines.as_str() == VERBS, "{lines}");
+    same(&rt, lines.as_str(), VERBS);
 }
 
 /// How the line of each refusal begins, the first first.
@@ -63,11 +64,12 @@ fn each_refusal_has_a_sentence_and_no_other_number_has_one(rt: HostRuntime) {
     for (at, front) in REFUSALS.iter().enumerate() {
         let line = meaning_line(rt.alloc(), at as u64 + 1).expect(&rt, "no memory");
         let line = line.expect(&rt, "no sentence");
-        assert!(rt; line.starts_with(*front) && line.ends_with(".\n"), "{line}");
+        let ends = (line.starts_with(*front), line.ends_with(".\n"));
+        same_at(&rt, ends, (true, true), line.as_str());
     }
     for number in [0, 23, u64::MAX] {
         let line = meaning_line(rt.alloc(), number).expect(&rt, "no memory");
-        assert!(rt; line.is_none(), "{number}");
+        same_at(&rt, line.is_none(), true, number);
     }
 }
 
@@ -88,6 +90,6 @@ const SHOWN: &[(&str, &str)] = &[
 fn control_characters_are_shown_by_their_bytes(rt: HostRuntime) {
     for (text, wanted) in SHOWN {
         let found = shown(rt.alloc(), text).expect(&rt, "no memory");
-        assert!(rt; found.as_str() == *wanted, "{wanted}: {found}");
+        same(&rt, found.as_str(), *wanted);
     }
 }

@@ -1,4 +1,5 @@
 //! Orders of a keeper, which alone can make one.
+use crate::asserts::same_at;
 use std::process::Abort;
 use um_children::{Children, Fate};
 use um_keeper::{Handed, Keeper, Receipt, SpawnOrder, create};
@@ -18,7 +19,7 @@ pub fn next(rt: &impl Abort, n: u64) -> NextNumber {
 
 /// Asserts what is told of a number.
 pub fn told<C: Children>(rt: &impl Abort, children: &mut C, n: u64, claim: bool, wanted: Fate) {
-    assert_eq!(rt; children.fate(number(rt, n), claim), Ok(wanted), "at {n}");
+    same_at(rt, children.fate(number(rt, n), claim), Ok(wanted), n);
 }
 
 /// The keeper of a new store in memory, with room for a unit of 64 kB.

@@ -1,4 +1,5 @@
 //! Folders of tests, and what stands in them.
+use crate::asserts::same_at;
 use std::fs::{File, Files};
 use std::path::PathBuf;
 use std::process::Abort;
@@ -42,7 +43,7 @@ pub fn holds(
     wanted: Option<&str>,
 ) {
     let text = text_at(rt, folder, name);
-    assert_eq!(rt; text.as_deref(), wanted, "at {name}");
+    same_at(rt, text.as_deref(), wanted, name);
 }
 
 /// Puts a file there.

@@ -1,7 +1,8 @@
 //! Replies, and what is printed for them.
+use crate::asserts::{same, same_at};
 use serde_json::Value;
 use std::process::Abort;
-use um_ctl::told_of;
+use um_ctl::{Told, told_of};
 use um_proto::Verb;
 
 /// A verb, a reply to it, what is printed on standard output and standard error, and the exit status.
@@ -127,15 +128,22 @@ fn value(rt: &(impl AllocGlobal + Abort), text: &str) -> Value {
     Value::from_str(rt.alloc(), text).expect(rt, "no JSON")
 }
 
+/// What is told of the reply to the verb.
+fn told(rt: &(impl AllocGlobal + Abort), verb: Verb, reply: &str) -> Option<Told> {
+    told_of(rt.alloc(), verb, &value(rt, reply)).expect(rt, "no memory")
+}
+
+/// Asserts what is told.
+fn is_told(rt: &impl Abort, told: &Told, output: &str, error: &str, status: u8) {
+    let got = (told.output.as_str(), told.error.as_str(), told.status);
+    same(rt, got, (output, error, status));
+}
+
 #[test]
 fn replies_are_told(rt: HostRuntime) {
     for (verb, reply, output, error, status) in TOLD {
-        let reply = value(&rt, reply);
-        let told = told_of(rt.alloc(), *verb, &reply).expect(&rt, "no memory");
-        let told = told.expect(&rt, "no reply");
-        assert!(rt; told.output.as_str() == *output, "{output}: {told:?}");
-        assert!(rt; told.error.as_str() == *error, "{error}: {told:?}");
-        assert!(rt; told.status == *status, "{output}{error}: {told:?}");
+        let told = told(&rt, *verb, reply).expect(&rt, "no reply");
+        is_told(&rt, &told, output, error, *status);
     }
 }
 
@@ -154,7 +162,7 @@ const NONE: &[&str] = &[
 #[test]
 fn other_values_are_no_replies(rt: HostRuntime) {
     for text in NONE {
-        let told = told_of(rt.alloc(), Verb::Start, &value(&rt, text)).expect(&rt, "no memory");
-        assert!(rt; told.is_none(), "{text}: {told:?}");
+        let told = told(&rt, Verb::Start, text);
+        same_at(&rt, told.is_none(), true, (text, &told));
     }
 }

@@ -1,4 +1,5 @@
 //! Words, and the text of the request that they become.
+use crate::asserts::{same, same_at};
 use std::process::Abort;
 use um_ctl::{CtlFault, Words, prepare};
 
@@ -71,30 +72,49 @@ const REQUESTS: &[(&str, Option<&str>, &str)] = &[
     ),
 ];
 
-#[test]
-fn words_become_requests(rt: HostRuntime) {
-    for (line, mode, text) in REQUESTS {
-        let found = prepared(&rt, line, *mode, b"");
-        assert!(rt;
-            found
-                .as_ref()
-                .is_ok_and(|bytes| bytes.as_slice() == text.as_bytes()),
-            "{line}: {found:?}"
-        );
-    }
+/// Asserts that the line becomes this text of a request.
+fn becomes(
+    rt: &(impl AllocGlobal + Abort),
+    line: &str,
+    mode: Option<&str>,
+    input: &[u8],
+    text: &str,
+) {
+    let found = prepared(rt, line, mode, input);
+    let bytes = match &found {
+        Ok(bytes) => Ok(bytes.as_slice()),
+        Err(status) => Err(*status),
+    };
+    same_at(rt, bytes, Ok(text.as_bytes()), line);
+}
+
+/// Asserts that the line has no request, and this status.
+fn is_wrong(
+    rt: &(impl AllocGlobal + Abort),
+    line: &str,
+    mode: Option<&str>,
+    input: &[u8],
+    status: u8,
+) {
+    let found = prepared(rt, line, mode, input);
+    same_at(rt, found.err(), Some(status), (line, mode));
 }
 
 #[test]
+fn words_become_requests(rt: HostRuntime) {
+    for (line, mode, text) in REQUESTS {
+        becomes(&rt, line, *mode, b"", text);
+    }
+}
+
+/// A line whose text comes on the input.
+const PUT: &str = "put-file lib/a.service";
+
+#[test]
 fn the_text_of_a_file_comes_on_the_input(rt: HostRuntime) {
-    let found = prepared(&rt, "put-file lib/a.service", None, b"[Unit]\nA=\x01\n");
     let text =
         "{\"path\":\"lib/a.service\",\"text\":\"[Unit]\\nA=\\u0001\\n\",\"verb\":\"put-file\"}";
-    assert!(rt;
-        found
-            .as_ref()
-            .is_ok_and(|bytes| bytes.as_slice() == text.as_bytes()),
-        "{found:?}"
-    );
+    becomes(&rt, PUT, None, b"[Unit]\nA=\x01\n", text);
 }
 
 /// Words that are wrong, and the mode.
@@ -117,8 +137,7 @@ const WRONG: &[(&str, Option<&str>)] = &[
 #[test]
 fn wrong_words_are_wrong_before_the_text_is_read(rt: HostRuntime) {
     for (line, mode) in WRONG {
-        let found = prepared(&rt, line, *mode, b"\xff");
-        assert!(rt; matches!(found, Err(2)), "{line} {mode:?}: {found:?}");
+        is_wrong(&rt, line, *mode, b"\xff", 2);
     }
 }
 
@@ -127,22 +146,17 @@ fn bytes_of(rt: &(impl AllocGlobal + Abort), count: usize, byte: u8) -> Vec<u8> 
     vec![in rt.alloc(); byte; count].expect(rt, "no memory")
 }
 
+/// Asserts that the text is taken.
+fn is_taken(rt: &(impl AllocGlobal + Abort), text: &[u8]) {
+    same(rt, prepared(rt, PUT, None, text).is_ok(), true);
+}
+
 #[test]
 fn the_longest_text_is_taken_and_a_longer_one_refused(rt: HostRuntime) {
     let text = bytes_of(&rt, 65_536, b'x');
-    assert!(rt; prepared(&rt, "put-file lib/a.service", None, text.as_slice()).is_ok());
+    is_taken(&rt, text.as_slice());
     let longer = bytes_of(&rt, 65_537, 0xff);
-    assert!(rt;
-        matches!(
-            prepared(&rt, "put-file lib/a.service", None, longer.as_slice()),
-            Err(1)
-        )
-    );
-    assert!(rt;
-        matches!(
-            prepared(&rt, "put-file lib/a.service", None, b"a\xffb"),
-            Err(2)
-        )
-    );
-    assert!(rt; CtlFault::NoReply.status() == 5);
+    is_wrong(&rt, PUT, None, longer.as_slice(), 1);
+    is_wrong(&rt, PUT, None, b"a\xffb", 2);
+    same(&rt, CtlFault::NoReply.status() == 5, true);
 }

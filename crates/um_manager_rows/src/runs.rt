@@ -1,4 +1,5 @@
 //! Runners of real commands. A runner waits for its command, so a row waits for nothing else: no poll is needed.
+use crate::asserts::{same, same_at};
 use crate::orders::number;
 use crate::places::{folder, holds, path_of, put, remove};
 use std::fs;
@@ -37,21 +38,29 @@ fn ended(
     wanted: Option<End>,
 ) {
     let end = status_in(rt, rt.alloc(), folder, number(rt, n)).expect(rt, "not read");
-    assert_eq!(rt; end, wanted, "at {n}");
+    same_at(rt, end, wanted, n);
 }
 
 #[test]
 fn a_code_and_a_signal_are_told(rt: HostRuntime) -> Result<(), Fail> {
     let place = folder(&rt, "ends")?;
     let place = place.as_str();
-    assert!(rt; runs(&rt, place, 1, 0, &["/bin/sh", "-c", "exit 3"]));
+    same(
+        &rt,
+        runs(&rt, place, 1, 0, &["/bin/sh", "-c", "exit 3"]),
+        true,
+    );
     holds(&rt, place, "1.claim", Some("runner\n"));
     holds(&rt, place, "1.status", Some("code 3\n"));
-    assert!(rt; runs(&rt, place, 2, 0, &["/bin/sh", "-c", "kill -TERM $$"]));
+    same(
+        &rt,
+        runs(&rt, place, 2, 0, &["/bin/sh", "-c", "kill -TERM $$"]),
+        true,
+    );
     holds(&rt, place, "2.status", Some("signal 15\n"));
     ended(&rt, place, 2, Some(End::Signal(15)));
     let told = pid_in(&rt, rt.alloc(), place, number(&rt, 2)).expect(&rt, "not read");
-    assert!(rt; matches!(told, Told::Pid(_)));
+    same(&rt, matches!(told, Told::Pid(_)), true);
     holds(&rt, place, "2.pid.new", None);
     holds(&rt, place, "2.status.new", None);
     remove(&rt, place);
@@ -62,7 +71,7 @@ fn a_code_and_a_signal_are_told(rt: HostRuntime) -> Result<(), Fail> {
 fn what_cannot_be_executed_has_code_203_and_no_pid(rt: HostRuntime) -> Result<(), Fail> {
     let place = folder(&rt, "absent")?;
     let place = place.as_str();
-    assert!(rt; runs(&rt, place, 1, 0, &["/nonexistent"]));
+    same(&rt, runs(&rt, place, 1, 0, &["/nonexistent"]), true);
     holds(&rt, place, "1.status", Some("code 203\n"));
     holds(&rt, place, "1.pid", None);
     remove(&rt, place);
@@ -83,7 +92,7 @@ fn entries_are_set_over_the_environment(rt: HostRuntime) -> Result<(), Fail> {
         "-c",
         script,
     ];
-    assert!(rt; runs(&rt, place, 1, 4, &words));
+    same(&rt, runs(&rt, place, 1, 4, &words), true);
     holds(&rt, place, "1.status", Some("code 0\n"));
     remove(&rt, place);
     Ok(())
@@ -96,19 +105,23 @@ fn a_claimed_number_starts_nothing(rt: HostRuntime) -> Result<(), Fail> {
     let claiming = claim(&rt, rt.alloc(), place, number(&rt, 1), Claimant::Manager).expect(
         &rt, "no claim",
     );
-    assert_eq!(rt; claiming, Claiming::New);
-    assert!(rt; runs(&rt, place, 1, 0, &["/bin/sh", "-c", "exit 3"]));
+    same(&rt, claiming, Claiming::New);
+    same(
+        &rt,
+        runs(&rt, place, 1, 0, &["/bin/sh", "-c", "exit 3"]),
+        true,
+    );
     holds(&rt, place, "1.claim", Some("manager\n"));
     holds(&rt, place, "1.status", None);
     let again = claim(&rt, rt.alloc(), place, number(&rt, 1), Claimant::Manager).expect(
         &rt, "no claim",
     );
-    assert_eq!(rt; again, Claiming::Stands(Claimant::Manager));
+    same(&rt, again, Claiming::Stands(Claimant::Manager));
     put(&rt, place, "2.claim", b"x");
     let other = claim(&rt, rt.alloc(), place, number(&rt, 2), Claimant::Manager).expect(
         &rt, "no claim",
     );
-    assert_eq!(rt; other, Claiming::Stands(Claimant::Runner));
+    same(&rt, other, Claiming::Stands(Claimant::Runner));
     remove(&rt, place);
     Ok(())
 }
@@ -128,7 +141,7 @@ fn a_claim_that_stands_is_not_written_again(rt: HostRuntime) -> Result<(), Fail>
         let claiming = claim(&rt, rt.alloc(), place, number(&rt, 1), claimant).expect(
             &rt, "no claim",
         );
-        assert_eq!(rt; claiming, Claiming::Stands(Claimant::Runner));
+        same(&rt, claiming, Claiming::Stands(Claimant::Runner));
         holds(&rt, place, "1.claim", Some("x"));
     }
     remove(&rt, place);
@@ -141,8 +154,8 @@ fn two_runners_of_a_number_start_one_child(rt: HostRuntime) -> Result<(), Fail> 
     let place = place.as_str();
     let script = format!(in rt.alloc(); "echo ran >>{place}/ran").expect(&rt, "no memory");
     let words = ["/bin/sh", "-c", script.as_str()];
-    assert!(rt; runs(&rt, place, 1, 0, &words));
-    assert!(rt; runs(&rt, place, 1, 0, &words));
+    same(&rt, runs(&rt, place, 1, 0, &words), true);
+    same(&rt, runs(&rt, place, 1, 0, &words), true);
     holds(&rt, place, "ran", Some("ran\n"));
     remove(&rt, place);
     Ok(())
@@ -167,9 +180,9 @@ fn odd_files_are_read_safely(rt: HostRuntime) -> Result<(), Fail> {
     }
     put(&rt, place, "1.pid", b"12a");
     let told = pid_in(&rt, rt.alloc(), place, number(&rt, 1)).expect(&rt, "not read");
-    assert_eq!(rt; told, Told::NoPid);
+    same(&rt, told, Told::NoPid);
     let told = pid_in(&rt, rt.alloc(), place, number(&rt, 2)).expect(&rt, "not read");
-    assert_eq!(rt; told, Told::Nothing);
+    same(&rt, told, Told::Nothing);
     remove(&rt, place);
     Ok(())
 }
@@ -180,15 +193,8 @@ fn nothing_is_started_without_the_folder(rt: HostRuntime) -> Result<(), Fail> {
     let place = place.as_str();
     let script = format!(in rt.alloc(); "echo ran >{place}/ran").expect(&rt, "no memory");
     let gone = path_of(&rt, place, "gone");
-    assert!(rt;
-        !runs(
-            &rt,
-            gone.as_str(),
-            1,
-            0,
-            &["/bin/sh", "-c", script.as_str()]
-        )
-    );
+    let words = ["/bin/sh", "-c", script.as_str()];
+    same(&rt, runs(&rt, gone.as_str(), 1, 0, &words), false);
     holds(&rt, place, "ran", None);
     let faulty = claim(
         &rt,
@@ -197,7 +203,7 @@ fn nothing_is_started_without_the_folder(rt: HostRuntime) -> Result<(), Fail> {
         number(&rt, 1),
         Claimant::Manager,
     );
-    assert!(rt; matches!(faulty, Err(FolderFault::System(_))));
+    same(&rt, matches!(faulty, Err(FolderFault::System(_))), true);
     remove(&rt, place);
     Ok(())
 }

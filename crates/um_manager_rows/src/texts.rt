@@ -1,4 +1,5 @@
 //! The texts of the files: which are read, and as what.
+use crate::asserts::same_at;
 use std::process::Abort;
 use um_runner::{Claimant, End, read_claim, read_pid, read_status};
 
@@ -34,7 +35,7 @@ const STATUSES: &[(&[u8], Option<End>)] = &[
 #[test]
 fn a_status_is_read_in_its_one_form(rt: HostRuntime) {
     for (text, end) in STATUSES {
-        assert_eq!(rt; read_status(text), *end, "at {text:?}");
+        same_at(&rt, read_status(text), *end, text);
     }
 }
 
@@ -59,7 +60,7 @@ const PIDS: &[(&[u8], Option<u32>)] = &[
 #[test]
 fn a_pid_is_read_in_its_one_form(rt: HostRuntime) {
     for (text, pid) in PIDS {
-        assert_eq!(rt; read_pid(text), *pid, "at {text:?}");
+        same_at(&rt, read_pid(text), *pid, text);
     }
 }
 
@@ -76,6 +77,6 @@ const CLAIMS: &[(&[u8], Claimant)] = &[
 #[test]
 fn every_other_claim_is_a_runners(rt: HostRuntime) {
     for (text, claimant) in CLAIMS {
-        assert_eq!(rt; read_claim(text), *claimant, "at {text:?}");
+        same_at(&rt, read_claim(text), *claimant, text);
     }
 }

@@ -32,11 +32,11 @@ use um_wire::{Limit, Refusal};
 const RENEWAL: usize = 512;
 
 /// The text of a reply.
-fn text_of(alloc: Global, reply: &Reply) -> Result<Vec<u8>, Fault>
-    ensures text { IfOk result (λ text. text.items ≡ reply_text (reply_of reply.now)) }
+fn text_of(alloc: Global, reply: Reply) -> Result<Vec<u8>, Fault>
+    ensures text { IfOk result (λ text. text.items ≡ reply_text (reply_of reply)) }
     ensures short { IfOk result (λ text. length text.items ≤ reply_limit) }
 {
-    Ok(write_reply(alloc, reply)?.bytes)
+    Ok(write_reply(alloc, &reply)?.bytes)
 }
 
 /// The reply that tells the refusal of a step. Any other refusal ends `memory`.
@@ -136,17 +136,17 @@ impl Manager {
             Ok(Request { at, asked }) => match asked {
                 Asked::Query(query) => {
                     let reply = self.keeper.query(&query)?;
-                    text_of(alloc, &reply)
+                    text_of(alloc, reply)
                 }
                 Asked::Event(event) => {
                     self.taken = self.taken.saturating_add(1 + bytes.len() / SECTOR_BYTES);
                     let reply = self.take_event(at, event)?;
-                    text_of(alloc, &reply)
+                    text_of(alloc, reply)
                 }
                 Asked::Actions => self.tell_actions(alloc),
             },
             Err(Refusal::NoMemory) => Err(Fault::NoMemory),
-            Err(refusal) => text_of(alloc, &Reply::Refused(refusal)),
+            Err(refusal) => text_of(alloc, Reply::Refused(refusal)),
         }
     }
 }
@@ -176,11 +176,11 @@ fn answer_end<W: Write>(alloc: Global, ending: Ending, output: &mut W) -> Result
     match ending {
         Ending::Between | Ending::Inside => Ok(()),
         Ending::TooLong => {
-            let reply = Reply::Refused(Refusal::TooLarge {
+            let refusal = Refusal::TooLarge {
                 limit: Limit::Frame,
-            });
-            let text = write_reply(alloc, &reply)?;
-            put_frame(output, text.bytes.as_slice())
+            };
+            let text = text_of(alloc, Reply::Refused(refusal))?;
+            put_frame(output, text.as_slice())
         }
     }
 }
