@@ -32,7 +32,7 @@ test:
 	@tools/ctl-rows out/unproved/umd
 	@tools/serve-rows out/unproved/umd
 	@tools/mutated out/unproved/umd --part 200
-	rt ci
+	RT_JOBS=$$(tools/lanes) rt ci
 
 # the words behind 'edits' name crates, and aren't built
 ifeq ($(firstword $(MAKECMDGOALS)),edits)

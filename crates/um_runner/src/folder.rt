@@ -63,6 +63,19 @@ impl<'a, R: Files + Processes + Clock> Folder<'a, R> {
         reserve(self.rt, self.alloc, self.path, self.number, draft)
     }
 
+    /// Takes the room for the status and the pid.
+    fn take_rooms(&mut self) -> Result<(), FolderFault> {
+        self.status_room = Some(self.take_room(RunnerFile::StatusDraft)?);
+        self.pid_room = Some(self.take_room(RunnerFile::PidDraft)?);
+        Ok(())
+    }
+
+    /// The job's command as a process.
+    fn spawn(&self, job: &Job<'_>) -> Option<Child<R::Started>> {
+        let mut command = job.command(self.alloc).ok()?;
+        command.spawn(self.rt).ok()
+    }
+
     /// Gives a file of the number its text, in the room that was taken for it where there is some.
     fn put(
         &self,
@@ -113,10 +126,8 @@ impl<'a, R: Files + Processes + Clock> Host for Folder<'a, R> {
 
     /// A command that finds no memory can't be executed either, nor one for whose pid and status the disk has no room.
     fn start(&mut self, job: &Job<'_>) -> Option<u32> {
-        let mut command = job.command(self.alloc).ok()?;
-        self.status_room = Some(self.take_room(RunnerFile::StatusDraft).ok()?);
-        self.pid_room = Some(self.take_room(RunnerFile::PidDraft).ok()?);
-        let child = command.spawn(self.rt).ok()?;
+        self.take_rooms().ok()?;
+        let child = self.spawn(job)?;
         let pid = child.id();
         self.child = Some(child);
         Some(pid)
