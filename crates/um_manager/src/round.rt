@@ -1,6 +1,6 @@
 //! One turn.
 
-ghost use Rattle.std.specs.Prelude.{◌≡◌, ◌≢◌, ◌⊎◌, ◌↔◌, ◌≤◌, true, Err, IfErr, IsTrue, length, drop};
+ghost use Rattle.std.specs.Prelude.{◌≡◌, ◌≢◌, ◌⊎◌, ◌↔◌, ◌≤◌, ◌+◌, ◌*◌, [], true, Err, IfOk, IfErr, IsTrue, length, drop, vec_capacity};
 ghost use Rattle.um_children.specs.Frames.{KeepsChildren};
 ghost use Rattle.um_manager.specs.Frames.{Frame};
 ghost use Rattle.um_keeper.specs.Keepers.{disk_in, has_failed};
@@ -15,8 +15,8 @@ use crate::connection::CONNECTIONS;
 use crate::paying::pay_all;
 use crate::pieces::Piece;
 use crate::submitting::submit;
-use crate::taking::{room_all, take_all};
-use std::alloc::Global;
+use crate::taking::{Due, room_all, take_all};
+use std::alloc::{AllocError, Global};
 use um_children::Children;
 use um_fates::{Marks, hear, is_live, live_numbers, put};
 use um_keeper::Keeper;
@@ -33,6 +33,31 @@ fn tick(moment: Moment) -> Input
     ensures { input_of result ≡ tick_at moment }
 {
     Input::new(moment, Event::Happened(Happening::Tick))
+}
+
+/// What a turn fills. Room for all of it is taken before anything is heard.
+struct Room {
+    inputs: Vec<Input>,
+    replies: Vec<Reply>,
+    owed: Vec<Due>,
+    ended: Vec<ProcessNumber>,
+}
+
+impl Room {
+    /// Room for the fates of these live numbers, the tick, and a request of each connection.
+    fn of(alloc: Global, live: &[ProcessNumber]) -> Result<Room, AllocError>
+        ensures inputs { IfOk result (λ room. (room.inputs.items ≡ []) × (2 * length live.now + 65 ≤ vec_capacity room.inputs)) }
+        ensures replies { IfOk result (λ room. (room.replies.items ≡ []) × (2 * length live.now + 65 ≤ vec_capacity room.replies)) }
+        ensures owed { IfOk result (λ room. (room.owed.items ≡ []) × (64 ≤ vec_capacity room.owed)) }
+    {
+        let count = 2 * live.len() + 1 + CONNECTIONS;
+        Ok(Room {
+            inputs: Vec::with_capacity(alloc, count)?,
+            replies: Vec::with_capacity(alloc, count)?,
+            owed: Vec::with_capacity(alloc, CONNECTIONS)?,
+            ended: Vec::with_capacity(alloc, live.len())?,
+        })
+    }
 }
 
 /// The replies behind so many.
@@ -116,19 +141,15 @@ pub fn turn<D: Disk, C: Children>(
     let Ok(live) = live_numbers(keeper.state().units()) else {
         return Err(Refusal::NoMemory);
     };
-    let room = 2 * live.len() + 1 + CONNECTIONS;
-    let Ok(mut inputs) = Vec::with_capacity(alloc, room) else {
+    let Ok(room) = Room::of(alloc, live.as_slice()) else {
         return Err(Refusal::NoMemory);
     };
-    let Ok(mut replies) = Vec::with_capacity(alloc, room) else {
-        return Err(Refusal::NoMemory);
-    };
-    let Ok(mut owed) = Vec::with_capacity(alloc, CONNECTIONS) else {
-        return Err(Refusal::NoMemory);
-    };
-    let Ok(mut ended) = Vec::with_capacity(alloc, live.len()) else {
-        return Err(Refusal::NoMemory);
-    };
+    let Room {
+        mut inputs,
+        mut replies,
+        mut owed,
+        mut ended,
+    } = room;
     if room_all(sessions, pieces).is_err() {
         return Err(Refusal::NoMemory);
     }

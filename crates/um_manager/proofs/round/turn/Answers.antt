@@ -20,15 +20,15 @@ returns-clause-turns g c =
     let live = subst (λ units. AreLive units c.in-Ok.live.items) (c.units.ensures ∙ ap (λ s. s.units) c.state.ensures) c.in-Ok.ensures in
     let tick = c.put.ensures.items ∙ ap (λ i. inputs_in c.hear.new.inputs.items ++ i ∷ []) c.tick.ensures in
     let count : c.len-firsts.result ≡ length c.put.new.inputs.items = search rules in
-    let took = subst (λ l. Took c.args.moment c.room_all.new.sessions c.args.pieces.now c.take_all.new.sessions (inputs_in c.put.new.inputs.items) (inputs_in c.take_all.new.inputs.items) l c.take_all.new.owed.items) c.in-Ok-with_capacity-3.ensures.items c.take_all.ensures.took in
+    let took = subst (λ l. Took c.args.moment c.room_all.new.sessions c.args.pieces.now c.take_all.new.sessions (inputs_in c.put.new.inputs.items) (inputs_in c.take_all.new.inputs.items) l c.take_all.new.owed.items) c.in-Ok-of.ensures.owed.0 c.take_all.ensures.took in
     let D = g.D.Disk in
     let old = c.args.keeper.now in
     let new = c.submit-submitted.new.keeper in
     let here = place_in (D.honest (disk_in old)) old in
     let grown = g.C.Children.past c.submit-submitted.new.children in
     let after = g.C.Children.past c.forget_recorded.new.children in
-    let rest = ap (map reply_of) (c.behind-replies.ensures ∙ ap (drop c.len-firsts.result) c.as_slice-2.ensures.value) ∙ sym (drop-map reply_of c.len-firsts.result c.submit-submitted.new.replies.items) in
-    let pays = subst (λ l. PaysAll (state_in c.submit-submitted.new.keeper) l (map reply_of c.behind-replies.result.now) c.take_all.new.sessions c.pay_all.new.sessions) c.as_slice-3.ensures.value c.pay_all.ensures in (
+    let rest = ap (map reply_of) (c.behind-replies.ensures ∙ ap (drop c.len-firsts.result) c.as_slice-3.ensures.value) ∙ sym (drop-map reply_of c.len-firsts.result c.submit-submitted.new.replies.items) in
+    let pays = subst (λ l. PaysAll (state_in c.submit-submitted.new.keeper) l (map reply_of c.behind-replies.result.now) c.take_all.new.sessions c.pay_all.new.sessions) c.as_slice-4.ensures.value c.pay_all.ensures in (
       (λ e. absurd (c.submit-submitted.ensures.submits.0 e)),
       (λ ne.
           turned here c.submit-submitted.result c.args.moment c.args.pieces.now
@@ -40,8 +40,8 @@ returns-clause-turns g c =
           (g.C.Children.honest c.args.children.now) (g.C.Children.honest c.hear.new.children) (g.C.Children.whole c.submit-submitted.new.children) (g.C.Children.whole c.hear.new.children)
           (g.C.Children.whole c.forget_recorded.new.children)
           live (few_live (state_in new) new.holds.servable.few) c.room_all.ensures.same
-          (subst (λ xs. Heard unexecuted c.args.moment (λ n. has n c.args.marks.now) (g.C.Children.honest c.args.children.now) (g.C.Children.whole c.hear.new.children) (g.C.Children.past c.args.children.now) (g.C.Children.past c.hear.new.children) c.in-Ok.live.items xs (inputs_in c.hear.new.inputs.items)) (ap inputs_in c.in-Ok-with_capacity.ensures.items)
-          (subst (λ l. Heard unexecuted c.args.moment (λ n. has n c.args.marks.now) (g.C.Children.honest c.args.children.now) (g.C.Children.whole c.hear.new.children) (g.C.Children.past c.args.children.now) (g.C.Children.past c.hear.new.children) l (inputs_in c.in-Ok-with_capacity.inputs.items) (inputs_in c.hear.new.inputs.items)) c.as_slice.ensures.value c.hear.ensures.hears))
+          (subst (λ xs. Heard unexecuted c.args.moment (λ n. has n c.args.marks.now) (g.C.Children.honest c.args.children.now) (g.C.Children.whole c.hear.new.children) (g.C.Children.past c.args.children.now) (g.C.Children.past c.hear.new.children) c.in-Ok.live.items xs (inputs_in c.hear.new.inputs.items)) (ap inputs_in c.in-Ok-of.ensures.inputs.0)
+          (subst (λ l. Heard unexecuted c.args.moment (λ n. has n c.args.marks.now) (g.C.Children.honest c.args.children.now) (g.C.Children.whole c.hear.new.children) (g.C.Children.past c.args.children.now) (g.C.Children.past c.hear.new.children) l (inputs_in c.in-Ok-of.room.inputs.items) (inputs_in c.hear.new.inputs.items)) c.as_slice-2.ensures.value c.hear.ensures.hears))
           tick (count ∙ sym (length-map c.put.new.inputs.items input_of)) took c.submit-submitted.ensures.submits
           (λ h w. subst (λ units. LetGo units grown after) (c.units-2.ensures ∙ ap (λ s. s.units) c.state-2.ensures)
           (c.forget_recorded.ensures.let_go (subst IsTrue (sym c.submit-submitted.ensures.frame.children.honest) h) w))
