@@ -199,6 +199,36 @@ fn live_in(alloc: Global, state: &State, boot: &BootId) -> Result<Vec<ProcessNum
     }
 }
 
+/// What an opening fills. Room for all of it is taken before the boot is offered.
+struct Room {
+    sessions: Vec<Session>,
+    live: Vec<ProcessNumber>,
+    marks: Marks,
+    inputs: Vec<Input>,
+    replies: Vec<Reply>,
+}
+
+/// Room for a session a connection, and for the fates of those that are live in this boot.
+fn room_for(alloc: Global, state: &State, boot: &BootId) -> Result<Room, AllocError>
+    ensures sessions { IfOk result (λ room. length room.sessions.items ≡ 64) }
+    ensures anew { IfOk result (λ room. AllByRecursion IsNew room.sessions.items) }
+    ensures same { IfOk result (λ room. boot.now ≡ (state_of state.now).boot → AreLive (state_of state.now).units room.live.items) }
+    ensures other { IfOk result (λ room. boot.now ≢ (state_of state.now).boot → room.live.items ≡ []) }
+    ensures marked { IfOk result (λ room. (n : ℕ) → has n room.marks ≡ has n room.live.items) }
+    ensures inputs { IfOk result (λ room. (room.inputs.items ≡ []) × (2 * length room.live.items ≤ vec_capacity room.inputs)) }
+    ensures replies { IfOk result (λ room. (room.replies.items ≡ []) × (2 * length room.live.items ≤ vec_capacity room.replies)) }
+    ensures short { OnOk result (length boot.now ≤ boot_limit) }
+{
+    let live = live_in(alloc, state, boot)?;
+    Ok(Room {
+        sessions: new_sessions(alloc)?,
+        marks: Marks::of(alloc, live.as_slice())?,
+        inputs: Vec::with_capacity(alloc, 2 * live.len())?,
+        replies: Vec::with_capacity(alloc, 2 * live.len())?,
+        live,
+    })
+}
+
 /// Offers the boot, and adopts the processes that are live then. Want of memory comes before the boot is offered, or is the boot's own; E20 is the
 /// boot's alone.
 pub fn begin<D: Disk, C: Children>(
@@ -227,11 +257,14 @@ pub fn begin<D: Disk, C: Children>(
     ensures frame { Frame D.Disk C.Children result keeper.old keeper.new children.old children.new }
 {
     keeper.is_stored();
-    let sessions = new_sessions(alloc)?;
-    let live = live_in(alloc, keeper.state(), &boot)?;
-    let mut marks = Marks::of(alloc, live.as_slice())?;
-    let inputs = Vec::with_capacity(alloc, 2 * live.len())?;
-    let mut replies = Vec::with_capacity(alloc, 2 * live.len())?;
+    let room = room_for(alloc, keeper.state(), &boot)?;
+    let Room {
+        sessions,
+        live,
+        mut marks,
+        inputs,
+        mut replies,
+    } = room;
     offer_boot(keeper, boot, moment)?;
     let live = live.as_slice();
     adopt(

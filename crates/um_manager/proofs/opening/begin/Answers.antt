@@ -14,23 +14,23 @@ use Rattle.um_manager.proofs.opening.begin.Goals as goal
 pub adopt-requires-clause-live : goal.adopt-requires-clause-live
 adopt-requires-clause-live g c =
     let booted = c.in_ok-offer_boot.ensures.booted in
-    let same = subst (λ s. c.args.boot ≡ s.boot → AreLive s.units c.in_ok-live.live.items) c.state.ensures c.in_ok-live.ensures.same in
-    let other = subst (λ s. c.args.boot ≢ s.boot → c.in_ok-live.live.items ≡ []) c.state.ensures c.in_ok-live.ensures.other in
+    let same = subst (λ s. c.args.boot ≡ s.boot → AreLive s.units c.in_ok-room.room.live.items) c.state.ensures c.in_ok-room.ensures.same in
+    let other = subst (λ s. c.args.boot ≢ s.boot → c.in_ok-room.room.live.items ≡ []) c.state.ensures c.in_ok-room.ensures.other in
     subst (λ l. AreLive (state_in c.offer_boot.new.keeper).units l) (sym c.as_slice-live.ensures.value)
-    (live_after (size_in c.args.keeper.now) c.args.moment c.args.boot (state_in c.args.keeper.now) (state_in c.offer_boot.new.keeper) booted.0 [] c.in_ok-live.live.items booted.1 same other)
+    (live_after (size_in c.args.keeper.now) c.args.moment c.args.boot (state_in c.args.keeper.now) (state_in c.offer_boot.new.keeper) booted.0 [] c.in_ok-room.room.live.items booted.1 same other)
 
 pub returns-clause-began : goal.returns-clause-began
 returns-clause-began g c =
     let booted = c.in_ok-offer_boot.ensures.booted in
     let live = subst (λ l. AreLive (state_in c.offer_boot.new.keeper).units l) (sym c.as_slice-live.ensures.value)
-    (live_after (size_in c.args.keeper.now) c.args.moment c.args.boot (state_in c.args.keeper.now) (state_in c.offer_boot.new.keeper) booted.0 [] c.in_ok-live.live.items booted.1
-    (subst (λ s. c.args.boot ≡ s.boot → AreLive s.units c.in_ok-live.live.items) c.state.ensures c.in_ok-live.ensures.same)
-    (subst (λ s. c.args.boot ≢ s.boot → c.in_ok-live.live.items ≡ []) c.state.ensures c.in_ok-live.ensures.other)) in
+    (live_after (size_in c.args.keeper.now) c.args.moment c.args.boot (state_in c.args.keeper.now) (state_in c.offer_boot.new.keeper) booted.0 [] c.in_ok-room.room.live.items booted.1
+    (subst (λ s. c.args.boot ≡ s.boot → AreLive s.units c.in_ok-room.room.live.items) c.state.ensures c.in_ok-room.ensures.same)
+    (subst (λ s. c.args.boot ≢ s.boot → c.in_ok-room.room.live.items ≡ []) c.state.ensures c.in_ok-room.ensures.other)) in
     let D = g.D.Disk in
     let old = c.args.keeper.now in
     let mid = c.offer_boot.new.keeper in
     let new = c.adopt.new.keeper in
-    let before = now_in mid (g.C.Children.past c.args.children.now) c.in_ok-marks.marks [] (D.past (disk_in mid)) in
+    let before = now_in mid (g.C.Children.past c.args.children.now) c.in_ok-room.room.marks [] (D.past (disk_in mid)) in
     let after = now_in new (g.C.Children.past c.adopt.new.children) c.adopt.new.marks [] (D.past (disk_in new)) in
     let there = place_in (D.honest (disk_in mid)) mid in
     let here = place_in (D.honest (disk_in old)) old in
@@ -49,36 +49,8 @@ returns-clause-began g c =
       count_is = refl;
     }
 
-pub returns-in_err-sessions-clause-refuses : goal.returns-in_err-sessions-clause-refuses
-returns-in_err-sessions-clause-refuses g c =
-    let D = g.D.Disk in
-    let old = c.args.keeper.now in
-    refuses_boot _ _ _ (place_in (D.honest (disk_in old)) old) c.args.moment c.args.boot (state_in old) (state_in old) (g.C.Children.past c.args.children.now) (D.past (disk_in old)) (D.past (disk_in old)) (log_in old) (log_in old) refl
-    (λ t. let (h, f) = trusts (D.honest (disk_in old)) (has_failed old) t in not_begun (boot_at c.args.moment c.args.boot ∷ []) (c.is_stored.ensures.stored f h))
-
-pub returns-in_err-live-clause-refuses : goal.returns-in_err-live-clause-refuses
-returns-in_err-live-clause-refuses g c =
-    let D = g.D.Disk in
-    let old = c.args.keeper.now in
-    refuses_boot _ _ _ (place_in (D.honest (disk_in old)) old) c.args.moment c.args.boot (state_in old) (state_in old) (g.C.Children.past c.args.children.now) (D.past (disk_in old)) (D.past (disk_in old)) (log_in old) (log_in old) refl
-    (λ t. let (h, f) = trusts (D.honest (disk_in old)) (has_failed old) t in not_begun (boot_at c.args.moment c.args.boot ∷ []) (c.is_stored.ensures.stored f h))
-
-pub returns-in_err-marks-clause-refuses : goal.returns-in_err-marks-clause-refuses
-returns-in_err-marks-clause-refuses g c =
-    let D = g.D.Disk in
-    let old = c.args.keeper.now in
-    refuses_boot _ _ _ (place_in (D.honest (disk_in old)) old) c.args.moment c.args.boot (state_in old) (state_in old) (g.C.Children.past c.args.children.now) (D.past (disk_in old)) (D.past (disk_in old)) (log_in old) (log_in old) refl
-    (λ t. let (h, f) = trusts (D.honest (disk_in old)) (has_failed old) t in not_begun (boot_at c.args.moment c.args.boot ∷ []) (c.is_stored.ensures.stored f h))
-
-pub returns-in_err-inputs-clause-refuses : goal.returns-in_err-inputs-clause-refuses
-returns-in_err-inputs-clause-refuses g c =
-    let D = g.D.Disk in
-    let old = c.args.keeper.now in
-    refuses_boot _ _ _ (place_in (D.honest (disk_in old)) old) c.args.moment c.args.boot (state_in old) (state_in old) (g.C.Children.past c.args.children.now) (D.past (disk_in old)) (D.past (disk_in old)) (log_in old) (log_in old) refl
-    (λ t. let (h, f) = trusts (D.honest (disk_in old)) (has_failed old) t in not_begun (boot_at c.args.moment c.args.boot ∷ []) (c.is_stored.ensures.stored f h))
-
-pub returns-in_err-replies-clause-refuses : goal.returns-in_err-replies-clause-refuses
-returns-in_err-replies-clause-refuses g c =
+pub returns-in_err-room-clause-refuses : goal.returns-in_err-room-clause-refuses
+returns-in_err-room-clause-refuses g c =
     let D = g.D.Disk in
     let old = c.args.keeper.now in
     refuses_boot _ _ _ (place_in (D.honest (disk_in old)) old) c.args.moment c.args.boot (state_in old) (state_in old) (g.C.Children.past c.args.children.now) (D.past (disk_in old)) (D.past (disk_in old)) (log_in old) (log_in old) refl
@@ -96,15 +68,15 @@ pub returns-in_err-adopt-clause-refuses : goal.returns-in_err-adopt-clause-refus
 returns-in_err-adopt-clause-refuses g c =
     let booted = c.in_ok-offer_boot.ensures.booted in
     let live = subst (λ l. AreLive (state_in c.offer_boot.new.keeper).units l) (sym c.as_slice-live.ensures.value)
-    (live_after (size_in c.args.keeper.now) c.args.moment c.args.boot (state_in c.args.keeper.now) (state_in c.offer_boot.new.keeper) booted.0 [] c.in_ok-live.live.items booted.1
-    (subst (λ s. c.args.boot ≡ s.boot → AreLive s.units c.in_ok-live.live.items) c.state.ensures c.in_ok-live.ensures.same)
-    (subst (λ s. c.args.boot ≢ s.boot → c.in_ok-live.live.items ≡ []) c.state.ensures c.in_ok-live.ensures.other)) in
+    (live_after (size_in c.args.keeper.now) c.args.moment c.args.boot (state_in c.args.keeper.now) (state_in c.offer_boot.new.keeper) booted.0 [] c.in_ok-room.room.live.items booted.1
+    (subst (λ s. c.args.boot ≡ s.boot → AreLive s.units c.in_ok-room.room.live.items) c.state.ensures c.in_ok-room.ensures.same)
+    (subst (λ s. c.args.boot ≢ s.boot → c.in_ok-room.room.live.items ≡ []) c.state.ensures c.in_ok-room.ensures.other)) in
     let D = g.D.Disk in
     let old = c.args.keeper.now in
     let mid = c.offer_boot.new.keeper in
     let new = c.adopt.new.keeper in
     let start = now_in old (g.C.Children.past c.args.children.now) [] [] (D.past (disk_in old)) in
-    let before = now_in mid (g.C.Children.past c.args.children.now) c.in_ok-marks.marks [] (D.past (disk_in mid)) in
+    let before = now_in mid (g.C.Children.past c.args.children.now) c.in_ok-room.room.marks [] (D.past (disk_in mid)) in
     let after = now_in new (g.C.Children.past c.adopt.new.children) c.adopt.new.marks [] (D.past (disk_in new)) in
     let there = place_in (D.honest (disk_in mid)) mid in
     let here = place_in (D.honest (disk_in old)) old in
