@@ -2,8 +2,10 @@ use Rattle.std.proofs.Common.{◌++◌, ◌∷◌, [], ◌∙◌, ap, append_ass
 use Rattle.std.specs.Map.{keys_of}
 use Rattle.um_graph.proofs.count.names_of.Goals as goal
 
-pub loop-name-preserved : goal.loop-name-preserved
-loop-name-preserved c =
-    ap (λ ns. ns ++ keys_of c.next.new.self) c.in_ok-push.ensures.items
-    ∙ (append_assoc c.loop-name.names.items (c.in-Some.name ∷ []) (keys_of c.next.new.self)
-    ∙ (ap (λ es. c.loop-name.names.items ++ keys_of es) (sym c.in-Some.ensures.steps) ∙ c.loop-name.invariant))
+pub loop-entry-preserved : goal.loop-entry-preserved
+loop-entry-preserved c =
+    let names = c.loop-entry.names.items in
+    let left = c.next.new.self in
+    ap (λ ns. ns ++ keys_of left) (c.in_ok-push.ensures.items ∙ ap (λ name. names ++ name ∷ []) c.name_of.ensures)
+    ∙ (append_assoc names (c.in-Some.entry.0 ∷ []) (keys_of left)
+    ∙ (ap (λ es. names ++ keys_of es) (sym c.in-Some.ensures.steps) ∙ c.loop-entry.invariant))
