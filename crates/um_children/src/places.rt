@@ -1,13 +1,15 @@
 //! The folder of the runners' files: whose it is, and which files stand in it.
 
+use crate::standing::Standing;
+use crate::trouble::Trouble;
 use std::alloc::Global;
 use std::fs::{DirBuilder, Files, Metadata, Permissions};
 use std::io::ErrorKind;
 use std::os::unix::fs::{DirBuilderExt, MetadataExt, PermissionsExt};
 use std::{fmt, fs, io};
 use thiserror::Error;
-use um_model::ProcessNumber;
-use um_runner::{FolderFault, RunnerFile, Told, number_in, pid_in, status_in};
+use um_model::{NextNumber, ProcessNumber};
+use um_runner::{Claimant, FolderFault, RunnerFile, Told, claim, number_in, pid_in, status_in};
 
 /// The folder is the manager's own.
 const MODE: u32 = 0o700;
@@ -86,13 +88,28 @@ fn number_before(name: &str, file: RunnerFile) -> Option<ProcessNumber> {
 }
 
 /// The process and the file of this name; None for other names.
-pub fn file_named(name: &str) -> Option<(ProcessNumber, RunnerFile)> {
+fn file_named(name: &str) -> Option<(ProcessNumber, RunnerFile)> {
     for file in FILES {
         if let Some(number) = number_before(name, file) {
             return Some((number, file));
         }
     }
     None
+}
+
+/// The files of processes that stand in the folder.
+pub(crate) fn files_in<R: Files>(
+    rt: &R,
+    alloc: Global,
+    folder: &str,
+) -> Result<Vec<(ProcessNumber, RunnerFile)>, Trouble> {
+    let mut files = Vec::new(alloc);
+    for entry in fs::read_dir(&(rt, alloc), folder)? {
+        if let Some(file) = file_named(entry?.file_name()) {
+            files.push(file)?;
+        }
+    }
+    Ok(files)
 }
 
 /// Whether the system has a process of this pid.
@@ -104,7 +121,7 @@ fn is_running<R: Files>(rt: &R, alloc: Global, pid: u32) -> bool {
 }
 
 /// Whether the process that a pid file tells runs, and has no status.
-pub fn runs<R: Files>(
+fn runs<R: Files>(
     rt: &R,
     alloc: Global,
     folder: &str,
@@ -117,4 +134,67 @@ pub fn runs<R: Files>(
         Told::Pid(pid) => Ok(is_running(rt, alloc, pid)),
         Told::Nothing | Told::NoPid => Ok(false),
     }
+}
+
+/// How the number stands by its files, where a runner may have claimed it before. The manager's own pid is none.
+pub(crate) fn standing_in<R: Files>(
+    rt: &R,
+    alloc: Global,
+    folder: &str,
+    number: ProcessNumber,
+    before: Standing,
+) -> Result<Standing, Trouble> {
+    if let Some(end) = status_in(rt, alloc, folder, number)? {
+        return Ok(Standing::Ended(end));
+    }
+    let told = match pid_in(rt, alloc, folder, number)? {
+        Told::Pid(pid) if pid == libc::getpid().unsigned_abs() => Told::NoPid,
+        told => told,
+    };
+    Ok(before.by_pid(told))
+}
+
+/// Claims the number for the manager.
+pub(crate) fn bar<R: Files>(
+    rt: &R,
+    alloc: Global,
+    folder: &str,
+    number: ProcessNumber,
+) -> Result<Standing, Trouble> {
+    let claiming = claim(rt, alloc, folder, number, Claimant::Manager)?;
+    Ok(Standing::claimed(claiming))
+}
+
+/// The greatest number of these files from the next one of the store on.
+pub(crate) fn greatest_from(
+    files: &[(ProcessNumber, RunnerFile)],
+    next: NextNumber,
+) -> Option<ProcessNumber> {
+    let mut greatest: u64 = 0;
+    for (number, _) in files {
+        if number.get() >= next.get() && number.get() > greatest {
+            greatest = number.get();
+        }
+    }
+    // no process has the number 0
+    ProcessNumber::new(greatest)
+}
+
+/// How many processes these files tell of that run and aren't live. What can't be read counts as none.
+pub(crate) fn count_unmanaged<R: Files>(
+    rt: &R,
+    alloc: Global,
+    folder: &str,
+    files: &[(ProcessNumber, RunnerFile)],
+    live: &[ProcessNumber],
+) -> u64 {
+    let mut count: u64 = 0;
+    for (number, file) in files {
+        if *file == RunnerFile::Pid && !live.contains(number) {
+            if let Ok(true) = runs(rt, alloc, folder, *number) {
+                count = count.saturating_add(1);
+            }
+        }
+    }
+    count
 }

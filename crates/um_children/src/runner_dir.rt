@@ -1,26 +1,29 @@
-ghost use Rattle.std.specs.Prelude.{◌≡◌, ◌⊎◌, [], true, false, None, Ok, IfOk};
+ghost use Rattle.std.specs.Prelude.{◌≡◌, [], true, false, Ok, IfOk};
 ghost use Rattle.std.proofs.lemmas.Bool.{false≢true};
 ghost use Rattle.um_children.specs.History.{is_absent};
 ghost use Rattle.um_children.specs.Faults.{CountsFault};
 
 use crate::children::Children;
-use crate::commands::{finding_command, signal_command, start_command};
+use crate::commands::finding_command;
 use crate::fault::ChildFault;
-use crate::places::{OpenFault, file_named, runs, take_folder};
+use crate::places::{
+    OpenFault, bar, count_unmanaged, files_in, greatest_from, standing_in, take_folder,
+};
+use crate::removal::remove_files;
+use crate::shells::{has_run, send, send_kept, start};
 use crate::silence::Silence;
 use crate::standing::{Known, Standing, stronger};
 use crate::trouble::{Cause, Trouble};
 use crate::watch::Watch;
 use std::alloc::Global;
 use std::collections::BTreeMap;
-use std::fs::{File, Files};
-use std::io::{ErrorKind, Read};
-use std::process::{Command, Processes, Stdio};
+use std::fs::Files;
+use std::mem;
+use std::process::Processes;
 use std::time::{Clock, Instant};
-use std::{fs, io, mem};
 use um_keeper::SpawnOrder;
 use um_model::{Fate, NextNumber, ProcessNumber, Signal};
-use um_runner::{Claimant, RunnerFile, Told, claim, file_path, pid_in, read_claim, status_in};
+use um_runner::RunnerFile;
 
 /// Processes through runners: each is started by a runner of its own, which outlives the manager and tells of it by files in a folder.
 ///
@@ -55,48 +58,12 @@ pub struct RunnerDir<'a, R: Files + Processes + Clock> {
     unmanaged: u64,
 }
 
-/// What is left of a number beside its claim, the status last.
-const LEFT: [RunnerFile; 6] = [
-    RunnerFile::ManagerDraft,
-    RunnerFile::RunnerDraft,
-    RunnerFile::PidDraft,
-    RunnerFile::StatusDraft,
-    RunnerFile::Pid,
-    RunnerFile::Status,
-];
-
-/// Runs a shell and waits for it. False where it says that it failed.
-fn has_run<R: Processes>(rt: &R, mut shell: Command) -> io::Result<bool> {
-    shell
-        .stdin(Stdio::null())
-        .stdout(Stdio::null())
-        .stderr(Stdio::null());
-    Ok(shell.status(rt)?.success())
-}
-
-fn by_shell(error: io::Error) -> Trouble {
-    Trouble::Failed(Cause::Shell(error))
-}
-
-/// Removes the file at the path, where one is there.
-fn remove<R: Files>(rt: &R, path: &str) -> io::Result<()> {
-    match fs::remove_file(rt, path) {
-        Err(error) if error.kind() != ErrorKind::NotFound => Err(error),
-        Ok(()) | Err(_) => Ok(()),
+/// Nothing is done in a folder of another store, whose greatest number this is.
+fn admit(foreign: Option<ProcessNumber>) -> Result<(), Trouble> {
+    match foreign {
+        Some(_) => Err(Trouble::Failed(Cause::Foreign)),
+        None => Ok(()),
     }
-}
-
-/// Whether the claim at the path is the manager's.
-fn is_barred<R: Files>(rt: &R, path: &str) -> io::Result<bool> {
-    match fs::symlink_metadata(rt, path) {
-        Ok(about) if about.is_file() => {}
-        Ok(_) => return Ok(false),
-        Err(error) if error.kind() == ErrorKind::NotFound => return Ok(false),
-        Err(error) => return Err(error),
-    }
-    let mut bytes = [0; 16];
-    let size = File::open(rt, path)?.read(&mut bytes)?;
-    Ok(read_claim(&bytes[..size]) == Claimant::Manager)
 }
 
 impl<'a, R: Files + Processes + Clock> RunnerDir<'a, R> {
@@ -229,48 +196,10 @@ impl<'a, R: Files + Processes + Clock> RunnerDir<'a, R> {
         }
     }
 
-    /// Nothing is done in a folder of another store.
-    fn admit(&self) -> Result<(), Trouble> {
-        match self.foreign {
-            Some(_) => Err(Trouble::Failed(Cause::Foreign)),
-            None => Ok(()),
-        }
-    }
-
     fn start(&self, order: &SpawnOrder) -> Result<(), Trouble> {
-        self.admit()?;
+        admit(self.foreign)?;
         let (program, folder) = (self.program.as_str(), self.folder.as_str());
-        // a runner tells nobody that it found no folder
-        if !fs::symlink_metadata(self.rt, folder)?.is_dir() {
-            return Err(Trouble::from(io::Error::from(ErrorKind::NotADirectory)));
-        }
-        let command = start_command(self.alloc, program, folder, order)?;
-        match has_run(self.rt, command) {
-            Ok(true) => Ok(()),
-            Ok(false) => Err(Trouble::Failed(Cause::Runner)),
-            Err(error) => Err(by_shell(error)),
-        }
-    }
-
-    /// Signals the pid. That no process has it is no failure.
-    fn send(&self, pid: u32, signal: Signal) -> Result<(), Trouble> {
-        match has_run(self.rt, signal_command(self.alloc, signal, pid)?) {
-            Ok(_) => Ok(()),
-            Err(error) => Err(by_shell(error)),
-        }
-    }
-
-    /// How the number stands by its files, where a runner may have claimed it before. The manager's own pid is none.
-    fn read(&self, number: ProcessNumber, before: Standing) -> Result<Standing, Trouble> {
-        let folder = self.folder.as_str();
-        if let Some(end) = status_in(self.rt, self.alloc, folder, number)? {
-            return Ok(Standing::Ended(end));
-        }
-        let told = match pid_in(self.rt, self.alloc, folder, number)? {
-            Told::Pid(pid) if pid == libc::getpid().unsigned_abs() => Told::NoPid,
-            told => told,
-        };
-        Ok(before.by_pid(told))
+        start(self.rt, self.alloc, program, folder, order)
     }
 
     /// What is known of the number.
@@ -288,36 +217,16 @@ impl<'a, R: Files + Processes + Clock> RunnerDir<'a, R> {
             return Ok(known);
         }
         Ok(Known {
-            standing: self.read(number, known.standing)?,
+            standing: standing_in(
+                self.rt,
+                self.alloc,
+                self.folder.as_str(),
+                number,
+                known.standing,
+            )?,
             kept: known.kept,
             changes,
         })
-    }
-
-    /// Claims the number for the manager.
-    fn bar(&self, number: ProcessNumber) -> Result<Standing, Trouble> {
-        let folder = self.folder.as_str();
-        let claiming = claim(self.rt, self.alloc, folder, number, Claimant::Manager)?;
-        Ok(Standing::claimed(claiming))
-    }
-
-    /// Sends a kept signal once the pid is there; where no shell can be started it is kept on.
-    fn send_kept(&self, known: Known) -> Known
-        ensures standing { result.standing ≡ known.standing }
-        ensures changes { result.changes ≡ known.changes }
-        ensures kept { (result.kept ≡ known.kept) ⊎ (result.kept ≡ None) }
-    {
-        match (known.standing, known.kept) {
-            (Standing::Running(Some(pid)), Some(signal)) => Known {
-                kept: if self.send(pid, signal).is_ok() {
-                    None
-                } else {
-                    known.kept
-                },
-                ..known
-            },
-            _ => known,
-        }
     }
 
     /// Looks at the folder where the number begins a round.
@@ -333,12 +242,12 @@ impl<'a, R: Files + Processes + Clock> RunnerDir<'a, R> {
 
     /// What is known of the number, once it was claimed where it has to be, and a kept signal was sent where it can be.
     fn learn(&self, number: ProcessNumber, before: Known, claim: bool) -> Result<Known, Trouble> {
-        self.admit()?;
+        admit(self.foreign)?;
         let mut known = self.look(number, before)?;
         if claim && known.standing == Standing::Silent {
-            known.standing = self.bar(number)?;
+            known.standing = bar(self.rt, self.alloc, self.folder.as_str(), number)?;
         }
-        Ok(self.send_kept(known))
+        Ok(send_kept(self.rt, self.alloc, known))
     }
 
     /// Notes whether nobody has claimed the number, and since when.
@@ -394,14 +303,15 @@ impl<'a, R: Files + Processes + Clock> RunnerDir<'a, R> {
     fn deliver(&mut self, number: ProcessNumber, signal: Signal) -> Result<(), Trouble>
         ensures failures { self.new.failures ≡ self.old.failures }
     {
-        self.admit()?;
+        admit(self.foreign)?;
         let known = self.known(number);
         if known.standing.is_final() {
             return Ok(());
         }
         // the files are read in any case: after a status the pid may be another's
-        match self.read(number, known.standing)? {
-            Standing::Running(Some(pid)) => self.send(pid, signal),
+        let folder = self.folder.as_str();
+        match standing_in(self.rt, self.alloc, folder, number, known.standing)? {
+            Standing::Running(Some(pid)) => send(self.rt, self.alloc, pid, signal),
             Standing::Silent | Standing::Taken => {
                 let kept = Some(stronger(known.kept, signal));
                 self.known.insert(number.get(), Known { kept, ..known })?;
@@ -411,77 +321,22 @@ impl<'a, R: Files + Processes + Clock> RunnerDir<'a, R> {
         }
     }
 
-    /// Removes the files of a number whose status stands there; of another one none. The status goes last, so that it is found again
-    /// where this fails. A claim of the manager stays.
     fn remove_files(&self, number: ProcessNumber) -> Result<(), Trouble> {
-        self.admit()?;
-        let folder = self.folder.as_str();
-        if status_in(self.rt, self.alloc, folder, number)?.is_none() {
-            return Ok(());
-        }
-        let path = file_path(self.alloc, folder, number, RunnerFile::Claim)?;
-        if !is_barred(self.rt, path.as_str())? {
-            remove(self.rt, path.as_str())?;
-        }
-        for file in LEFT {
-            let path = file_path(self.alloc, folder, number, file)?;
-            remove(self.rt, path.as_str())?;
-        }
-        Ok(())
-    }
-
-    /// The files of processes that stand in the folder.
-    fn files(&self) -> Result<Vec<(ProcessNumber, RunnerFile)>, Trouble> {
-        let mut files = Vec::new(self.alloc);
-        for entry in fs::read_dir(&(self.rt, self.alloc), self.folder.as_str())? {
-            if let Some(file) = file_named(entry?.file_name()) {
-                files.push(file)?;
-            }
-        }
-        Ok(files)
-    }
-
-    /// Notes the greatest number of these files from the next one of the store on.
-    fn note_foreign(&mut self, files: &[(ProcessNumber, RunnerFile)], next: NextNumber)
-        ensures failures { self.new.failures ≡ self.old.failures }
-    {
-        let mut greatest: u64 = 0;
-        for (number, _) in files {
-            if number.get() >= next.get() && number.get() > greatest {
-                greatest = number.get();
-            }
-        }
-        // no process has the number 0
-        self.foreign = ProcessNumber::new(greatest);
-    }
-
-    /// How many processes these files tell of that run and aren't live. What can't be read counts as none.
-    fn count_unmanaged(
-        &self,
-        files: &[(ProcessNumber, RunnerFile)],
-        live: &[ProcessNumber],
-    ) -> u64 {
-        let mut count: u64 = 0;
-        for (number, file) in files {
-            if *file == RunnerFile::Pid && !live.contains(number) {
-                if let Ok(true) = runs(self.rt, self.alloc, self.folder.as_str(), *number) {
-                    count = count.saturating_add(1);
-                }
-            }
-        }
-        count
+        admit(self.foreign)?;
+        remove_files(self.rt, self.alloc, self.folder.as_str(), number)
     }
 
     /// Forgets each number whose status stands in the folder, but these. Nothing goes where the folder is another store's.
     fn forget_but(&mut self, live: &[ProcessNumber], next: NextNumber) -> Result<(), ChildFault>
         ensures failures { CountsFault result self.old.failures self.new.failures }
     {
-        let files = self.files();
+        let files = files_in(self.rt, self.alloc, self.folder.as_str());
         let files = self.count(files)?;
-        self.note_foreign(files.as_slice(), next);
-        let admitted = self.admit();
+        self.foreign = greatest_from(files.as_slice(), next);
+        let admitted = admit(self.foreign);
         self.count(admitted)?;
-        self.unmanaged = self.count_unmanaged(files.as_slice(), live);
+        let folder = self.folder.as_str();
+        self.unmanaged = count_unmanaged(self.rt, self.alloc, folder, files.as_slice(), live);
         for (number, file) in &files {
             if *file == RunnerFile::Status && !live.contains(number) {
                 self.forget(*number)?;

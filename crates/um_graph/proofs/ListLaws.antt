@@ -1,5 +1,7 @@
 -- What is in lists that are made by lists, one behind another.
-use Rattle.std.proofs.Common.{◌≡◌, ◌⊎◌, zero, suc, List, [], ◌∷◌, ◌++◌, Contains, map, refl, sym, ap, subst, inl, inr, arith}
+use Rattle.std.proofs.Common.{◌≡◌, ◌⊎◌, ◌<◌, ◌+◌, ◌∙◌, ℕ, zero, suc, length, take, get_or, append-nil, List, [], ◌∷◌, ◌++◌, Contains, map, refl, sym, ap, subst, inl, inr, arith}
+use Rattle.std.proofs.lemmas.List.{take_more}
+use Rattle.std.proofs.lemmas.List.Concat.{flat_map-append}
 use Rattle.std.specs.List.{flat_map}
 use Rattle.std.proofs.lemmas.List.Elements.{Contains-append_left, Contains-append_right, Contains-append_cases}
 
@@ -56,3 +58,21 @@ pub map_contains : {A B : Type 0} (f : A → B) (xs : List A) (y : B) → Contai
 map_contains f [] y (k, h, e) = absurd (omega arith)
 map_contains f (z ∷ xs) y (zero, h, e) = (z, (0, omega arith, refl), e)
 map_contains f (z ∷ xs) y (suc k, h, e) = let r = map_contains f xs y (k, omega arith, e) in (r.0, cons_in z xs r.0 r.1, r.2)
+
+-- one thing more
+more_made : {A B : Type 0} (f : A → List B) (xs : List A) (i : ℕ) (x : A) → i < length xs → flat_map f (take i xs) ++ f (get_or xs i x) ≡ flat_map f (take (i + 1) xs)
+more_made f xs i x within =
+    ap (λ ys. flat_map f (take i xs) ++ ys) (sym (append-nil (f (get_or xs i x))))
+    ∙ (sym (flat_map-append f (take i xs) (get_or xs i x ∷ [])) ∙ ap (flat_map f) (sym (take_more xs i x within)))
+
+-- one thing more that gives one element
+pub one_made : {A B : Type 0} (f : A → List B) (xs : List A) (i : ℕ) (x : A) (old new : List B) (b : B) → i < length xs → old ≡ flat_map f (take i xs)
+    → b ∷ [] ≡ f (get_or xs i x) → new ≡ old ++ b ∷ [] → new ≡ flat_map f (take (i + 1) xs)
+one_made f xs i x old new b within made gives grown =
+    grown ∙ (ap (λ ys. ys ++ b ∷ []) made ∙ (ap (λ ys. flat_map f (take i xs) ++ ys) gives ∙ more_made f xs i x within))
+
+-- one thing more that gives nothing
+pub none_made : {A B : Type 0} (f : A → List B) (xs : List A) (i : ℕ) (x : A) (old new : List B) → i < length xs → old ≡ flat_map f (take i xs)
+    → [] ≡ f (get_or xs i x) → new ≡ old → new ≡ flat_map f (take (i + 1) xs)
+none_made f xs i x old new within made gives same =
+    same ∙ (made ∙ (sym (append-nil (flat_map f (take i xs))) ∙ (ap (λ ys. flat_map f (take i xs) ++ ys) gives ∙ more_made f xs i x within)))

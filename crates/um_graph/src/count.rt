@@ -43,14 +43,22 @@ pub fn count_of(alloc: Global, tree: &Tree, extra: &[UnitName]) -> Result<usize,
     Ok(held.max(lasting))
 }
 
+/// The name of an entry.
+fn name_of(entry: (UnitName, Loading)) -> UnitName
+    ensures { result ≡ entry.0 }
+{
+    let (name, _) = entry;
+    name
+}
+
 /// The names, ascending.
 fn names_of(alloc: Global, loaded: BTreeMap<UnitName, Loading>) -> Result<Vec<UnitName>, AllocError>
     ensures names { IfOk result (λ names. names.items ≡ keys_of loaded.entries) }
     ensures ordered { IfOk result (λ _. IsOrdered (slice_cmp nat_cmp) loaded) }
 {
     let mut names = Vec::new(alloc);
-    for (name, _) in loaded {
-        names.push(name)?;
+    for entry in loaded {
+        names.push(name_of(entry))?;
     }
     Ok(names)
 }

@@ -1,11 +1,11 @@
 //! The edges of a graph: what was told, by numbers, and what follows from it.
 
-ghost use Rattle.std.specs.Prelude.{◌≡◌, ◌<◌, [], All, AllPairs, IfOk, IfSome, length, vec_len};
+ghost use Rattle.std.specs.Prelude.{◌≡◌, ◌<◌, [], Some, option_map, slice_get, All, AllPairs, IfOk, IfSome, length, vec_len};
 ghost use Rattle.std.specs.List.{flat_map};
 ghost use Rattle.std.specs.Option.{option_to_list};
 ghost use Rattle.um_model.specs.Least.{IsNamedBefore};
 ghost use Rattle.um_model.specs.Names.{is_target};
-ghost use Rattle.um_graph.specs.Edges.{AreJoined, comes_after, declines, edge_seen, names_of, number_in, order_seen, pulled};
+ghost use Rattle.um_graph.specs.Edges.{AreJoined, comes_after, comes_after_by, declines, edge_seen, names_of, number_in, order_seen, pulled};
 ghost use Rattle.um_graph.specs.Rows.{AreRows};
 ghost use Rattle.um_graph.specs.Sorted.{AreSorted};
 
@@ -70,20 +70,34 @@ fn declines(unit: &Unit) -> bool
     }
 }
 
+/// Whether the unit, which wants or requires the other one of this number, comes after it.
+fn comes_behind(unit: &Unit, other: &Unit, number: usize) -> bool
+    ensures { result ≡ comes_after_by (Some unit.now) (Some other.now) number }
+{
+    is_target(unit)
+        && !declines(unit)
+        && !declines(other)
+        && !unit.row.neighbour(number).kinds.is_before()
+}
+
+/// The unit of this number.
+fn unit_at(units: &Units, number: usize) -> Option<&Unit>
+    ensures { option_map (λ u. u.now) result ≡ slice_get units.now.units.items number }
+{
+    units.units.get(number)
+}
+
 /// Whether x, which wants or requires y, comes after it: it is a target that isn't declared before y, and neither declines.
 fn comes_after(units: &Units, x: usize, y: usize) -> bool
     ensures { result ≡ comes_after units.now.units.items x y }
 {
-    let Some(unit) = units.units.get(x) else {
+    let Some(unit) = unit_at(units, x) else {
         return false;
     };
-    let Some(other) = units.units.get(y) else {
+    let Some(other) = unit_at(units, y) else {
         return false;
     };
-    is_target(unit)
-        && !declines(unit)
-        && !declines(other)
-        && !unit.row.neighbour(y).kinds.is_before()
+    comes_behind(unit, other, y)
 }
 
 /// A target comes after what it wants or requires.

@@ -1,10 +1,12 @@
 //! What the entries of a tree name, and what its links tell.
 
-ghost use Rattle.std.specs.Prelude.{◌≡◌, ◌++◌, [], IfOk, OnOk};
+ghost use Rattle.std.specs.Prelude.{◌≡◌, ◌++◌, [], Some, IfOk, OnOk};
 ghost use Rattle.std.specs.FinMap as map;
 ghost use Rattle.std.specs.List.{flat_map};
 ghost use Rattle.um_tree.specs.View.{entry_of};
-ghost use Rattle.um_graph.specs.Tells.{entry_names, entry_told, link_names, link_told, own_name};
+ghost use Rattle.um_graph.specs.Tells.{both_of, entry_names, entry_told, link_names, link_told, own_name, tell, told_between};
+ghost use Rattle.um_graph.specs.declared.told.Link.TheVariants.{Depends};
+ghost use Rattle.um_model.specs.Units.{unit_named};
 
 use crate::told::{Link, Told, unit_of};
 use std::alloc::{AllocError, Global};
@@ -17,6 +19,23 @@ use um_tree::{Entry, Place, ServedPath, Tree};
 pub(crate) struct Found {
     pub(crate) names: Vec<UnitName>,
     pub(crate) told: Vec<Told>,
+}
+
+/// That the unit of the one name depends on that of the other.
+fn dependence(
+    alloc: Global,
+    tree: &Tree,
+    kind: DependencyKind,
+    unit: &UnitName,
+    other: &UnitName,
+) -> Result<Told, AllocError>
+    ensures { IfOk result (λ t. t ≡ tell (Depends kind) (unit_named tree.now unit.now) (unit_named tree.now other.now)) }
+{
+    Ok(Told {
+        link: Link::Depends(kind),
+        from: unit_of(alloc, tree, unit)?,
+        to: unit_of(alloc, tree, other)?,
+    })
 }
 
 impl Found {
@@ -48,6 +67,25 @@ impl Found {
         Ok(())
     }
 
+    /// Adds both names, and that the one depends on the other.
+    fn add_pair(
+        &mut self,
+        alloc: Global,
+        tree: &Tree,
+        kind: DependencyKind,
+        unit: UnitName,
+        other: UnitName,
+    ) -> Result<(), AllocError>
+        ensures names { OnOk result (self.new.names.items ≡ self.old.names.items ++ both_of (Some unit) (Some other)) }
+        ensures told { OnOk result (self.new.told.items ≡ self.old.told.items ++ told_between tree.now kind (Some unit) (Some other)) }
+    {
+        self.told
+            .push(dependence(alloc, tree, kind, &unit, &other)?)?;
+        self.names.push(unit)?;
+        self.names.push(other)?;
+        Ok(())
+    }
+
     /// A link in a directory of the unit names both units, and tells that the one depends on the other.
     fn add_link(
         &mut self,
@@ -66,14 +104,7 @@ impl Found {
         let Some(other) = UnitName::named(alloc, other)? else {
             return Ok(());
         };
-        self.told.push(Told {
-            link: Link::Depends(kind),
-            from: unit_of(alloc, tree, &unit)?,
-            to: unit_of(alloc, tree, &other)?,
-        })?;
-        self.names.push(unit)?;
-        self.names.push(other)?;
-        Ok(())
+        self.add_pair(alloc, tree, kind, unit, other)
     }
 
     /// Adds what an entry names and tells. A file in a directory of what a unit wants or requires is no link.

@@ -1,15 +1,17 @@
 //! The known units of a tree: those that its entries name, and all that these lead to.
 
-ghost use Rattle.std.specs.Prelude.{◌≡◌, ◌++◌, ◌+◌, ◌∷◌, [], ℕ, List, None, Contains, IfErr, IfNone, IfOk, IfSome, OnOk};
-ghost use Rattle.std.specs.BTreeMap.{IsOrdered, btree_map_len};
+ghost use Rattle.std.specs.Prelude.{◌≡◌, ◌++◌, ◌+◌, ◌∷◌, [], ℕ, List, None, Some, Contains, IfErr, IfNone, IfOk, IfSome, OnOk};
+ghost use Rattle.std.specs.BTreeMap.{IsOrdered, Updates, btree_map_len};
 ghost use Rattle.std.specs.Cmp.Lexicographic.{slice_cmp};
 ghost use Rattle.std.specs.List.{flat_map};
 ghost use Rattle.std.specs.Ordering.{nat_cmp};
 ghost use Rattle.um_model.specs.Dependencies.{KnowsSoMany, KnowsTooMany, loadable_of};
 ghost use Rattle.um_model.specs.declared.refusals.Limit.TheVariants as limits;
 ghost use Rattle.um_wire.specs.declared.refusal.Refusal.TheVariants as refusals;
+ghost use Rattle.um_model.specs.Units.{load};
 ghost use Rattle.um_unit.specs.View.{loading_of};
-ghost use Rattle.um_graph.specs.Tells.{told_where};
+ghost use Rattle.um_unit.specs.declared.loaded.Loading.{Loading};
+ghost use Rattle.um_graph.specs.Tells.{told_in, told_where};
 ghost use Rattle.um_graph.specs.Followed.{AreFollowed};
 ghost use Rattle.um_graph.specs.Known.{IsUnderWay, LeavesOut, ends_left, loading_at, unless_followed};
 
@@ -52,6 +54,26 @@ fn told_where_loaded(
         Some(unit) => told_by(alloc, resolved, unit),
         None => Ok(Vec::new(alloc)),
     }
+}
+
+/// The unit of the name is loaded, and what became of the look for it is kept; what its settings tell.
+fn load_into(
+    alloc: Global,
+    resolved: &mut Resolved<'_>,
+    loaded: &mut BTreeMap<UnitName, Loading>,
+    name: UnitName,
+) -> Result<Vec<Told>, AllocError>
+    ensures told { IfOk result (λ told. told.items ≡ told_in resolved.old name) }
+    ensures loaded { OnOk result ((loading : Loading) × (loading_of loading ≡ load resolved.old name)
+        × Updates (slice_cmp nat_cmp) loaded.old loaded.new name (Some loading)) }
+    ensures count { OnOk result (loading_at loaded.old name ≡ None → btree_map_len loaded.new ≡ btree_map_len loaded.old + 1) }
+    ensures ordered { OnOk result (IsOrdered (slice_cmp nat_cmp) loaded.new) }
+    ensures tree { resolved.new ≡ resolved.old }
+{
+    let loading = load(alloc, resolved.tree(), &name)?;
+    let told = told_where_loaded(alloc, resolved, &loading)?;
+    loaded.insert(name, loading)?;
+    Ok(told)
 }
 
 impl Known {
@@ -153,10 +175,8 @@ impl Known {
         ensures told { IfOk result (λ followed. followed ≡ btree_map_len self.new.loaded) }
         ensures tree { resolved.new ≡ resolved.old }
     {
-        let loading = load(alloc, resolved.tree(), &name)?;
-        let told = told_where_loaded(alloc, resolved, &loading)?;
         self.followed.insert(name.copy()?)?;
-        self.loaded.insert(name, loading)?;
+        let told = load_into(alloc, resolved, &mut self.loaded, name)?;
         self.take(told)?;
         Ok(self.loaded.len())
     }

@@ -1,13 +1,13 @@
 //! What the settings of a unit tell of it and of other units.
 
-ghost use Rattle.std.specs.Prelude.{◌≡◌, ◌++◌, IfOk, OnOk, option_map, string_bytes, map};
+ghost use Rattle.std.specs.Prelude.{◌≡◌, ◌∷◌, ◌++◌, [], IfOk, OnOk, option_map, string_bytes, map};
 ghost use Rattle.std.specs.List.{flat_map};
 ghost use Rattle.um_model.specs.Dependencies as model;
 ghost use Rattle.um_model.specs.Names.{named};
 ghost use Rattle.um_model.specs.Resolution.{shutdown_target};
 ghost use Rattle.um_model.specs.Units.{unit_named};
 ghost use Rattle.um_unit.specs.View.{loading_of, unit_of as loaded_of};
-ghost use Rattle.um_graph.specs.Tells.{defaults_told, follows_by, names_given, needs_told, shutdown_told, told_of};
+ghost use Rattle.um_graph.specs.Tells.{defaults_told, follows_by, names_given, needs_told, shutdown_told, tell, told_of};
 
 use crate::resolved::Resolved;
 use std::alloc::{AllocError, Global};
@@ -119,6 +119,23 @@ fn shutdown_target(alloc: Global) -> Result<Option<UnitName>, AllocError>
     UnitName::named(alloc, "shutdown.target")
 }
 
+/// Adds that the one stands so to the other.
+fn push_told(
+    told: &mut Vec<Told>,
+    link: Link,
+    from: &UnitName,
+    to: &UnitName,
+) -> Result<(), AllocError>
+    ensures { OnOk result (told.new.items ≡ told.old.items ++ tell link from.now to.now ∷ []) }
+{
+    told.push(Told {
+        link,
+        from: from.copy()?,
+        to: to.copy()?,
+    })?;
+    Ok(())
+}
+
 /// Adds that the unit conflicts with `shutdown.target` and comes before it.
 fn tell_shutdown(
     alloc: Global,
@@ -133,17 +150,13 @@ fn tell_shutdown(
         return Ok(());
     };
     let shutdown = resolved.unit(alloc, name)?;
-    told.push(Told {
-        link: Link::Depends(DependencyKind::Conflicts),
-        from: unit.copy()?,
-        to: shutdown.copy()?,
-    })?;
-    told.push(Told {
-        link: Link::Ending,
-        from: unit.copy()?,
-        to: shutdown,
-    })?;
-    Ok(())
+    push_told(
+        told,
+        Link::Depends(DependencyKind::Conflicts),
+        unit,
+        &shutdown,
+    )?;
+    push_told(told, Link::Ending, unit, &shutdown)
 }
 
 /// Adds what follows from default dependencies.

@@ -1,12 +1,14 @@
 -- What words are read as, by what clap answered.
 use Rattle.std.proofs.Common.{◌≡◌, ◌≢◌, ◌⊎◌, ◌∷◌, ◌<◌, ◌≤◌, ◌^◌, arith, drop, sym, Option, Some, ℕ, List, [], Result, Ok, Err, IfOk, OnOk, inl, inr, true, refl, subst, ap, ◌∙◌}
 use Rattle.clap.proofs.OnLiterals.{clap_on_literals}
-use Rattle.clap.specs.Words.{App, Kinds, HasKind, IsAmong, Row, Rule, with_rule, fault_of, is_simple_and_free, is_simple, kind_of, matches_of}
+use Rattle.clap.specs.Words.{App, app_of, Kinds, HasKind, IsAmong, Row, Rule, with_rule, fault_of, is_simple_and_free, is_simple, kind_of, matches_of}
+use Rattle.clap.specs.declared.builder.command.Command.{Command}
 use Rattle.clap.specs.declared.error.Error.{Error}
 use Rattle.clap.specs.declared.error.kind.ErrorKind.{ErrorKind}
 use Rattle.clap.specs.declared.error.kind.ErrorKind.TheVariants.{OutOfMemory}
 use Rattle.std.proofs.lemmas.Fmt.{decimal_injective}
 use Rattle.std.specs.Prelude.{decimal}
+use Rattle.std.specs.declared.alloc.AllocError.{AllocError}
 use Rattle.um_line.specs.Line.{IsNoCode, IsNoNumber, IsReadLine, last_refusal, IsToldAs, TellsMistake, umd_words, create_words, check_words, serve_words, ctl_words}
 use Rattle.um_line.specs.declared.line.Line.{Line}
 use Rattle.um_line.specs.declared.line.Line.TheVariants.{Memory, Run, Create, Check, Serve, LongBoot, Ctl, Help, Told, Wrong}
@@ -92,8 +94,13 @@ mistaken_by app wanted words Takes e r is simple kinds told memory =
     mistaken (fault_of wanted words) Takes e r has told memory
 
 -- a command with one argument more
-pub added : (a b : App) (r s : Rule) (x : App) → b ≡ with_rule a r → a ≡ x → r ≡ s → b ≡ with_rule x s
-added a b r s x is old rule = is ∙ ap (λ y. with_rule y r) old ∙ ap (with_rule x) rule
+pub added : (a b x : App) (r : Rule) → b ≡ with_rule a r → a ≡ x → b ≡ with_rule x r
+added a b x r is old = is ∙ ap (λ y. with_rule y r) old
+
+-- the last argument of a command, where there is memory for it
+pub added_last : (a x : App) (r : Rule) (result : Result Command AllocError) → IfOk result (λ c. app_of c ≡ with_rule a r) → a ≡ x → IfOk result (λ c. app_of c ≡ with_rule x r)
+added_last a x r (Ok c) is old = added a (app_of c) x r is old
+added_last a x r (Err refused) is old = is
 
 -- a number outside the limits is none within them
 pub outside : (low high m : ℕ) (bytes : List ℕ) (text : Option (List ℕ)) → text ≡ Some bytes → bytes ≡ decimal m → m < 2 ^ 64 → high < 2 ^ 64

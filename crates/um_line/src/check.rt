@@ -6,7 +6,7 @@ ghost use Rattle.um_line.specs.Line.{check_words, IsCheckLine, TakesCheck};
 
 use crate::line::Line;
 use crate::mistake::line_of_mistake;
-use crate::values::{flag, value, word};
+use crate::values::{described, flag, value, with_word};
 use clap::{ArgMatches, Command};
 use std::alloc::{AllocError, Global};
 
@@ -42,17 +42,15 @@ For example:
 fn command<'a>(alloc: Global) -> Result<Command<'a>, AllocError>
     ensures { IfOk result (λ c. app_of c ≡ check_words) }
 {
-    let units = flag(alloc, "units", UNITS_HELP);
-    let file = word(alloc, "file", "FILE", "The store");
-    let command = Command::new(alloc, "umd check")
-        .arg(units)?
-        .arg(file)?
-        .override_usage("umd check [--units] <FILE>")
-        .about(
-            "Looks at a store that nobody serves, and says what it stands for, or why it can't be opened",
-        )
-        .after_help(AFTER_HELP);
-    Ok(command)
+    let command = described(
+        alloc,
+        "umd check",
+        "umd check [--units] <FILE>",
+        "Looks at a store that nobody serves, and says what it stands for, or why it can't be opened",
+        AFTER_HELP,
+    );
+    let command = command.arg(flag(alloc, "units", UNITS_HELP))?;
+    with_word(command, alloc, "file", "FILE", "The store")
 }
 
 /// Whether the flag was given.

@@ -7,7 +7,7 @@ ghost use Rattle.um_line.specs.Line.{create_words, IsCreateLine, TakesCreate};
 use crate::line::Line;
 use crate::mistake::line_of_mistake;
 use crate::numbers::limited;
-use crate::values::{option, value, word};
+use crate::values::{described, value, with_option, with_word};
 use clap::{ArgMatches, Command};
 use std::alloc::{AllocError, Global};
 
@@ -48,17 +48,16 @@ const LOG_HELP: &str =
 fn command<'a>(alloc: Global) -> Result<Command<'a>, AllocError>
     ensures { IfOk result (λ c. app_of c ≡ create_words) }
 {
-    let slot = option(alloc, "slot", "N", SLOT_HELP);
-    let log = option(alloc, "log", "N", LOG_HELP);
-    let file = word(alloc, "file", "FILE", "The new file");
-    let command = Command::new(alloc, "umd create")
-        .arg(slot)?
-        .arg(log)?
-        .arg(file)?
-        .override_usage("umd create --slot <N> --log <N> <FILE>")
-        .about("Makes a new store in a new file; what stands at the path is left as it is")
-        .after_help("For example:\n  umd create --slot 1024 --log 4096 /var/lib/umd/store");
-    Ok(command)
+    let command = described(
+        alloc,
+        "umd create",
+        "umd create --slot <N> --log <N> <FILE>",
+        "Makes a new store in a new file; what stands at the path is left as it is",
+        "For example:\n  umd create --slot 1024 --log 4096 /var/lib/umd/store",
+    );
+    let command = with_option(command, alloc, "slot", "N", SLOT_HELP)?;
+    let command = with_option(command, alloc, "log", "N", LOG_HELP)?;
+    with_word(command, alloc, "file", "FILE", "The new file")
 }
 
 fn usage(alloc: Global) -> Result<String, AllocError> {

@@ -6,7 +6,7 @@ ghost use Rattle.um_line.specs.Line.{ctl_words, IsCtlLine, IsToldAs, TakesCtl};
 
 use crate::line::Line;
 use crate::mistake::line_of_mistake;
-use crate::values::{option, optional, value, values, words};
+use crate::values::{described, optional, value, values, with_option, words};
 use clap::error::ErrorKind;
 use clap::{ArgMatches, Command, Error};
 use std::alloc::{AllocError, Global};
@@ -31,6 +31,10 @@ Usage: umd ctl --socket <PATH> [--mode <MODE>] <VERB> [ARG]..
 For more information, try '--help'.
 ";
 
+const SOCKET_HELP: &str = "The socket that the manager serves";
+
+const WORD_HELP: &str = "A verb, and its fields in their order";
+
 const MODE_HELP: &str =
     "For start, stop, restart and try-restart: fail, where a pending job would be dropped, or replace";
 
@@ -50,27 +54,16 @@ Verbs, with their arguments in their order:";
 fn command<'a>(alloc: Global) -> Result<Command<'a>, AllocError>
     ensures { IfOk result (λ c. app_of c ≡ ctl_words) }
 {
-    let socket = option(
+    let command = described(
         alloc,
-        "socket",
-        "PATH",
-        "The socket that the manager serves",
+        "umd ctl",
+        "umd ctl --socket <PATH> [--mode <MODE>] <VERB> [ARG]..",
+        "Asks the manager at a socket, and prints the value of its reply as JSON",
+        AFTER_HELP,
     );
-    let mode = optional(alloc, "mode", "MODE", MODE_HELP);
-    let word = words(
-        alloc,
-        "word",
-        "WORD",
-        "A verb, and its fields in their order",
-    );
-    let command = Command::new(alloc, "umd ctl")
-        .arg(socket)?
-        .arg(mode)?
-        .arg(word)?
-        .override_usage("umd ctl --socket <PATH> [--mode <MODE>] <VERB> [ARG]..")
-        .about("Asks the manager at a socket, and prints the value of its reply as JSON")
-        .after_help(AFTER_HELP);
-    Ok(command)
+    with_option(command, alloc, "socket", "PATH", SOCKET_HELP)?
+        .arg(optional(alloc, "mode", "MODE", MODE_HELP))?
+        .arg(words(alloc, "word", "WORD", WORD_HELP))
 }
 
 /// The texts again.

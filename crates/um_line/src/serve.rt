@@ -6,7 +6,7 @@ ghost use Rattle.um_line.specs.Line.{serve_words, IsServeLine, TakesServe};
 
 use crate::line::Line;
 use crate::mistake::line_of_mistake;
-use crate::values::{option, value, word};
+use crate::values::{described, value, with_option, with_word};
 use clap::{ArgMatches, Command};
 use std::alloc::{AllocError, Global};
 
@@ -39,6 +39,10 @@ For more information, try '--help'.
 const BOOT_HELP: &str =
     "The id of the running boot, $(cat /proc/sys/kernel/random/boot_id): with another one than the store's last every process is taken to be gone and nothing runs, with that of an earlier boot the manager adopts and signals pids that belong to others by now";
 
+const SOCKET_HELP: &str = "The socket to serve; one that an earlier server left there is replaced";
+
+const RUNNER_HELP: &str = "The program that runs processes: the path of umd itself";
+
 const DIR_HELP: &str =
     "The folder of the files of processes, made where it isn't there; nothing may clean it while the machine is up";
 
@@ -56,31 +60,18 @@ For example:
 fn command<'a>(alloc: Global) -> Result<Command<'a>, AllocError>
     ensures { IfOk result (λ c. app_of c ≡ serve_words) }
 {
-    let boot = option(alloc, "boot", "ID", BOOT_HELP);
-    let socket = option(
+    let command = described(
         alloc,
-        "socket",
-        "PATH",
-        "The socket to serve; one that an earlier server left there is replaced",
+        "umd serve",
+        "umd serve --boot <ID> --socket <PATH> --dir <DIR> --runner <PATH> <FILE>",
+        "Serves a store over a socket",
+        AFTER_HELP,
     );
-    let dir = option(alloc, "dir", "DIR", DIR_HELP);
-    let runner = option(
-        alloc,
-        "runner",
-        "PATH",
-        "The program that runs processes: the path of umd itself",
-    );
-    let file = word(alloc, "file", "FILE", "The store");
-    let command = Command::new(alloc, "umd serve")
-        .arg(boot)?
-        .arg(socket)?
-        .arg(dir)?
-        .arg(runner)?
-        .arg(file)?
-        .override_usage("umd serve --boot <ID> --socket <PATH> --dir <DIR> --runner <PATH> <FILE>")
-        .about("Serves a store over a socket")
-        .after_help(AFTER_HELP);
-    Ok(command)
+    let command = with_option(command, alloc, "boot", "ID", BOOT_HELP)?;
+    let command = with_option(command, alloc, "socket", "PATH", SOCKET_HELP)?;
+    let command = with_option(command, alloc, "dir", "DIR", DIR_HELP)?;
+    let command = with_option(command, alloc, "runner", "PATH", RUNNER_HELP)?;
+    with_word(command, alloc, "file", "FILE", "The store")
 }
 
 fn usage(alloc: Global) -> Result<String, AllocError> {

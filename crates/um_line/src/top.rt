@@ -1,11 +1,12 @@
 //! The words of the program itself.
 
-ghost use Rattle.std.specs.Prelude.{◌≡◌, ◌≢◌, ◌∷◌, ℕ, List, [], IfOk, OnOk, codes, map, string_bytes};
-ghost use Rattle.clap.specs.Words.{app_of, kind_of};
-ghost use Rattle.um_line.specs.Line.{IsToldAs, IsTopLine, mistakes_of, umd_words};
+ghost use Rattle.std.specs.Prelude.{◌≡◌, ◌≢◌, ◌∷◌, ℕ, List, [], false, IfOk, OnOk, codes, map, string_bytes};
+ghost use Rattle.clap.specs.Words.{app_of, kind_of, rule_of};
+ghost use Rattle.um_line.specs.Line.{IsToldAs, IsTopLine, memory_rule, mistakes_of, umd_words};
 
 use crate::line::Line;
 use crate::mistake::line_of_mistake;
+use crate::values::described;
 use clap::error::ErrorKind;
 use clap::{Arg, ArgAction, Command, Error};
 use std::alloc::{AllocError, Global};
@@ -28,24 +29,31 @@ const NOTHING: &str = "error: a subcommand is missing\n\nUsage: ";
 /// What is told behind the usage.
 const MORE: &str = "\n\nFor more information, try '--help'.\n";
 
+/// The option that has to be given.
+fn memory<'a>(alloc: Global) -> Arg<'a>
+    ensures rule { rule_of result ≡ memory_rule }
+    ensures local { result.global ≡ false }
+{
+    Arg::new(alloc, "memory")
+        .long("memory")
+        .help("Serves one client over standard input and output, with a store in memory")
+        .required(true)
+        .action(ArgAction::SetTrue)
+}
+
 /// The words that the program takes.
 fn command<'a>(alloc: Global) -> Result<Command<'a>, AllocError>
     ensures { IfOk result (λ c. app_of c ≡ umd_words) }
 {
-    let memory = Arg::new(alloc, "memory")
-        .long("memory")
-        .help("Serves one client over standard input and output, with a store in memory")
-        .required(true)
-        .action(ArgAction::SetTrue);
-    let command = Command::new(alloc, "umd")
-        .arg(memory)?
-        .version("0.1.0")
-        .override_usage(USAGE)
-        .about("A service manager whose state outlives its crash")
-        .after_help(
-            "For example:\n  umd create --slot 1024 --log 4096 /var/lib/umd/store\n  umd ctl --socket /run/umd/socket start web.service\n  umd --memory < requests > replies",
-        );
-    Ok(command)
+    let command = described(
+        alloc,
+        "umd",
+        USAGE,
+        "A service manager whose state outlives its crash",
+        "For example:\n  umd create --slot 1024 --log 4096 /var/lib/umd/store\n  umd ctl --socket /run/umd/socket start web.service\n  umd --memory < requests > replies",
+    );
+    let command = command.arg(memory(alloc))?;
+    Ok(command.version("0.1.0"))
 }
 
 /// What is told of a mistake: where a word is missing, it is the subcommand.

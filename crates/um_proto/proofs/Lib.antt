@@ -1,3 +1,4 @@
 pub mod Keys
 pub mod Lengths
+pub mod Lists
 pub mod Warnings

@@ -1,4 +1,4 @@
-ghost use Rattle.std.specs.Prelude.{◌≡◌, ◌&&◌, map, codes};
+ghost use Rattle.std.specs.Prelude.{◌≡◌, ◌∷◌, ◌&&◌, [], map, codes};
 ghost use Rattle.std.specs.Str.{bytes_eq};
 ghost use Rattle.um_model.specs.Requests as model;
 
@@ -85,6 +85,33 @@ impl Row {
             optional,
         }
     }
+
+    /// A row without fields.
+    fn bare(text: &'static str) -> Row
+        ensures text { result.text.now ≡ text.now }
+        ensures required { map (λ s. s.now) result.required.now ≡ [] }
+        ensures optional { map (λ s. s.now) result.optional.now ≡ [] }
+    {
+        Row::of(text, &[], &[])
+    }
+
+    /// A row that must have a unit.
+    fn of_unit(text: &'static str) -> Row
+        ensures text { result.text.now ≡ text.now }
+        ensures required { map (λ s. s.now) result.required.now ≡ codes "unit" ∷ [] }
+        ensures optional { map (λ s. s.now) result.optional.now ≡ [] }
+    {
+        Row::of(text, &["unit"], &[])
+    }
+
+    /// A row that must have a unit, and may have the mode of a job.
+    fn of_job(text: &'static str) -> Row
+        ensures text { result.text.now ≡ text.now }
+        ensures required { map (λ s. s.now) result.required.now ≡ codes "unit" ∷ [] }
+        ensures optional { map (λ s. s.now) result.optional.now ≡ codes "mode" ∷ [] }
+    {
+        Row::of(text, &["unit"], &["mode"])
+    }
 }
 
 /// The row of a verb in the table of requests.
@@ -97,28 +124,28 @@ pub fn row_of(verb: Verb) -> Row
         Verb::PutFile => Row::of("put-file", &["path", "text"], &[]),
         Verb::PutLink => Row::of("put-link", &["path", "target"], &[]),
         Verb::Remove => Row::of("remove", &["path"], &[]),
-        Verb::DaemonReload => Row::of("daemon-reload", &[], &[]),
-        Verb::Start => Row::of("start", &["unit"], &["mode"]),
-        Verb::Stop => Row::of("stop", &["unit"], &["mode"]),
-        Verb::Restart => Row::of("restart", &["unit"], &["mode"]),
-        Verb::TryRestart => Row::of("try-restart", &["unit"], &["mode"]),
-        Verb::Cancel => Row::of("cancel", &["unit"], &[]),
+        Verb::DaemonReload => Row::bare("daemon-reload"),
+        Verb::Start => Row::of_job("start"),
+        Verb::Stop => Row::of_job("stop"),
+        Verb::Restart => Row::of_job("restart"),
+        Verb::TryRestart => Row::of_job("try-restart"),
+        Verb::Cancel => Row::of_unit("cancel"),
         Verb::ResetFailed => Row::of("reset-failed", &[], &["unit"]),
-        Verb::Enable => Row::of("enable", &["unit"], &[]),
-        Verb::Disable => Row::of("disable", &["unit"], &[]),
-        Verb::Mask => Row::of("mask", &["unit"], &[]),
-        Verb::Unmask => Row::of("unmask", &["unit"], &[]),
-        Verb::Show => Row::of("show", &["unit"], &[]),
-        Verb::IsActive => Row::of("is-active", &["unit"], &[]),
-        Verb::IsFailed => Row::of("is-failed", &["unit"], &[]),
-        Verb::IsEnabled => Row::of("is-enabled", &["unit"], &[]),
-        Verb::Cat => Row::of("cat", &["unit"], &[]),
-        Verb::ListUnits => Row::of("list-units", &[], &[]),
-        Verb::ListJobs => Row::of("list-jobs", &[], &[]),
-        Verb::Tick => Row::of("tick", &[], &[]),
+        Verb::Enable => Row::of_unit("enable"),
+        Verb::Disable => Row::of_unit("disable"),
+        Verb::Mask => Row::of_unit("mask"),
+        Verb::Unmask => Row::of_unit("unmask"),
+        Verb::Show => Row::of_unit("show"),
+        Verb::IsActive => Row::of_unit("is-active"),
+        Verb::IsFailed => Row::of_unit("is-failed"),
+        Verb::IsEnabled => Row::of_unit("is-enabled"),
+        Verb::Cat => Row::of_unit("cat"),
+        Verb::ListUnits => Row::bare("list-units"),
+        Verb::ListJobs => Row::bare("list-jobs"),
+        Verb::Tick => Row::bare("tick"),
         Verb::End => Row::of("end", &["number"], &["code", "signal", "lost"]),
         Verb::Executed => Row::of("executed", &["number"], &[]),
-        Verb::Actions => Row::of("actions", &[], &[]),
+        Verb::Actions => Row::bare("actions"),
     }
 }
 

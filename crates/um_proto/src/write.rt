@@ -1,5 +1,5 @@
-ghost use Rattle.std.specs.Prelude.{◌≡◌, [], map, string_bytes, false, ◌++◌, IfOk, IsTrue, OnOk, length, unwrap_or, ◌<◌, ◌≤◌};
-ghost use Rattle.serde_json.specs.Data.{array};
+ghost use Rattle.std.specs.Prelude.{◌≡◌, ◌∷◌, [], map, string_bytes, false, ◌++◌, IfOk, IsTrue, OnOk, length, unwrap_or, ◌<◌, ◌≤◌};
+ghost use Rattle.serde_json.specs.Data.{array, string};
 ghost use Rattle.std.specs.List.{flat_map};
 ghost use Rattle.serde_json.specs.View.{view, items_of};
 ghost use Rattle.serde_json.specs.Written.{compact_text};
@@ -19,7 +19,7 @@ use serde_json::{Value, json};
 use std::alloc::{AllocError, Global};
 use um_model::{ProcessNumber, Signal};
 use um_resolve::UnitFile;
-use um_state::{Action, JobShown, Reply, UnitListed, UnitShown};
+use um_state::{Action, JobShown, Reply, Start, UnitListed, UnitShown};
 use um_unit::{FileWarnings, Warning};
 use um_wire::{Limit, Refusal};
 use um_words::Room;
@@ -58,27 +58,31 @@ fn no_texts(alloc: Global) -> Value
     Value::Array(Vec::new(alloc))
 }
 
+/// A list of one text.
+fn one_text(alloc: Global, text: &str) -> Result<Value, AllocError>
+    ensures { IfOk result (λ v. view v ≡ model.texts_data (text.now ∷ [])) }
+{
+    json!(in alloc; [text])
+}
+
 /// The details of a refusal.
 fn detail_value(alloc: Global, refusal: &Refusal) -> Result<Value, AllocError>
     ensures { IfOk result (λ v. view v ≡ model.texts_data (refused_of refusal.now).detail) }
 {
     match refusal {
-        Refusal::UnknownVerb { verb } => json!(in alloc; [verb]),
-        Refusal::BadName { text } => json!(in alloc; [text]),
+        Refusal::UnknownVerb { verb } => one_text(alloc, verb.as_str()),
+        Refusal::BadName { text } => one_text(alloc, text.as_str()),
         Refusal::BadSetting { unit, reason } => json!(in alloc; [unit, reason]),
         Refusal::NotFound { unit }
         | Refusal::Masked { unit }
         | Refusal::NotLoaded { unit }
         | Refusal::Clash { unit }
         | Refusal::JobConflict { unit }
-        | Refusal::NoSuchJob { unit } => json!(in alloc; [unit]),
+        | Refusal::NoSuchJob { unit } => one_text(alloc, unit.as_str()),
         Refusal::OrderingCycle { units } => texts_value(alloc, units.items.as_slice()),
-        Refusal::Exists { path } | Refusal::BadPath { path } => json!(in alloc; [path]),
-        Refusal::TooLarge { limit } => json!(in alloc; [limit.word()]),
-        Refusal::Damaged { sector } => {
-            let text = sector.to_string(alloc)?;
-            json!(in alloc; [&text])
-        }
+        Refusal::Exists { path } | Refusal::BadPath { path } => one_text(alloc, path.as_str()),
+        Refusal::TooLarge { limit } => one_text(alloc, limit.word()),
+        Refusal::Damaged { sector } => one_text(alloc, sector.to_string(alloc)?.as_str()),
         Refusal::BadRequest
         | Refusal::NoRoom
         | Refusal::NoMemory
@@ -93,8 +97,7 @@ fn detail_value(alloc: Global, refusal: &Refusal) -> Result<Value, AllocError>
 fn refused_value(alloc: Global, refusal: &Refusal) -> Result<Value, AllocError>
     ensures { IfOk result (λ v. view v ≡ model.refused_data (refused_of refusal.now)) }
 {
-    let detail = detail_value(alloc, refusal)?;
-    json!(in alloc; {"detail": detail, "error": refusal.number(), "ok": false})
+    json!(in alloc; {"detail": detail_value(alloc, refusal)?, "error": refusal.number(), "ok": false})
 }
 
 /// The number of a process; 0 where there is none.
@@ -111,7 +114,6 @@ fn main_number(process: Option<ProcessNumber>) -> u64
 fn shown_value(alloc: Global, shown: &UnitShown) -> Result<Value, AllocError>
     ensures { IfOk result (λ v. view v ≡ model.shown_data (written.without_warnings (shown_of shown.now))) }
 {
-    let warnings = no_texts(alloc);
     json!(in alloc; {
         "ActiveState": shown.state.sub.active_state().text(),
         "Description": &shown.description,
@@ -120,7 +122,7 @@ fn shown_value(alloc: Global, shown: &UnitShown) -> Result<Value, AllocError>
         "MainNumber": main_number(shown.state.main),
         "Result": shown.state.result.text(),
         "SubState": shown.state.sub.text(),
-        "Warnings": warnings,
+        "Warnings": no_texts(alloc),
     })
 }
 
@@ -133,16 +135,35 @@ fn signal_text(signal: Signal) -> &'static str
     }
 }
 
+/// The words of a start.
+fn words_value(alloc: Global, start: &Start) -> Result<Value, AllocError>
+    ensures { IfOk result (λ v. view v ≡ model.texts_data start.now.words) }
+{
+    texts_value(alloc, start.words(alloc)?.as_slice())
+}
+
+/// What an action does, to which process, and what it tells of it.
+fn told_value(
+    alloc: Global,
+    action: &str,
+    number: ProcessNumber,
+    told: Value,
+) -> Result<Value, AllocError>
+    ensures { IfOk result (λ v. view v ≡ array (items_of (string action.now ∷ model.number_data number ∷ view told ∷ []))) }
+{
+    json!(in alloc; [action, number.get(), told])
+}
+
 fn action_value(alloc: Global, action: &Action) -> Result<Value, AllocError>
     ensures { IfOk result (λ v. view v ≡ model.action_data (action_of action.now)) }
 {
     match action {
         Action::Spawn { number, start } => {
-            let words = texts_value(alloc, start.words(alloc)?.as_slice())?;
-            json!(in alloc; ["spawn", number.get(), words])
+            told_value(alloc, "spawn", *number, words_value(alloc, start)?)
         }
         Action::Signal { number, signal } => {
-            json!(in alloc; ["signal", number.get(), signal_text(*signal)])
+            let told = Value::try_from_str(alloc, signal_text(*signal))?;
+            told_value(alloc, "signal", *number, told)
         }
     }
 }
@@ -178,9 +199,7 @@ fn files_value(alloc: Global, files: &[UnitFile]) -> Result<Value, AllocError>
 fn relinked_value(alloc: Global, made: &[String], removed: &[String]) -> Result<Value, AllocError>
     ensures { IfOk result (λ v. view v ≡ written.relinked_data (map string_bytes made.now) (map string_bytes removed.now)) }
 {
-    let made = texts_value(alloc, made)?;
-    let removed = texts_value(alloc, removed)?;
-    json!(in alloc; {"made": made, "removed": removed})
+    json!(in alloc; {"made": texts_value(alloc, made)?, "removed": texts_value(alloc, removed)?})
 }
 
 /// A known unit: its name, its active state and its sub state.
@@ -380,16 +399,23 @@ pub struct ReplyText {
     pub is_whole: bool,
 }
 
+/// The refusal of a reply that is too long.
+fn too_long_value(alloc: Global) -> Result<Value, AllocError>
+    ensures { IfOk result (λ v. view v ≡ model.refused_data (too_large TooLong)) }
+{
+    let refusal = Refusal::TooLarge {
+        limit: Limit::Reply,
+    };
+    refused_value(alloc, &refusal)
+}
+
 /// In place of a reply whose text is too long.
 fn refused_text(alloc: Global) -> Result<ReplyText, AllocError>
     ensures text { IfOk result (λ text. text.bytes.items ≡ compact_text (model.refused_data (too_large TooLong))) }
     ensures whole { IfOk result (λ text. text.is_whole ≡ false) }
     ensures short { IfOk result (λ text. length text.bytes.items ≤ model.reply_limit) }
 {
-    let refusal = Refusal::TooLarge {
-        limit: Limit::Reply,
-    };
-    let bytes = refused_value(alloc, &refusal)?.to_vec(alloc)?;
+    let bytes = too_long_value(alloc)?.to_vec(alloc)?;
     Ok(ReplyText {
         bytes,
         is_whole: false,

@@ -8,7 +8,7 @@ use Rattle.um_model.specs.Names.{suffix_of}
 use Rattle.std.specs.Option.{option_or}
 use Rattle.um_model.specs.Settings.{ServiceSettings}
 use Rattle.um_model.specs.Substitution.{Variable}
-use Rattle.um_model.specs.Units.{Assigned, Found, LoadedUnit, Settings, Source, Warning, assignments_in, loading_by_file, reason_of, refused_kind, refused_service, refused_setting, TypeSaid, Unsaid, Served, Unserved, service_settings_of, settings_of, type_of, unit_by}
+use Rattle.um_model.specs.Units.{Assigned, Dependencies, Found, InstallSettings, LoadedUnit, Settings, Source, Warning, assignments_in, loading_by_file, reason_of, refused_kind, refused_service, refused_setting, TypeSaid, Unsaid, Served, Unserved, service_settings_of, settings_of, type_of, unit_by}
 use Rattle.um_model.specs.Commands.{Command}
 use Rattle.um_model.specs.declared.names.Suffix.{Suffix}
 use Rattle.um_model.specs.declared.service.End.{End}
@@ -29,6 +29,11 @@ pub same_settings : {kind : UnitKind} {start stop stop' : List Command} {environ
     (record { kind = kind; start = start; stop = stop; environment = environment; remains = remains; restart = restart; restart_delay = delay; timeout_start = timeout_start; timeout_stop = timeout_stop; limit_interval = interval; limit_burst = burst; success = success; prevents_restart = prevents; forces_restart = forces })
     (record { kind = kind; start = start; stop = stop'; environment = environment'; remains = remains'; restart = restart'; restart_delay = delay'; timeout_start = timeout_start'; timeout_stop = timeout_stop'; limit_interval = interval'; limit_burst = burst'; success = success'; prevents_restart = prevents'; forces_restart = forces' })
 same_settings stop environment remains restart delay timeout_start timeout_stop interval burst success prevents forces = cc
+
+pub same_parts : {description description' : List ℕ} {dependencies dependencies' : Dependencies} {service service' : ServiceSettings} {install install' : InstallSettings}
+    → description ≡ description' → dependencies ≡ dependencies' → service ≡ service' → install ≡ install'
+    → ◌≡◌ {A = Settings} (record { description = description; dependencies = dependencies; service = service; install = install }) (record { description = description'; dependencies = dependencies'; service = service'; install = install' })
+same_parts described depends serves installs = cc
 
 -- ---- loading
 

@@ -28,20 +28,19 @@ fn loading_by_file(
 {
     let Contents { sources, warnings } = contents_of(alloc, unit, files)?;
     let assigned = assignments(alloc, unit.suffix(), sources.as_slice())?;
+    let name = unit.copy()?;
+    let path = String::from_str(alloc, path)?;
+    let warnings = Rc::new(alloc, warnings)?;
     let settings = settings_of(alloc, unit, assigned.as_slice())?;
-    let reason = reason_of(alloc, unit.suffix(), assigned.as_slice(), &settings.service)?;
-    if let Some(reason) = reason {
-        return Ok(Loading::BadSetting {
-            unit: unit.copy()?,
-            reason,
-        });
+    match reason_of(alloc, unit.suffix(), assigned.as_slice(), &settings.service)? {
+        Some(reason) => Ok(Loading::BadSetting { unit: name, reason }),
+        None => Ok(Loading::Found(LoadedUnit {
+            name,
+            path: Some(path),
+            settings,
+            warnings,
+        })),
     }
-    Ok(Loading::Found(LoadedUnit {
-        name: unit.copy()?,
-        path: Some(String::from_str(alloc, path)?),
-        settings,
-        warnings: Rc::new(alloc, warnings)?,
-    }))
 }
 
 /// A unit that needs no file: found, whatever its drop-ins set, and nothing in them enables it.
@@ -54,13 +53,15 @@ fn unit_without_file(
 {
     let Contents { sources, warnings } = contents_of(alloc, unit, files)?;
     let assigned = assignments(alloc, unit.suffix(), sources.as_slice())?;
+    let name = unit.copy()?;
+    let warnings = Rc::new(alloc, warnings)?;
     let mut settings = settings_of(alloc, unit, assigned.as_slice())?;
     settings.install = InstallSettings::nothing(alloc);
     Ok(LoadedUnit {
-        name: unit.copy()?,
+        name,
         path: None,
         settings,
-        warnings: Rc::new(alloc, warnings)?,
+        warnings,
     })
 }
 

@@ -360,6 +360,22 @@ fn service_settings_of(
     service_settings_with(alloc, start, kind, unit, assigned)
 }
 
+fn description_of(
+    alloc: Global,
+    unit: &UnitName,
+    assigned: &[Assigned<'_>],
+) -> Result<String, AllocError>
+    ensures { IfOk result (λ text. string_bytes text ≡ (model.settings_of unit.now (map assigned_of assigned.now)).description) }
+{
+    last_read(
+        alloc,
+        &Text { alloc, unit },
+        assigned,
+        &[("Unit", "Description")],
+        String::new(alloc),
+    )
+}
+
 /// The settings of a unit by its assignments.
 pub fn settings_of(
     alloc: Global,
@@ -368,16 +384,14 @@ pub fn settings_of(
 ) -> Result<Settings, AllocError>
     ensures { IfOk result (λ s. settings_of s ≡ model.settings_of unit.now (map assigned_of assigned.now)) }
 {
+    let service = Rc::new(alloc, service_settings_of(alloc, unit, assigned)?)?;
+    let description = description_of(alloc, unit, assigned)?;
+    let install = install_settings_of(alloc, unit, assigned)?;
+    let dependencies = dependencies_of(alloc, unit, assigned)?;
     Ok(Settings {
-        description: last_read(
-            alloc,
-            &Text { alloc, unit },
-            assigned,
-            &[("Unit", "Description")],
-            String::new(alloc),
-        )?,
-        dependencies: dependencies_of(alloc, unit, assigned)?,
-        service: Rc::new(alloc, service_settings_of(alloc, unit, assigned)?)?,
-        install: install_settings_of(alloc, unit, assigned)?,
+        description,
+        dependencies,
+        service,
+        install,
     })
 }

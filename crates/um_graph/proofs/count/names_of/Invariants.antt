@@ -2,5 +2,5 @@ use Rattle.std.proofs.Common.{◌≡◌, ◌++◌}
 use Rattle.std.specs.Map.{keys_of}
 use Rattle.um_graph.proofs.count.names_of.Given as goal
 
-abbrev pub invariant-loop-name : goal.invariant-loop-name
-invariant-loop-name l = l.names.items ++ keys_of l.name-iterator ≡ keys_of l.initial.name-iterator
+abbrev pub invariant-loop-entry : goal.invariant-loop-entry
+invariant-loop-entry l = l.names.items ++ keys_of l.entry-iterator ≡ keys_of l.initial.entry-iterator

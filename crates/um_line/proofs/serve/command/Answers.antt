@@ -1,9 +1,9 @@
-use Rattle.std.proofs.Common.{ap, ◌∙◌}
-use Rattle.clap.specs.Simple.{app_of_fields}
-use Rattle.um_line.proofs.LineReadings.{added}
+use Rattle.um_line.proofs.LineReadings.{added, added_last}
 use Rattle.um_line.proofs.serve.command.Goals as goal
 
 pub returns : goal.returns
 returns c =
-    ap app_of_fields c.after_help-command.ensures ∙ ap app_of_fields c.about.ensures ∙ ap app_of_fields c.override_usage.ensures
-    ∙ (added _ _ _ _ _ (c.in_ok-arg-5.ensures.shape c.word-file.ensures.local) (added _ _ _ _ _ (c.in_ok-arg-4.ensures.shape c.option-runner.ensures.local) (added _ _ _ _ _ (c.in_ok-arg-3.ensures.shape c.option-dir.ensures.local) (added _ _ _ _ _ (c.in_ok-arg-2.ensures.shape c.option-socket.ensures.local) (added _ _ _ _ _ (c.in_ok-arg.ensures.shape c.option-boot.ensures.local) c.new.ensures.app c.option-boot.ensures.rule) c.option-socket.ensures.rule) c.option-dir.ensures.rule) c.option-runner.ensures.rule) c.word-file.ensures.rule)
+    let boot = added _ _ _ _ c.in_ok-command.ensures c.described-command.ensures in
+    let socket = added _ _ _ _ c.in_ok-command-2.ensures boot in
+    let dir = added _ _ _ _ c.in_ok-command-3.ensures socket in
+    let runner = added _ _ _ _ c.in_ok-command-4.ensures dir in added_last _ _ _ _ c.with_word.ensures runner

@@ -7,10 +7,10 @@ use Rattle.um_model.specs.declared.refusals.Limit.TheVariants.{Reply as ReplyLim
 use Rattle.um_proto.proofs.write.refused_text.Goals as goal
 
 pub returns-clause-text : goal.returns-clause-text
-returns-clause-text c = (rw c.in_ok-refused_value.ensures at c.in_ok-bytes.ensures.text) (refused_plain (too_large ReplyLimit))
+returns-clause-text c = (rw c.in_ok-too_long_value.ensures at c.in_ok-bytes.ensures.text) (refused_plain (too_large ReplyLimit))
 
 pub returns-clause-short : goal.returns-clause-short
 returns-clause-short c =
     let told : c.in_ok-bytes.bytes.items ≡ compact_text (refused_data (too_large ReplyLimit)) =
-    (rw c.in_ok-refused_value.ensures at c.in_ok-bytes.ensures.text) (refused_plain (too_large ReplyLimit)) in
+    (rw c.in_ok-too_long_value.ensures at c.in_ok-bytes.ensures.text) (refused_plain (too_large ReplyLimit)) in
     rw told too_large_short
