@@ -1,5 +1,5 @@
 -- Inputs that were offered as a part of a life: what a crash leaves of them, a life may leave whose last offers they are.
-use Rattle.std.proofs.Common.{◌≡◌, ◌≢◌, ◌⊎◌, ◌∙◌, ◌++◌, inl, inr, ℕ, zero, suc, List, [], ◌∷◌, length, map, replicate, take, Bool, true, false, if◌then◌else◌, Result, Ok, Err, append_assoc, refl, sym, ap, subst, true≢false}
+use Rattle.std.proofs.Common.{⊎_elim, IfOk, IfErr, OnErr, ◌≡◌, ◌≢◌, ◌⊎◌, ◌∙◌, ◌++◌, inl, inr, ℕ, zero, suc, List, [], ◌∷◌, length, map, replicate, take, Bool, true, false, if◌then◌else◌, Result, Ok, Err, append_assoc, refl, sym, ap, subst, true≢false}
 use Rattle.std.proofs.lemmas.Bool.{false≢true}
 use Rattle.std.specs.List.{AllByRecursion}
 use Rattle.um_engine.specs.OfStore.{is_of_store}
@@ -14,6 +14,7 @@ use Rattle.um_model.specs.Lives as lives
 use Rattle.um_model.specs.Machine.{State, Input, Run, rests, goes}
 use Rattle.um_model.specs.Machine as machine
 use Rattle.um_laws.proofs.StandsLaws.{one_state}
+use Rattle.um_model.specs.Refusals.{Refused}
 use Rattle.um_model.specs.Service.{Action}
 use Rattle.um_model.specs.Stands.{StandsFor, IsStoreOf}
 use Rattle.um_model.specs.Store.{body_limit}
@@ -323,3 +324,18 @@ refused_goes_on layout s t u before input e old new failed come during kept caus
         ]
       ]
     ]
+
+-- What an input is answered is a part of a life.
+pub step_goes_on : (layout : Layout) (size : ℕ) (s t u : State) (before : List Offer) (input : Input) (answer : Answer) (old new : Past) (failed : Bool)
+    → size ≡ body_limit layout → HasCome layout s before t → During old new (IsBegun layout t (input ∷ []))
+    → IfOk answer (λ receipt. machine.Step size t input receipt.0 receipt.1 u) → IfOk answer (λ receipt. (r : Refused) → receipt.0 ≢ machine.Refusal r)
+    → IfErr answer (λ e. (e ≡ Device) ⊎ During old new (λ image. IsStoreOf layout image t))
+    → IfErr answer (λ e. ((e ≡ NoMemory) ⊎ (e ≡ Device)) ⊎ ((e ≡ GenerationsSpent) ⊎ ((is_of_store e ≡ false) × machine.Step size t input (machine.Refusal (refused_of e)) [] t)))
+    → (answer ≡ Err Device → failed ≡ true) → (failed ≡ false → Images new (λ image. IsStoreOf layout image u)) → OnErr answer (u ≡ t)
+    → GoesOn layout s before (input ∷ []) (answer ∷ []) old new failed u
+step_goes_on layout size s t u before input (Ok given) old new failed same come during step told kept cause faults stored still =
+    one_goes_on layout s t u before input (Ok given) old new failed come (λ is. cc) during (λ nothing. cc) (λ works. accepted (of_size same step) told) stored
+step_goes_on layout size s t u before input (Err e) old new failed same come during step told kept cause faults stored still =
+    refused_goes_on layout s t u before input e old new failed come during kept
+    (⊎_elim (λ lost. inl lost) (λ other. inr (⊎_elim (λ spent. inl spent) (λ own. inr (own.0, of_size same own.1)) other)) cause)
+    (λ device. faults (ap (λ (x : Refusal). Err x) device)) stored still

@@ -16,6 +16,7 @@ ghost use Rattle.um_sector.specs.Refused.{CountsDevice, IsLost};
 ghost use Rattle.um_state.specs.View.{input_of};
 
 use crate::keeper::{Keeper, OpenedStore};
+use crate::receipt::Receipt;
 use std::alloc::{AllocError, Global};
 use um_engine::Engine;
 use um_log::Log;
@@ -79,28 +80,33 @@ fn start_of(alloc: Global, layout: Layout, body: &[u8]) -> Result<Option<Engine>
 }
 
 /// Whether it is want of memory.
-fn is_no_memory(refusal: &Refusal) -> bool
-    ensures { IsTrue result ↔ (refusal.now ≡ Refusal.NoMemory) }
+fn is_no_memory(refusal: Refusal) -> bool
+    ensures { IsTrue result ↔ (refusal ≡ Refusal.NoMemory) }
 {
     matches!(refusal, Refusal::NoMemory)
 }
 
 /// Takes the step of an input that was recorded. One that is refused changes nothing; what it asks of processes is let go.
-fn retake(engine: &mut Engine, input: &Input) -> Result<(), AllocError>
-    ensures ok { OnOk result (Leads (size_in engine.old) (state_in engine.old) (input_of input.now) (state_in engine.new)) }
+fn retake(engine: &mut Engine, input: Input) -> Result<(), AllocError>
+    ensures ok { OnOk result (Leads (size_in engine.old) (state_in engine.old) (input_of input) (state_in engine.new)) }
     ensures size { size_in engine.new ≡ size_in engine.old }
 {
-    let next = match engine.plan(input) {
-        Ok(next) => next,
+    let planned = engine.plan(&input);
+    drop(input);
+    match planned {
+        Ok(next) => {
+            let (reply, actions, back) = engine.commit(next);
+            Receipt::new(reply, actions).let_go();
+            drop(back);
+            Ok(())
+        }
         Err(refusal) => {
-            if is_no_memory(&refusal) {
+            if is_no_memory(refusal) {
                 return Err(AllocError);
             }
-            return Ok(());
+            Ok(())
         }
-    };
-    let _ = engine.commit(next);
-    Ok(())
+    }
 }
 
 /// Takes the steps of the inputs that the records of a log spell, one behind the other, each as it is read.
@@ -133,7 +139,7 @@ fn replay<D: Disk>(
                 sector: found.first as u64,
             });
         };
-        retake(engine, &input)?;
+        retake(engine, input)?;
     }
     Ok(())
 }
