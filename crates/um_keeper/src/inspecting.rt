@@ -36,12 +36,14 @@ fn summary_of(found: Found) -> Summary
     ensures next { result.next ≡ (state_in found.engine).next }
 {
     let state = found.engine.state();
-    Summary {
+    let summary = Summary {
         generation: found.home.generation,
         records: found.log.number as usize,
         clock: state.clock(),
         next: state.next(),
-    }
+    };
+    drop(found.engine);
+    summary
 }
 
 /// What the store on a disk stands for, in short. It reads as `Keeper::open` does, and writes and syncs nothing.

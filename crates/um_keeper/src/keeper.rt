@@ -113,6 +113,7 @@ impl<D: Disk> Keeper<D> {
     pub fn into_disk(self) -> D
         ensures { result ≡ disk_in self }
     {
+        drop(self.engine);
         self.disk
     }
 
