@@ -27,7 +27,7 @@ use Rattle.um_wire.specs.declared.refusal.Refusal.TheVariants.{BadRequest, Unkno
 
 -- what came of an input that was refused so: it was turned away, or not
 data Came (e : Refusal) : Type 0 where
-  away : is_turned_away e ≡ true → outcome_of (Err e) ≡ lives.turned_away → Came e
+  away : (e ≡ NoMemory) ⊎ (e ≡ GenerationsSpent) → is_turned_away e ≡ true → outcome_of (Err e) ≡ lives.turned_away → Came e
   lost_it : e ≡ Device → is_turned_away e ≡ false → outcome_of (Err e) ≡ lives.unanswered → Came e
   again : e ≡ Reopen → Came e
   own : is_turned_away e ≡ false → outcome_of (Err e) ≡ lives.answered (machine.Refusal (refused_of e)) → Came e
@@ -47,21 +47,32 @@ came (Exists path) = own refl refl
 came (BadPath path) = own refl refl
 came (TooLarge limit) = own refl refl
 came NoRoom = own refl refl
-came NoMemory = away refl refl
+came NoMemory = away (inl refl) refl refl
 came Device = lost_it refl refl refl
 came Reopen = again refl
 came (Damaged sector) = own refl refl
 came NotFormatted = own refl refl
-came GenerationsSpent = away refl refl
+came GenerationsSpent = away (inr refl) refl refl
 came (NoSuchJob unit) = own refl refl
 came OtherLayout = own refl refl
+
+-- a refusal that the engine gives is want of memory, or its step's
+pub own_or_memory : (e : Refusal) {P : Type 0} → is_of_store e ≡ false → (¬ (e ≡ NoMemory) → P) → ((e ≡ NoMemory) ⊎ (e ≡ Device)) ⊎ ((e ≡ GenerationsSpent) ⊎ ((is_of_store e ≡ false) × P))
+own_or_memory e {P} of_step told = by (came e)
+  where
+    by : Came e → ((e ≡ NoMemory) ⊎ (e ≡ Device)) ⊎ ((e ≡ GenerationsSpent) ⊎ ((is_of_store e ≡ false) × P))
+    by (away (inl memory) is o) = inl (inl memory)
+    by (away (inr spent) is o) = inr (inl spent)
+    by (lost_it device is o) = inl (inr device)
+    by (again reopen) = absurd (false≢true (sym of_step ∙ ap is_of_store reopen))
+    by (own is o) = inr (inr (of_step, told (λ memory. false≢true (sym is ∙ ap is_turned_away memory))))
 
 -- what came of an input that its step refused
 came_own : (e : Refusal) → is_of_store e ≡ false → is_turned_away e ≡ false → outcome_of (Err e) ≡ lives.answered (machine.Refusal (refused_of e))
 came_own e of_step stays = by (came e)
   where
     by : Came e → outcome_of (Err e) ≡ lives.answered (machine.Refusal (refused_of e))
-    by (away is o) = absurd (false≢true (sym stays ∙ is))
+    by (away which is o) = absurd (false≢true (sym stays ∙ is))
     by (lost_it is isnt o) = absurd (false≢true (sym of_step ∙ ap is_of_store is))
     by (again is) = absurd (false≢true (sym of_step ∙ ap is_of_store is))
     by (own isnt o) = o
@@ -70,7 +81,7 @@ came_away : (e : Refusal) → is_turned_away e ≡ true → outcome_of (Err e) �
 came_away e is = by (came e)
   where
     by : Came e → outcome_of (Err e) ≡ lives.turned_away
-    by (away so o) = o
+    by (away which so o) = o
     by (lost_it device isnt o) = absurd (false≢true (sym isnt ∙ is))
     by (again told) = absurd (false≢true (sym (ap is_turned_away told) ∙ is))
     by (own isnt o) = absurd (false≢true (sym isnt ∙ is))
@@ -147,7 +158,7 @@ untold_taken (Err e) input differs = by (came e)
     stays_in isnt = ap (λ is. if is then [] else input ∷ []) isnt
 
     by : Came e → ((untold (outcome_of (Err e)) ≡ lives.unanswered) × (where_step (Err e) input ≡ input ∷ [])) ⊎ ((untold (outcome_of (Err e)) ≡ lives.turned_away) × (where_step (Err e) input ≡ []))
-    by (away is o) = inr (ap untold o, ap (λ is. if is then [] else input ∷ []) is)
+    by (away which is o) = inr (ap untold o, ap (λ is. if is then [] else input ∷ []) is)
     by (lost_it is isnt o) = inl (ap untold o, stays_in isnt)
     by (again is) = absurd (differs (ap Err is))
     by (own isnt o) = inl (ap untold o, stays_in isnt)
