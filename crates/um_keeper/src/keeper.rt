@@ -194,12 +194,7 @@ impl<D: Disk> Keeper<D> {
     }
 
     /// Takes a planned step, with the receipt of what it answers, once its record is on the disk.
-    fn append(
-        &mut self,
-        input: &Input,
-        next: Next,
-        bytes: &[u8],
-    ) -> Result<Receipt, Refusal>
+    fn append(&mut self, input: &Input, next: Next, bytes: &[u8]) -> Result<Receipt, Refusal>
         requires working { self.old.failed ≡ false }
         requires step { IsPlanned self.old input.now next }
         requires bytes { bytes.now ≡ input_spelling (input_of input.now) }

@@ -1,4 +1,4 @@
-use Rattle.std.proofs.Common.{◌∙◌, ◌++◌, ◌∷◌, [], sym, ap, subst}
+use Rattle.std.proofs.Common.{◌++◌, ◌∷◌, [], sym, ap, subst}
 use Rattle.um_model.specs.Machine.{State}
 use Rattle.um_model.specs.Standing.{Standing}
 use Rattle.um_state.specs.View.{input_of}

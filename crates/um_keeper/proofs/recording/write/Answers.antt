@@ -1,4 +1,4 @@
-use Rattle.std.proofs.Common.{◌≡◌, ◌∙◌, ◌++◌, ◌+◌, ◌∷◌, [], ℕ, List, true, Ok, length, refl, sym, ap, subst, arith}
+use Rattle.std.proofs.Common.{◌∙◌, ◌++◌, ◌+◌, ◌∷◌, [], ℕ, List, Ok, length, refl, ap, subst, arith}
 use Rattle.um_laws.proofs.DiskLaws.{weaker}
 use Rattle.um_model.specs.Disk.{During}
 use Rattle.um_model.specs.Store.{part_count}
