@@ -1,5 +1,5 @@
 -- Inputs that were offered as a part of a life: what a crash leaves of them, a life may leave whose last offers they are.
-use Rattle.std.proofs.Common.{◌≡◌, ◌≢◌, ◌⊎◌, ◌∙◌, ◌++◌, inl, inr, ℕ, zero, suc, List, [], ◌∷◌, length, map, replicate, take, Bool, true, false, if◌then◌else◌, Result, Ok, Err, append_assoc, refl, sym, ap, subst, true≢false}
+use Rattle.std.proofs.Common.{⊎_elim, IfOk, IfErr, OnErr, ◌≡◌, ◌≢◌, ◌⊎◌, ◌∙◌, ◌++◌, inl, inr, ℕ, zero, suc, List, [], ◌∷◌, length, map, replicate, take, Bool, true, false, if◌then◌else◌, Result, Ok, Err, append_assoc, refl, sym, ap, subst, true≢false}
 use Rattle.std.proofs.lemmas.Bool.{false≢true}
 use Rattle.std.specs.List.{AllByRecursion}
 use Rattle.um_engine.specs.OfStore.{is_of_store}
@@ -14,6 +14,7 @@ use Rattle.um_model.specs.Lives as lives
 use Rattle.um_model.specs.Machine.{State, Input, Run, rests, goes}
 use Rattle.um_model.specs.Machine as machine
 use Rattle.um_laws.proofs.StandsLaws.{one_state}
+use Rattle.um_model.specs.Refusals.{Refused}
 use Rattle.um_model.specs.Service.{Action}
 use Rattle.um_model.specs.Stands.{StandsFor, IsStoreOf}
 use Rattle.um_model.specs.Store.{body_limit}
@@ -26,7 +27,7 @@ use Rattle.um_wire.specs.declared.refusal.Refusal.TheVariants.{BadRequest, Unkno
 
 -- what came of an input that was refused so: it was turned away, or not
 data Came (e : Refusal) : Type 0 where
-  away : is_turned_away e ≡ true → outcome_of (Err e) ≡ lives.turned_away → Came e
+  away : (e ≡ NoMemory) ⊎ (e ≡ GenerationsSpent) → is_turned_away e ≡ true → outcome_of (Err e) ≡ lives.turned_away → Came e
   lost_it : e ≡ Device → is_turned_away e ≡ false → outcome_of (Err e) ≡ lives.unanswered → Came e
   again : e ≡ Reopen → Came e
   own : is_turned_away e ≡ false → outcome_of (Err e) ≡ lives.answered (machine.Refusal (refused_of e)) → Came e
@@ -46,21 +47,32 @@ came (Exists path) = own refl refl
 came (BadPath path) = own refl refl
 came (TooLarge limit) = own refl refl
 came NoRoom = own refl refl
-came NoMemory = away refl refl
+came NoMemory = away (inl refl) refl refl
 came Device = lost_it refl refl refl
 came Reopen = again refl
 came (Damaged sector) = own refl refl
 came NotFormatted = own refl refl
-came GenerationsSpent = away refl refl
+came GenerationsSpent = away (inr refl) refl refl
 came (NoSuchJob unit) = own refl refl
 came OtherLayout = own refl refl
+
+-- a refusal that the engine gives is want of memory, or its step's
+pub own_or_memory : (e : Refusal) {P : Type 0} → is_of_store e ≡ false → (¬ (e ≡ NoMemory) → P) → ((e ≡ NoMemory) ⊎ (e ≡ Device)) ⊎ ((e ≡ GenerationsSpent) ⊎ ((is_of_store e ≡ false) × P))
+own_or_memory e {P} of_step told = by (came e)
+  where
+    by : Came e → ((e ≡ NoMemory) ⊎ (e ≡ Device)) ⊎ ((e ≡ GenerationsSpent) ⊎ ((is_of_store e ≡ false) × P))
+    by (away (inl memory) is o) = inl (inl memory)
+    by (away (inr spent) is o) = inr (inl spent)
+    by (lost_it device is o) = inl (inr device)
+    by (again reopen) = absurd (false≢true (sym of_step ∙ ap is_of_store reopen))
+    by (own is o) = inr (inr (of_step, told (λ memory. false≢true (sym is ∙ ap is_turned_away memory))))
 
 -- what came of an input that its step refused
 came_own : (e : Refusal) → is_of_store e ≡ false → is_turned_away e ≡ false → outcome_of (Err e) ≡ lives.answered (machine.Refusal (refused_of e))
 came_own e of_step stays = by (came e)
   where
     by : Came e → outcome_of (Err e) ≡ lives.answered (machine.Refusal (refused_of e))
-    by (away is o) = absurd (false≢true (sym stays ∙ is))
+    by (away which is o) = absurd (false≢true (sym stays ∙ is))
     by (lost_it is isnt o) = absurd (false≢true (sym of_step ∙ ap is_of_store is))
     by (again is) = absurd (false≢true (sym of_step ∙ ap is_of_store is))
     by (own isnt o) = o
@@ -69,7 +81,7 @@ came_away : (e : Refusal) → is_turned_away e ≡ true → outcome_of (Err e) �
 came_away e is = by (came e)
   where
     by : Came e → outcome_of (Err e) ≡ lives.turned_away
-    by (away so o) = o
+    by (away which so o) = o
     by (lost_it device isnt o) = absurd (false≢true (sym isnt ∙ is))
     by (again told) = absurd (false≢true (sym (ap is_turned_away told) ∙ is))
     by (own isnt o) = absurd (false≢true (sym isnt ∙ is))
@@ -146,7 +158,7 @@ untold_taken (Err e) input differs = by (came e)
     stays_in isnt = ap (λ is. if is then [] else input ∷ []) isnt
 
     by : Came e → ((untold (outcome_of (Err e)) ≡ lives.unanswered) × (where_step (Err e) input ≡ input ∷ [])) ⊎ ((untold (outcome_of (Err e)) ≡ lives.turned_away) × (where_step (Err e) input ≡ []))
-    by (away is o) = inr (ap untold o, ap (λ is. if is then [] else input ∷ []) is)
+    by (away which is o) = inr (ap untold o, ap (λ is. if is then [] else input ∷ []) is)
     by (lost_it is isnt o) = inl (ap untold o, stays_in isnt)
     by (again is) = absurd (differs (ap Err is))
     by (own isnt o) = inl (ap untold o, stays_in isnt)
@@ -323,3 +335,18 @@ refused_goes_on layout s t u before input e old new failed come during kept caus
         ]
       ]
     ]
+
+-- What an input is answered is a part of a life.
+pub step_goes_on : (layout : Layout) (size : ℕ) (s t u : State) (before : List Offer) (input : Input) (answer : Answer) (old new : Past) (failed : Bool)
+    → size ≡ body_limit layout → HasCome layout s before t → During old new (IsBegun layout t (input ∷ []))
+    → IfOk answer (λ receipt. machine.Step size t input receipt.0 receipt.1 u) → IfOk answer (λ receipt. (r : Refused) → receipt.0 ≢ machine.Refusal r)
+    → IfErr answer (λ e. (e ≡ Device) ⊎ During old new (λ image. IsStoreOf layout image t))
+    → IfErr answer (λ e. ((e ≡ NoMemory) ⊎ (e ≡ Device)) ⊎ ((e ≡ GenerationsSpent) ⊎ ((is_of_store e ≡ false) × machine.Step size t input (machine.Refusal (refused_of e)) [] t)))
+    → (answer ≡ Err Device → failed ≡ true) → (failed ≡ false → Images new (λ image. IsStoreOf layout image u)) → OnErr answer (u ≡ t)
+    → GoesOn layout s before (input ∷ []) (answer ∷ []) old new failed u
+step_goes_on layout size s t u before input (Ok given) old new failed same come during step told kept cause faults stored still =
+    one_goes_on layout s t u before input (Ok given) old new failed come (λ is. cc) during (λ nothing. cc) (λ works. accepted (of_size same step) told) stored
+step_goes_on layout size s t u before input (Err e) old new failed same come during step told kept cause faults stored still =
+    refused_goes_on layout s t u before input e old new failed come during kept
+    (⊎_elim (λ lost. inl lost) (λ other. inr (⊎_elim (λ spent. inl spent) (λ own. inr (own.0, of_size same own.1)) other)) cause)
+    (λ device. faults (ap (λ (x : Refusal). Err x) device)) stored still

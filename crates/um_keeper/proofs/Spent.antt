@@ -26,6 +26,13 @@ free_still layout generation next free = record {
 pub free_at : {D : Type 0} {g : _} {k : Keeper D g} {from : ℕ} → IsFreeFrom k from → IsFreeAt k.log from
 free_at free = record { start = free.start; behind = free.behind }
 
+-- behind what was written
+pub free_behind : {log l : Log} {from : ℕ} (n : ℕ) → l.layout ≡ log.layout → l.generation ≡ log.generation → l.next ≡ log.next + n → IsFreeAt log from → IsFreeAt l (from + n)
+free_behind n layout generation next free = record {
+  start = omega (arith, free.start, ap (λ (z : Layout). log_start z 0) layout);
+  behind = λ last. omega (arith, next, free.behind (sym generation ∙ last));
+}
+
 pub free_at_more : {log : Log} {from : ℕ} (n : ℕ) → IsFreeAt log from → IsFreeAt log (from + n)
 free_at_more n free = record { start = omega (arith, free.start); behind = λ last. omega (arith, free.behind last) }
 

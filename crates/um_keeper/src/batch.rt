@@ -59,7 +59,7 @@ fn keep(backs: &mut Vec<Back>, back: Back)
 fn let_one_go(answer: Result<Receipt, Refusal>) {
     match answer {
         Ok(receipt) => receipt.let_go(),
-        Err(_) => {}
+        Err(refusal) => drop(refusal),
     }
 }
 
@@ -426,7 +426,8 @@ impl<D: Disk> Keeper<D> {
                 self.log = ahead.log;
                 Ok(answers)
             }
-            Err(_) => {
+            Err(refusal) => {
+                drop(refusal);
                 self.home = ahead.home;
                 self.log = ahead.log;
                 self.failed = true;

@@ -82,6 +82,9 @@ pub fn create<D: Disk>(alloc: Global, disk: &mut D, layout: Layout) -> Result<()
     ensures honest { D.honest disk.new ≡ D.honest disk.old }
 {
     // All that takes memory comes before the first write.
-    let body = spell(alloc, &State::empty(alloc))?;
+    let empty = State::empty(alloc);
+    let spelled = spell(alloc, &empty);
+    drop(empty);
+    let body = spelled?;
     lay(disk, layout, &body)
 }

@@ -29,19 +29,21 @@ pub struct Summary {
 }
 
 /// What was taken up, in short.
-fn summary_of(found: &Found) -> Summary
-    ensures generation { result.generation ≡ found.now.home.generation }
-    ensures records { result.records ≡ found.now.log.number }
-    ensures clock { result.clock ≡ (state_in found.now.engine).clock }
-    ensures next { result.next ≡ (state_in found.now.engine).next }
+fn summary_of(found: Found) -> Summary
+    ensures generation { result.generation ≡ found.home.generation }
+    ensures records { result.records ≡ found.log.number }
+    ensures clock { result.clock ≡ (state_in found.engine).clock }
+    ensures next { result.next ≡ (state_in found.engine).next }
 {
     let state = found.engine.state();
-    Summary {
+    let summary = Summary {
         generation: found.home.generation,
         records: found.log.number as usize,
         clock: state.clock(),
         next: state.next(),
-    }
+    };
+    drop(found.engine);
+    summary
 }
 
 /// What the store on a disk stands for, in short. It reads as `Keeper::open` does, and writes and syncs nothing.
@@ -57,7 +59,7 @@ pub fn inspect<D: Disk>(alloc: Global, disk: &mut D) -> Result<Summary, Refusal>
     ensures honest { D.honest disk.new ≡ D.honest disk.old }
 {
     let taken = take_up(alloc, disk)?;
-    Ok(summary_of(&taken))
+    Ok(summary_of(taken))
 }
 
 /// What the store on a disk stands for, in short, with its state. It reads as `inspect` does and is refused as that is.
@@ -71,6 +73,7 @@ pub fn look<D: Disk>(alloc: Global, disk: &mut D) -> Result<(Summary, State), Re
     ensures honest { D.honest disk.new ≡ D.honest disk.old }
 {
     let found = take_up(alloc, disk)?;
-    let state = found.engine.state().copy()?;
-    Ok((summary_of(&found), state))
+    let state = found.engine.state().copy();
+    let summary = summary_of(found);
+    Ok((summary, state?))
 }

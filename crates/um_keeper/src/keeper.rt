@@ -3,7 +3,7 @@ ghost use Rattle.std.proofs.Props.{props};
 ghost use Rattle.std.specs.Coded.{codes};
 ghost use Rattle.std.specs.FinMap as maps;
 ghost use Rattle.um_engine.specs.Engine as machine;
-ghost use Rattle.um_engine.specs.Engine.{reply_in, actions_in, state_after, state_before};
+ghost use Rattle.um_engine.specs.Engine.{reply_in, actions_in, state_after};
 ghost use Rattle.um_engine.specs.OfStore.{is_of_store};
 ghost use Rattle.um_keeper.specs.Keeping.{MayHold, Keeps, IsBegun, record_calls, snapshot_calls};
 ghost use Rattle.um_keeper.specs.Offers.{HasCome, GoesOn};
@@ -25,7 +25,7 @@ ghost use Rattle.um_wire.specs.Refusal.{refused_of};
 
 use crate::receipt::Receipt;
 use std::alloc::{AllocError, Global};
-use um_engine::{Back, Engine, Next};
+use um_engine::{Engine, Next};
 use um_log::Log;
 use um_sector::Disk;
 use um_slot::{Home, write_other};
@@ -113,6 +113,7 @@ impl<D: Disk> Keeper<D> {
     pub fn into_disk(self) -> D
         ensures { result ≡ disk_in self }
     {
+        drop(self.engine);
         self.disk
     }
 
@@ -192,13 +193,8 @@ impl<D: Disk> Keeper<D> {
         self.checkpoint()
     }
 
-    /// Takes a planned step, with the receipt of what it answers and the way back, once its record is on the disk.
-    fn append(
-        &mut self,
-        input: &Input,
-        next: Next,
-        bytes: &[u8],
-    ) -> Result<(Receipt, Back), Refusal>
+    /// Takes a planned step, with the receipt of what it answers, once its record is on the disk.
+    fn append(&mut self, input: &Input, next: Next, bytes: &[u8]) -> Result<Receipt, Refusal>
         requires working { self.old.failed ≡ false }
         requires step { IsPlanned self.old input.now next }
         requires bytes { bytes.now ≡ input_spelling (input_of input.now) }
@@ -206,8 +202,7 @@ impl<D: Disk> Keeper<D> {
         requires fits { Fits (layout_in self.old) (log_generation_in self.old) (next_in self.old) (length bytes.now) }
         ensures during { IsTrue (D.honest (disk_in self.old))
             → During (D.past (disk_in self.old)) (D.past (disk_in self.new)) (IsBegun (layout_in self.old) (state_in self.old) (input_of input.now ∷ [])) }
-        ensures ok { IfOk result (λ taken. (taken.0.0 ≡ reply_in next) × (taken.0.1 ≡ actions_in next) × (standing_in self.new ≡ state_after next (standing_in self.old))) }
-        ensures back { IfOk result (λ taken. state_before taken.1 (standing_in self.new) ≡ standing_in self.old) }
+        ensures ok { IfOk result (λ receipt. (receipt.0 ≡ reply_in next) × (receipt.1 ≡ actions_in next) × (standing_in self.new ≡ state_after next (standing_in self.old))) }
         ensures state { OnErr result (standing_in self.new ≡ standing_in self.old) }
         ensures place { IsSamePlace self.old self.new }
         ensures grows { generation_in self.old ≤ generation_in self.new }
@@ -226,21 +221,24 @@ impl<D: Disk> Keeper<D> {
         match self.log.append(&mut self.disk, bytes) {
             Ok(true) => {
                 let (reply, actions, back) = self.engine.commit(next);
-                Ok((Receipt::new(reply, actions), back))
+                drop(back);
+                Ok(Receipt::new(reply, actions))
             }
             Ok(false) => unreachable!(),
-            Err(refusal) => Err(noted(&mut self.failed, refusal)),
+            Err(refusal) => {
+                drop(next);
+                Err(noted(&mut self.failed, refusal))
+            }
         }
     }
 
     /// Records a planned input and takes its step, behind a checkpoint where the log has no room for it.
-    fn record(&mut self, input: &Input, next: Next) -> Result<(Receipt, Back), Refusal>
+    fn record(&mut self, input: &Input, next: Next) -> Result<Receipt, Refusal>
         requires working { self.old.failed ≡ false }
         requires step { IsPlanned self.old input.now next }
         ensures during { IsTrue (D.honest (disk_in self.old))
             → During (D.past (disk_in self.old)) (D.past (disk_in self.new)) (IsBegun (layout_in self.old) (state_in self.old) (input_of input.now ∷ [])) }
-        ensures ok { IfOk result (λ taken. (taken.0.0 ≡ reply_in next) × (taken.0.1 ≡ actions_in next) × (standing_in self.new ≡ state_after next (standing_in self.old))) }
-        ensures back { IfOk result (λ taken. state_before taken.1 (standing_in self.new) ≡ standing_in self.old) }
+        ensures ok { IfOk result (λ receipt. (receipt.0 ≡ reply_in next) × (receipt.1 ≡ actions_in next) × (standing_in self.new ≡ state_after next (standing_in self.old))) }
         ensures state { OnErr result (standing_in self.new ≡ standing_in self.old) }
         ensures kept { IfErr result (λ e. (e ≡ Refusal.Device) ⊎ (IsTrue (D.honest (disk_in self.old))
             → During (D.past (disk_in self.old)) (D.past (disk_in self.new)) (λ image. IsStoreOf (layout_in self.old) image (state_in self.old)))) }
@@ -260,20 +258,30 @@ impl<D: Disk> Keeper<D> {
         ensures size { D.size (disk_in self.new) ≡ D.size (disk_in self.old) }
         ensures honest { D.honest (disk_in self.new) ≡ D.honest (disk_in self.old) }
     {
-        let bytes = spell(self.alloc, input)?;
-        self.make_room(bytes.len())?;
-        self.append(input, next, &bytes)
+        let bytes = match spell(self.alloc, input) {
+            Ok(bytes) => bytes,
+            Err(AllocError) => {
+                drop(next);
+                return Err(Refusal::NoMemory);
+            }
+        };
+        match self.make_room(bytes.len()) {
+            Ok(()) => self.append(input, next, &bytes),
+            Err(refusal) => {
+                drop(next);
+                Err(refusal)
+            }
+        }
     }
 
-    /// Takes a step, as `submit` does, and gives the way back with the receipt.
-    pub(crate) fn take_step(&mut self, input: &Input) -> Result<(Receipt, Back), Refusal>
+    /// Takes a step, as `submit` does.
+    fn take_step(&mut self, input: &Input) -> Result<Receipt, Refusal>
         requires working { self.old.failed ≡ false }
         ensures during { IsTrue (D.honest (disk_in self.old))
             → During (D.past (disk_in self.old)) (D.past (disk_in self.new)) (IsBegun (layout_in self.old) (state_in self.old) (input_of input.now ∷ [])) }
-        ensures ok { IfOk result (λ taken. Step (size_in self.old) (state_in self.old) (input_of input.now) taken.0.0 taken.0.1 (state_in self.new)) }
-        ensures accepted { IfOk result (λ taken. (r : Refused) → taken.0.0 ≢ model.Refusal r) }
-        ensures order { IfOk result (λ taken. AreNew (state_in self.old).next (state_in self.new).next (started_numbers taken.0.1)) }
-        ensures back { IfOk result (λ taken. state_before taken.1 (standing_in self.new) ≡ standing_in self.old) }
+        ensures ok { IfOk result (λ receipt. Step (size_in self.old) (state_in self.old) (input_of input.now) receipt.0 receipt.1 (state_in self.new)) }
+        ensures accepted { IfOk result (λ receipt. (r : Refused) → receipt.0 ≢ model.Refusal r) }
+        ensures order { IfOk result (λ receipt. AreNew (state_in self.old).next (state_in self.new).next (started_numbers receipt.1)) }
         ensures stored { has_failed self.new ≡ false → IsTrue (D.honest (disk_in self.old))
             → Images (D.past (disk_in self.new)) (λ image. IsStoreOf (layout_in self.old) image (state_in self.new)) }
         ensures state { OnErr result (standing_in self.new ≡ standing_in self.old) }
@@ -306,7 +314,8 @@ impl<D: Disk> Keeper<D> {
             return self.record(input, next);
         }
         let (reply, actions, back) = self.engine.commit(next);
-        Ok((Receipt::new(reply, actions), back))
+        drop(back);
+        Ok(Receipt::new(reply, actions))
     }
 
     /// Takes a step: plans it, records it and syncs, and only then answers.
@@ -349,9 +358,11 @@ impl<D: Disk> Keeper<D> {
         ensures honest { D.honest (disk_in self.new) ≡ D.honest (disk_in self.old) }
     {
         if self.failed {
+            drop(input);
             return Err(Refusal::Reopen);
         }
-        let (receipt, _) = self.take_step(&input)?;
-        Ok(receipt)
+        let answer = self.take_step(&input);
+        drop(input);
+        answer
     }
 }

@@ -16,6 +16,7 @@ ghost use Rattle.um_sector.specs.Refused.{CountsDevice, IsLost};
 ghost use Rattle.um_state.specs.View.{input_of};
 
 use crate::keeper::{Keeper, OpenedStore};
+use crate::receipt::Receipt;
 use std::alloc::{AllocError, Global};
 use um_engine::Engine;
 use um_log::Log;
@@ -79,28 +80,35 @@ fn start_of(alloc: Global, layout: Layout, body: &[u8]) -> Result<Option<Engine>
 }
 
 /// Whether it is want of memory.
-fn is_no_memory(refusal: &Refusal) -> bool
-    ensures { IsTrue result ↔ (refusal.now ≡ Refusal.NoMemory) }
+fn is_no_memory(refusal: Refusal) -> bool
+    ensures { IsTrue result ↔ (refusal ≡ Refusal.NoMemory) }
 {
-    matches!(refusal, Refusal::NoMemory)
+    let is_no_memory = matches!(refusal, Refusal::NoMemory);
+    drop(refusal);
+    is_no_memory
 }
 
 /// Takes the step of an input that was recorded. One that is refused changes nothing; what it asks of processes is let go.
-fn retake(engine: &mut Engine, input: &Input) -> Result<(), AllocError>
-    ensures ok { OnOk result (Leads (size_in engine.old) (state_in engine.old) (input_of input.now) (state_in engine.new)) }
+fn retake(engine: &mut Engine, input: Input) -> Result<(), AllocError>
+    ensures ok { OnOk result (Leads (size_in engine.old) (state_in engine.old) (input_of input) (state_in engine.new)) }
     ensures size { size_in engine.new ≡ size_in engine.old }
 {
-    let next = match engine.plan(input) {
-        Ok(next) => next,
+    let planned = engine.plan(&input);
+    drop(input);
+    match planned {
+        Ok(next) => {
+            let (reply, actions, back) = engine.commit(next);
+            Receipt::new(reply, actions).let_go();
+            drop(back);
+            Ok(())
+        }
         Err(refusal) => {
-            if is_no_memory(&refusal) {
+            if is_no_memory(refusal) {
                 return Err(AllocError);
             }
-            return Ok(());
+            Ok(())
         }
-    };
-    let _ = engine.commit(next);
-    Ok(())
+    }
 }
 
 /// Takes the steps of the inputs that the records of a log spell, one behind the other, each as it is read.
@@ -133,7 +141,7 @@ fn replay<D: Disk>(
                 sector: found.first as u64,
             });
         };
-        retake(engine, &input)?;
+        retake(engine, input)?;
     }
     Ok(())
 }
@@ -162,13 +170,18 @@ pub(crate) fn take_up<D: Disk>(alloc: Global, disk: &mut D) -> Result<Found, Ref
         return Err(Refusal::Damaged { sector });
     };
     let mut log = Log::new(layout, home.generation);
-    replay(alloc, disk, &mut engine, &mut log)?;
-    Ok(Found {
-        layout,
-        home,
-        engine,
-        log,
-    })
+    match replay(alloc, disk, &mut engine, &mut log) {
+        Ok(()) => Ok(Found {
+            layout,
+            home,
+            engine,
+            log,
+        }),
+        Err(refusal) => {
+            drop(engine);
+            Err(refusal)
+        }
+    }
 }
 
 /// The greatest generation that stands on the disk of a store, which isn't the last there is: E20 where it is.
@@ -213,23 +226,33 @@ fn renew<D: Disk>(alloc: Global, disk: &mut D, found: Found, greatest: u64) -> R
     ensures size { D.size disk.new ≡ D.size disk.old }
     ensures honest { D.honest disk.new ≡ D.honest disk.old }
 {
-    let body = spell(alloc, found.engine.state())?;
+    let body = match spell(alloc, found.engine.state()) {
+        Ok(body) => body,
+        Err(AllocError) => {
+            drop(found.engine);
+            return Err(Refusal::NoMemory);
+        }
+    };
     let last = Home {
         slot: found.home.slot,
         generation: greatest,
     };
-    let Some(home) = write_other(disk, found.layout, last, &body)? else {
-        unreachable!();
-    };
-    Ok(Held {
-        engine: found.engine,
-        home,
-        log: Log::new(found.layout, home.generation),
-        opened: OpenedStore {
-            generation: found.home.generation,
-            records: found.log.number as usize,
-        },
-    })
+    match write_other(disk, found.layout, last, &body) {
+        Ok(Some(home)) => Ok(Held {
+            engine: found.engine,
+            home,
+            log: Log::new(found.layout, home.generation),
+            opened: OpenedStore {
+                generation: found.home.generation,
+                records: found.log.number as usize,
+            },
+        }),
+        Ok(None) => unreachable!(),
+        Err(refusal) => {
+            drop(found.engine);
+            Err(refusal)
+        }
+    }
 }
 
 /// Syncs, takes up the store that the disk holds, and writes its state as the next generation.
@@ -251,8 +274,13 @@ pub(crate) fn recover<D: Disk>(alloc: Global, disk: &mut D) -> Result<Held, Refu
 {
     disk.sync()?;
     let found = take_up(alloc, disk)?;
-    let greatest = greatest_but_last(disk, &found.log)?;
-    renew(alloc, disk, found, greatest)
+    match greatest_but_last(disk, &found.log) {
+        Ok(greatest) => renew(alloc, disk, found, greatest),
+        Err(refusal) => {
+            drop(found.engine);
+            Err(refusal)
+        }
+    }
 }
 
 impl<D: Disk> Keeper<D> {

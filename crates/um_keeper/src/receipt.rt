@@ -139,9 +139,8 @@ impl Receipt {
 
     /// Lets go of a receipt that nobody was given.
     pub(crate) fn let_go(self) {
-        let Receipt {
-            reply: _,
-            actions: _,
-        } = self;
+        let Receipt { reply, actions } = self;
+        drop(reply);
+        drop(actions);
     }
 }

@@ -99,46 +99,45 @@ fn make_room<D: Disk>(
     renew(alloc, disk, ahead, engine)
 }
 
-/// Writes the record of a planned input, for which there is room, and takes the step, with the receipt of what it answers and the way
-/// back. E16, with no step taken.
-fn append<D: Disk>(
+/// Writes the record of an input without a sync, behind a snapshot where the log has no room for it. E15 and E20, with nothing written; E16.
+fn write<D: Disk>(
+    alloc: Global,
     disk: &mut D,
     ahead: &mut Ahead,
-    engine: &mut Engine,
+    engine: &Engine,
     input: &Input,
-    next: Next,
-    bytes: &[u8],
-) -> Result<(Receipt, Back), Refusal>
-    requires held { MayHold ahead.old.log.layout (size_in engine.old) (state_in engine.old) }
-    requires step { IsPlannedBy engine.old input.now next }
-    requires bytes { bytes.now ≡ input_spelling (input_of input.now) }
-    requires has_bytes { FitInput (input_of input.now) }
-    requires fits { Fits ahead.old.log.layout ahead.old.log.generation ahead.old.log.next (length bytes.now) }
-    ensures during { IsTrue (D.honest disk.old) → (s : model.State) (taken : List model.Input) → UnderwayIn s taken (D.past disk.old) ahead.old (state_in engine.old)
-        → During (D.past disk.old) (D.past disk.new) (IsBegun ahead.old.log.layout s (taken ++ input_of input.now ∷ [])) }
-    ensures under { OnOk result (IsTrue (D.honest disk.old) → (s : model.State) (taken : List model.Input) → UnderwayIn s taken (D.past disk.old) ahead.old (state_in engine.old)
-        → UnderwayIn s (taken ++ input_of input.now ∷ []) (D.past disk.new) ahead.new (state_in engine.new)) }
-    ensures ok { IfOk result (λ made. (made.0.0 ≡ reply_in next) × (made.0.1 ≡ actions_in next) × (standing_in engine.new ≡ state_after next (standing_in engine.old))) }
-    ensures back { IfOk result (λ made. state_before made.1 (standing_in engine.new) ≡ standing_in engine.old) }
-    ensures state { OnErr result (engine.new ≡ engine.old) }
-    ensures held { MayHold ahead.new.log.layout (size_in engine.new) (state_in engine.new) }
-    ensures sized { size_in engine.new ≡ size_in engine.old }
+) -> Result<(), Refusal>
+    requires held { MayHold ahead.old.log.layout (size_in engine.now) (state_in engine.now) }
+    requires short { FitInput (input_of input.now) → length (input_spelling (input_of input.now)) ≤ input_limit }
+    ensures during { IsTrue (D.honest disk.old) → (next : Next) → IsPlannedBy engine.now input.now next → (s : model.State) (taken : List model.Input)
+        → UnderwayIn s taken (D.past disk.old) ahead.old (state_in engine.now) → During (D.past disk.old) (D.past disk.new) (IsBegun ahead.old.log.layout s (taken ++ input_of input.now ∷ [])) }
+    ensures under { OnOk result (IsTrue (D.honest disk.old) → (next : Next) → IsPlannedBy engine.now input.now next → (s : model.State) (taken : List model.Input)
+        → UnderwayIn s taken (D.past disk.old) ahead.old (state_in engine.now) → UnderwayIn s (taken ++ input_of input.now ∷ []) (D.past disk.new) ahead.new (state_after next (standing_in engine.now)).state) }
+    ensures has_bytes { OnOk result (FitInput (input_of input.now)) }
     ensures filled { OnOk result ((from : ℕ) → IsFreeAt ahead.old.log from → IsFreeAt ahead.new.log (from + part_count (length (input_spelling (input_of input.now))))) }
-    ensures next { OnOk result (ahead.new.log.next ≡ ahead.old.log.next + part_count (length (input_spelling (input_of input.now)))) }
     ensures unsynced { OnOk result (ahead.new.unsynced ≡ true) }
-    ensures of { (ahead.new.log.layout ≡ ahead.old.log.layout) × (ahead.new.log.generation ≡ ahead.old.log.generation) }
-    ensures refused { IfErr result (λ e. e ≡ Refusal.Device) }
-    ensures syncs { IsTrue (D.honest disk.old) → sync_count (D.past disk.new) ≡ sync_count (D.past disk.old) }
-    ensures calls { D.calls disk.new ≤ D.calls disk.old + part_count (length (input_spelling (input_of input.now))) }
+    ensures layout { ahead.new.log.layout ≡ ahead.old.log.layout }
+    ensures grows { ahead.old.log.generation ≤ ahead.new.log.generation }
+    ensures kept { IfErr result (λ e. (e ≡ Refusal.Device) ⊎ ((disk.new ≡ disk.old) × (ahead.new ≡ ahead.old))) }
+    ensures refused { IfErr result (λ e. IsLost e ⊎ (e ≡ Refusal.GenerationsSpent)) }
+    ensures spent { result ≡ Err Refusal.GenerationsSpent → LacksRoom ahead.old.log (length (input_spelling (input_of input.now))) }
+    ensures fits_syncs { OnOk result (ahead.old.log.next + part_count (length (input_spelling (input_of input.now))) ≤ log_end ahead.old.log.layout ahead.old.log.generation
+        → IsTrue (D.honest disk.old) → sync_count (D.past disk.new) ≡ sync_count (D.past disk.old)) }
+    ensures fits_next { OnOk result (ahead.old.log.next + part_count (length (input_spelling (input_of input.now))) ≤ log_end ahead.old.log.layout ahead.old.log.generation
+        → ahead.new.log.next ≡ ahead.old.log.next + part_count (length (input_spelling (input_of input.now)))) }
+    ensures fits_calls { OnOk result (ahead.old.log.next + part_count (length (input_spelling (input_of input.now))) ≤ log_end ahead.old.log.layout ahead.old.log.generation
+        → D.calls disk.new ≤ D.calls disk.old + part_count (length (input_spelling (input_of input.now)))) }
+    ensures calls { D.calls disk.new ≤ D.calls disk.old + snapshot_calls (state_in engine.now) + part_count (length (input_spelling (input_of input.now))) }
     ensures device { CountsDevice result (D.failures disk.old) (D.failures disk.new) }
     ensures size { D.size disk.new ≡ D.size disk.old }
     ensures honest { D.honest disk.new ≡ D.honest disk.old }
 {
-    match ahead.log.write(disk, bytes) {
+    let bytes = spell(alloc, input)?;
+    make_room(alloc, disk, ahead, engine, bytes.len())?;
+    match ahead.log.write(disk, &bytes) {
         Ok(true) => {
             ahead.unsynced = true;
-            let (reply, actions, back) = engine.commit(next);
-            Ok((Receipt::new(reply, actions), back))
+            Ok(())
         }
         Ok(false) => unreachable!(),
         Err(refusal) => Err(refusal),
@@ -182,7 +181,14 @@ pub(crate) fn record<D: Disk>(
     ensures size { D.size disk.new ≡ D.size disk.old }
     ensures honest { D.honest disk.new ≡ D.honest disk.old }
 {
-    let bytes = spell(alloc, input)?;
-    make_room(alloc, disk, ahead, engine, bytes.len())?;
-    append(disk, ahead, engine, input, next, &bytes)
+    match write(alloc, disk, ahead, engine, input) {
+        Ok(()) => {
+            let (reply, actions, back) = engine.commit(next);
+            Ok((Receipt::new(reply, actions), back))
+        }
+        Err(refusal) => {
+            drop(next);
+            Err(refusal)
+        }
+    }
 }

@@ -8,7 +8,8 @@ use Rattle.um_model.specs.Store.{part_count}
 use Rattle.um_state.specs.View.{input_of}
 use Rattle.um_keeper.specs.Answering.{Answered, accepted, where_step, sectors_for, state_before_all}
 use Rattle.um_keeper.specs.Keeping.{IsBegun}
-use Rattle.um_keeper.specs.Underway.{UnderwayIn}
+use Rattle.um_keeper.specs.Underway.{UnderwayIn, IsFreeAt}
+use Rattle.um_sector.specs.Unsynced.{sync_count}
 use Rattle.um_keeper.specs.declared.ahead.Ahead.{Ahead}
 use Rattle.um_keeper.proofs.Batching.{answered_refused, back_append, done_answered}
 use Rattle.um_keeper.proofs.Kept.{calls_at_most}
@@ -81,3 +82,26 @@ returns-else-is_fault-clause-under g c h s before under =
 
 pub returns-else-is_fault-clause-calls : goal.returns-else-is_fault-clause-calls
 returns-else-is_fault-clause-calls g c = calls_at_most c.requires.held _ _ _ c.take_step.ensures.calls
+
+pub returns-else-is_fault-clause-free : goal.returns-else-is_fault-clause-free
+returns-else-is_fault-clause-free g c from free =
+    let same = the_other (λ d. false≢true (sym c.if-is_fault.false ∙ c.is_fault.ensures.1 d)) c.in-Err.ensures.kept in
+    let n = sectors_for (Err c.in-Err.refusal) (input_of c.args.input.now) in
+    subst (λ (a : Ahead). IsFreeAt a.log (from + n)) (sym same.1) (free_at_more n free)
+
+pub returns-else-is_fault-clause-fitted : goal.returns-else-is_fault-clause-fitted
+returns-else-is_fault-clause-fitted g c fits =
+    let same = the_other (λ d. false≢true (sym c.if-is_fault.false ∙ c.is_fault.ensures.1 d)) c.in-Err.ensures.kept in
+    let next = ap (λ (a : Ahead). a.log.next) same.1 in
+    let calls = ap (λ d. g.D.Disk.calls d) same.0 in
+    ((λ h. ap (λ d. sync_count (g.D.Disk.past d)) same.0), omega (arith, next), omega (arith, calls))
+
+pub returns-else-is_fault-clause-clean : goal.returns-else-is_fault-clause-clean
+returns-else-is_fault-clause-clean g c is =
+    let same = the_other (λ d. false≢true (sym c.if-is_fault.false ∙ c.is_fault.ensures.1 d)) c.in-Err.ensures.kept in
+    (ap (λ (a : Ahead). a.unsynced) (sym same.1) ∙ is, tt)
+
+pub returns-else-is_fault-clause-unrecorded : goal.returns-else-is_fault-clause-unrecorded
+returns-else-is_fault-clause-unrecorded g c none =
+    let same = the_other (λ d. false≢true (sym c.if-is_fault.false ∙ c.is_fault.ensures.1 d)) c.in-Err.ensures.kept in
+    (same.0, same.1, ap (λ (e : Engine). state_in e) c.in-Err.ensures.state)

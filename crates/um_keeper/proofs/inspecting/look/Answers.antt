@@ -6,6 +6,6 @@ use Rattle.um_keeper.proofs.inspecting.look.Goals as goal
 
 pub returns-clause-stands : goal.returns-clause-stands
 returns-clause-stands g c h =
-    subst (λ s. IsSummed (g.D.Disk.size c.args.disk.now) (seen (g.D.Disk.past c.args.disk.now)) c.summary_of.result s) (sym (c.in_ok-state.ensures ∙ c.state.ensures))
-    (summed c.summary_of.result (c.in_ok-found.ensures.found h) (c.in_ok-found.ensures.behind h)
-    c.summary_of.ensures.generation c.summary_of.ensures.records c.summary_of.ensures.clock c.summary_of.ensures.next)
+    subst (λ s. IsSummed (g.D.Disk.size c.args.disk.now) (seen (g.D.Disk.past c.args.disk.now)) c.summary_of-summary.result s) (sym (c.in_ok-state.ensures ∙ c.state.ensures))
+    (summed c.summary_of-summary.result (c.in_ok-found.ensures.found h) (c.in_ok-found.ensures.behind h)
+    c.summary_of-summary.ensures.generation c.summary_of-summary.ensures.records c.summary_of-summary.ensures.clock c.summary_of-summary.ensures.next)

@@ -18,11 +18,10 @@ pub returns-in_err-found-clause-unwritten : goal.returns-in_err-found-clause-unw
 returns-in_err-found-clause-unwritten g c =
     if_err_all c.from_residual-in_err-found.result _ (λ e h. inl (inr (c.take_up.ensures.past (c.sync.ensures.honest ∙ h) ∙ c.in_ok-sync.ensures.past h)))
 
-pub returns-in_err-greatest-clause-unwritten : goal.returns-in_err-greatest-clause-unwritten
-returns-in_err-greatest-clause-unwritten g c =
-    if_err_all c.from_residual-in_err-greatest.result _ (λ e h.
+pub returns-in-Err-clause-unwritten : goal.returns-in-Err-clause-unwritten
+returns-in-Err-clause-unwritten g c h =
     let h1 = c.sync.ensures.honest ∙ h in
-    inl (inr (c.greatest_but_last.ensures.past (c.take_up.ensures.honest ∙ h1) ∙ (c.take_up.ensures.past h1 ∙ c.in_ok-sync.ensures.past h))))
+    inl (inr (c.greatest_but_last.ensures.past (c.take_up.ensures.honest ∙ h1) ∙ (c.take_up.ensures.past h1 ∙ c.in_ok-sync.ensures.past h)))
 
 pub returns-in_err-found-clause-err : goal.returns-in_err-found-clause-err
 returns-in_err-found-clause-err g c =
@@ -33,12 +32,11 @@ returns-in_err-found-clause-err g c =
     c.in_err-found.ensures.err)
 
 -- what was taken up, of the disk as it was given
-pub returns-in_err-greatest-clause-err : goal.returns-in_err-greatest-clause-err
-returns-in_err-greatest-clause-err g c =
+pub returns-in-Err-clause-err : goal.returns-in-Err-clause-err
+returns-in-Err-clause-err g c =
     let p0 = g.D.Disk.past c.args.disk.now in
     let found = c.in_ok-found.found in
-    err_same _ c.from_residual-in_err-greatest.result c.in_err-greatest.field-0.0 c.from_residual-in_err-greatest.ensures.1
-    (⊎_elim (λ device. inl (inr device))
+    ⊎_elim (λ device. inl (inr device))
     (λ last. inr (λ h.
     let h1 = c.sync.ensures.honest ∙ h in
     let synced_it : g.D.Disk.past c.sync.new.self ≡ after synced p0 = c.in_ok-sync.ensures.past h in
@@ -54,17 +52,17 @@ returns-in_err-greatest-clause-err g c =
       last = subst (λ p. IsGreatest found.layout (seen p) found.home.generation (2 ^ 64 - 1)) (c.take_up.ensures.past h1 ∙ synced_it) (greatest_of found.layout found.log.layout found.home.generation found.log.generation found.log.number found.log.next (2 ^ 64 - 1) (g.D.Disk.past c.take_up.new.disk) (g.D.Disk.past c.sync.new.self)
           c.in_ok-found.ensures.of.0 c.in_ok-found.ensures.of.1 (c.take_up.ensures.past h1) (c.in_ok-found.ensures.behind h1) (last.1 (c.take_up.ensures.honest ∙ h1)));
     }))))
-    c.in_err-greatest.ensures.err)
+    c.in-Err.ensures.err
 
 -- ---- the state is written
 
-pub returns-clause-stays : goal.returns-clause-stays
-returns-clause-stays g c =
+pub returns-in-Ok-clause-stays : goal.returns-in-Ok-clause-stays
+returns-in-Ok-clause-stays g c =
     if_ok_from c.renew.result _ _
     (λ held facts h.
     let p0 = g.D.Disk.past c.args.disk.now in
     let found = c.in_ok-found.found in
-    let greatest = c.in_ok-greatest.greatest in
+    let greatest = c.in-Ok.greatest in
     let h1 = c.sync.ensures.honest ∙ h in
     let h2 = c.take_up.ensures.honest ∙ h1 in
     let synced_it : g.D.Disk.past c.sync.new.self ≡ after synced p0 = c.in_ok-sync.ensures.past h in
@@ -75,17 +73,17 @@ returns-clause-stays g c =
     (subst (λ n. IsTakenUp n (seen p0) found.layout found.home.slot found.home.generation (state_in found.engine)) (sym (c.greatest_but_last.ensures.size ∙ c.take_up.ensures.size))
     (subst (λ p. IsTakenUp (g.D.Disk.size c.sync.new.self) (seen p) found.layout found.home.slot found.home.generation (state_in found.engine)) synced_it (c.in_ok-found.ensures.found h1)))
     (subst (λ p. IsGreatest found.layout (seen p) found.home.generation greatest) (c.take_up.ensures.past h1 ∙ synced_it) (greatest_of found.layout found.log.layout found.home.generation found.log.generation found.log.number found.log.next greatest (g.D.Disk.past c.take_up.new.disk) (g.D.Disk.past c.sync.new.self)
-    c.in_ok-found.ensures.of.0 c.in_ok-found.ensures.of.1 (c.take_up.ensures.past h1) (c.in_ok-found.ensures.behind h1) (c.in_ok-greatest.ensures.greatest h2)))
+    c.in_ok-found.ensures.of.0 c.in_ok-found.ensures.of.1 (c.take_up.ensures.past h1) (c.in_ok-found.ensures.behind h1) (c.in-Ok.ensures.greatest h2)))
     (c.renew.ensures.during (c.greatest_but_last.ensures.honest ∙ h2)))))
     c.renew.ensures.held
 
-pub returns-clause-unwritten : goal.returns-clause-unwritten
-returns-clause-unwritten g c =
+pub returns-in-Ok-clause-unwritten : goal.returns-in-Ok-clause-unwritten
+returns-in-Ok-clause-unwritten g c =
     if_err_from c.renew.result _ _
     (λ e lost h.
     let p0 = g.D.Disk.past c.args.disk.now in
     let found = c.in_ok-found.found in
-    let greatest = c.in_ok-greatest.greatest in
+    let greatest = c.in-Ok.greatest in
     let h1 = c.sync.ensures.honest ∙ h in
     let h2 = c.take_up.ensures.honest ∙ h1 in
     let synced_it : g.D.Disk.past c.sync.new.self ≡ after synced p0 = c.in_ok-sync.ensures.past h in
@@ -100,19 +98,19 @@ returns-clause-unwritten g c =
             (subst (λ n. IsTakenUp n (seen p0) found.layout found.home.slot found.home.generation (state_in found.engine)) (sym (c.greatest_but_last.ensures.size ∙ c.take_up.ensures.size))
             (subst (λ p. IsTakenUp (g.D.Disk.size c.sync.new.self) (seen p) found.layout found.home.slot found.home.generation (state_in found.engine)) synced_it (c.in_ok-found.ensures.found h1)))
             (subst (λ p. IsGreatest found.layout (seen p) found.home.generation greatest) (c.take_up.ensures.past h1 ∙ synced_it) (greatest_of found.layout found.log.layout found.home.generation found.log.generation found.log.number found.log.next greatest (g.D.Disk.past c.take_up.new.disk) (g.D.Disk.past c.sync.new.self)
-            c.in_ok-found.ensures.of.0 c.in_ok-found.ensures.of.1 (c.take_up.ensures.past h1) (c.in_ok-found.ensures.behind h1) (c.in_ok-greatest.ensures.greatest h2)))
+            c.in_ok-found.ensures.of.0 c.in_ok-found.ensures.of.1 (c.take_up.ensures.past h1) (c.in_ok-found.ensures.behind h1) (c.in-Ok.ensures.greatest h2)))
             (c.renew.ensures.during (c.greatest_but_last.ensures.honest ∙ h2));
       },
     ))
     c.renew.ensures.err
 
-pub returns-clause-ok : goal.returns-clause-ok
-returns-clause-ok g c =
+pub returns-in-Ok-clause-ok : goal.returns-in-Ok-clause-ok
+returns-in-Ok-clause-ok g c =
     if_ok_from c.renew.result _ _
     (λ held keeps h.
     let p0 = g.D.Disk.past c.args.disk.now in
     let found = c.in_ok-found.found in
-    let greatest = c.in_ok-greatest.greatest in
+    let greatest = c.in-Ok.greatest in
     let h1 = c.sync.ensures.honest ∙ h in
     let h2 = c.take_up.ensures.honest ∙ h1 in
     let synced_it : g.D.Disk.past c.sync.new.self ≡ after synced p0 = c.in_ok-sync.ensures.past h in
@@ -122,29 +120,29 @@ returns-clause-ok g c =
     (subst (λ p. IsTakenUp (g.D.Disk.size c.sync.new.self) (seen p) found.layout found.home.slot found.home.generation (state_in found.engine))
     (sym (c.greatest_but_last.ensures.past h2 ∙ c.take_up.ensures.past h1)) (c.in_ok-found.ensures.found h1)))
     (subst (λ p. IsGreatest found.layout (seen p) found.home.generation greatest) (sym (c.greatest_but_last.ensures.past h2)) (greatest_of found.layout found.log.layout found.home.generation found.log.generation found.log.number found.log.next greatest (g.D.Disk.past c.take_up.new.disk) (g.D.Disk.past c.sync.new.self)
-    c.in_ok-found.ensures.of.0 c.in_ok-found.ensures.of.1 (c.take_up.ensures.past h1) (c.in_ok-found.ensures.behind h1) (c.in_ok-greatest.ensures.greatest h2))))
+    c.in_ok-found.ensures.of.0 c.in_ok-found.ensures.of.1 (c.take_up.ensures.past h1) (c.in_ok-found.ensures.behind h1) (c.in-Ok.ensures.greatest h2))))
     c.renew.ensures.ok
 
-pub returns-clause-taken : goal.returns-clause-taken
-returns-clause-taken g c =
+pub returns-in-Ok-clause-taken : goal.returns-in-Ok-clause-taken
+returns-in-Ok-clause-taken g c =
     if_ok_from c.renew.result _ _
     (λ held facts h.
     let p0 = g.D.Disk.past c.args.disk.now in
     let found = c.in_ok-found.found in
-    let greatest = c.in_ok-greatest.greatest in
+    let greatest = c.in-Ok.greatest in
     let h1 = c.sync.ensures.honest ∙ h in
     let h2 = c.take_up.ensures.honest ∙ h1 in
     let synced_it : g.D.Disk.past c.sync.new.self ≡ after synced p0 = c.in_ok-sync.ensures.past h in
     next_of (g.D.Disk.size c.args.disk.now) (seen p0) found.layout held.log.layout found.home.slot held.home.slot found.home.generation greatest held.home.generation (state_in found.engine) (state_in held.engine)
     facts.0 facts.2 facts.3 facts.4
     (subst (λ p. IsGreatest found.layout (seen p) found.home.generation greatest) (c.take_up.ensures.past h1 ∙ synced_it) (greatest_of found.layout found.log.layout found.home.generation found.log.generation found.log.number found.log.next greatest (g.D.Disk.past c.take_up.new.disk) (g.D.Disk.past c.sync.new.self)
-    c.in_ok-found.ensures.of.0 c.in_ok-found.ensures.of.1 (c.take_up.ensures.past h1) (c.in_ok-found.ensures.behind h1) (c.in_ok-greatest.ensures.greatest h2)))
+    c.in_ok-found.ensures.of.0 c.in_ok-found.ensures.of.1 (c.take_up.ensures.past h1) (c.in_ok-found.ensures.behind h1) (c.in-Ok.ensures.greatest h2)))
     (subst (λ n. IsTakenUp n (seen p0) found.layout found.home.slot found.home.generation (state_in found.engine)) c.sync.ensures.size
     (subst (λ p. IsTakenUp (g.D.Disk.size c.sync.new.self) (seen p) found.layout found.home.slot found.home.generation (state_in found.engine)) synced_it (c.in_ok-found.ensures.found h1))))
     c.renew.ensures.held
 
-pub returns-clause-opened : goal.returns-clause-opened
-returns-clause-opened g c =
+pub returns-in-Ok-clause-opened : goal.returns-in-Ok-clause-opened
+returns-in-Ok-clause-opened g c =
     if_ok_from c.renew.result _ _
     (λ held facts h.
     let p0 = g.D.Disk.past c.args.disk.now in

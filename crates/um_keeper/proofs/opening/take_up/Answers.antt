@@ -59,10 +59,9 @@ module _ (layout l : Layout) (generation n : ℕ) (old new : Past) (on : l ≡ l
     place = omega (arith, b.place, ap (λ (z : Layout). sectors.log_start z 0) on, ap sectors.sectors_of records_same);
   }
 
-pub returns-in_err-replay-clause-err : goal.returns-in_err-replay-clause-err
-returns-in_err-replay-clause-err g c =
-    err_same _ c.from_residual-in_err-replay.result c.in_err-replay.field-0.0 c.from_residual-in_err-replay.ensures.1
-    (or_more (λ fails h.
+pub returns-clause-err : goal.returns-clause-err
+returns-clause-err g c =
+    or_more (λ fails h.
     let layout = c.in_ok-layout.layout in
     let home = c.in_ok-snapshot.snapshot.home in
     let p0 = g.D.Disk.past c.args.disk.now in
@@ -74,11 +73,11 @@ returns-in_err-replay-clause-err g c =
     (newest_there p0 (g.D.Disk.past c.read_layout.new.disk) layout home.slot home.generation c.in_ok-snapshot.snapshot.body.items (c.read_layout.ensures.past h) newest)
     (subst (λ (b : List ℕ). IsStart layout b (state_in c.in-Some.engine)) c.deref.ensures.value starts)
     (no_input_there layout c.new-log.result.layout home.generation c.new-log.result.generation p0 (g.D.Disk.past c.newest.new.disk) c.new-log.ensures.of.0 c.new-log.ensures.of.1
-    (c.newest.ensures.past h1 ∙ c.read_layout.ensures.past h) c.in_err-replay.field-0.0 (fails h2)))
-    c.in_err-replay.ensures.err)
+    (c.newest.ensures.past h1 ∙ c.read_layout.ensures.past h) c.in-Err.refusal (fails h2)))
+    c.in-Err.ensures.err
 
-pub returns-clause-found : goal.returns-clause-found
-returns-clause-found g c h =
+pub returns-in-Ok-clause-found : goal.returns-in-Ok-clause-found
+returns-in-Ok-clause-found g c h =
     let layout = c.in_ok-layout.layout in
     let home = c.in_ok-snapshot.snapshot.home in
     let p0 = g.D.Disk.past c.args.disk.now in
@@ -95,18 +94,18 @@ returns-clause-found g c h =
       starts = subst (λ (b : List ℕ). IsStart layout b (state_in engine)) c.deref.ensures.value starts;
       replays = subst (λ (n : ℕ). Replays n (sectors.records_of layout home.generation (seen p0)) (state_in engine) (state_in c.replay.new.engine)) size
           (replays_there layout c.new-log.result.layout home.generation c.new-log.result.generation p0 (g.D.Disk.past c.newest.new.disk) c.new-log.ensures.of.0 c.new-log.ensures.of.1
-          (c.newest.ensures.past h1 ∙ c.read_layout.ensures.past h) (size_in engine) (state_in engine) (state_in c.replay.new.engine) (c.in_ok-replay.ensures.ok h2));
+          (c.newest.ensures.past h1 ∙ c.read_layout.ensures.past h) (size_in engine) (state_in engine) (state_in c.replay.new.engine) (c.in-Ok.ensures.ok h2));
     }
 
-pub returns-clause-behind : goal.returns-clause-behind
-returns-clause-behind g c h =
+pub returns-in-Ok-clause-behind : goal.returns-in-Ok-clause-behind
+returns-in-Ok-clause-behind g c h =
     let h1 = c.read_layout.ensures.honest ∙ h in
     let h2 = c.newest.ensures.honest ∙ h1 in
     behind_there c.in_ok-layout.layout c.new-log.result.layout c.in_ok-snapshot.snapshot.home.generation c.new-log.result.generation (g.D.Disk.past c.args.disk.now) (g.D.Disk.past c.newest.new.disk)
-    c.new-log.ensures.of.0 c.new-log.ensures.of.1 (c.newest.ensures.past h1 ∙ c.read_layout.ensures.past h) c.replay.new.log.number c.replay.new.log.next (c.in_ok-replay.ensures.all h2)
+    c.new-log.ensures.of.0 c.new-log.ensures.of.1 (c.newest.ensures.past h1 ∙ c.read_layout.ensures.past h) c.replay.new.log.number c.replay.new.log.next (c.in-Ok.ensures.all h2)
 
-pub returns-clause-read : goal.returns-clause-read
-returns-clause-read g c h =
+pub returns-in-Ok-clause-read : goal.returns-in-Ok-clause-read
+returns-in-Ok-clause-read g c h =
     let layout = c.in_ok-layout.layout in
     let home = c.in_ok-snapshot.snapshot.home in
     let p0 = g.D.Disk.past c.args.disk.now in
@@ -115,5 +114,5 @@ returns-clause-read g c h =
       is_newest = newest_there p0 (g.D.Disk.past c.read_layout.new.disk) layout home.slot home.generation c.in_ok-snapshot.snapshot.body.items (c.read_layout.ensures.past h)
           (c.in_ok-snapshot.ensures.ok (c.read_layout.ensures.honest ∙ h));
       generation_is = refl;
-      records_are = (returns-clause-behind g c h).count;
+      records_are = (returns-in-Ok-clause-behind g c h).count;
     }

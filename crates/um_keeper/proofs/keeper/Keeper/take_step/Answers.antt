@@ -1,8 +1,9 @@
 use Rattle.std.proofs.Common.{◌∙◌, [], ◌∷◌, inr, sym, ap}
 use Rattle.um_model.specs.Standing.{Standing}
 use Rattle.um_state.specs.View.{input_of}
-use Rattle.um_keeper.proofs.Results.{if_err_all}
+use Rattle.um_keeper.proofs.Results.{err_same, if_err_all}
 use Rattle.um_keeper.proofs.Kept.{still, not_begun, stores, stores_at, stores_for, if_ok, new_numbers}
+use Rattle.um_keeper.proofs.Offered.{own_or_memory}
 use Rattle.um_keeper.proofs.keeper.Keeper.take_step.Goals as goal
 
 pub returns-in_err-next-clause-during : goal.returns-in_err-next-clause-during
@@ -10,6 +11,10 @@ returns-in_err-next-clause-during g c h = not_begun (input_of c.args.input.now �
 
 pub returns-in_err-next-clause-stored : goal.returns-in_err-next-clause-stored
 returns-in_err-next-clause-stored g c f h = stores (c.args.self.now.kept f h)
+
+pub returns-in_err-next-clause-refused : goal.returns-in_err-next-clause-refused
+returns-in_err-next-clause-refused g c =
+    err_same _ c.from_residual.result c.in_err-next.field-0.0 c.from_residual.ensures.1 (own_or_memory c.in_err-next.field-0.0 c.in_err-next.ensures.only c.in_err-next.ensures.refused)
 
 pub returns-then-has_effect-clause-order : goal.returns-then-has_effect-clause-order
 returns-then-has_effect-clause-order g c = if_ok c.record.result (λ receipt is. new_numbers c.in_ok-next.ensures.ok is.1 (ap (λ (x : Standing). x.state) is.2)) c.record.ensures.ok
