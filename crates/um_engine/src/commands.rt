@@ -153,24 +153,30 @@ fn kept(served: &Served, state: State) -> Result<Served, AllocError>
     Served::numbered(state, served.share_known()?)
 }
 
+/// The state with its tree in hand as the loaded one.
+fn with_loaded(state: &State) -> Result<State, AllocError>
+    ensures { IfOk result (λ u. state_of u ≡ record (state_of state.now) { loaded = (state_of state.now).tree }) }
+{
+    let mut changed = state.copy()?;
+    changed.reload()?;
+    Ok(changed)
+}
+
 /// The state with its tree in hand loaded. Refused are too many known units (E13), and pending jobs in a circle (E9).
 fn reloaded(alloc: Global, state: &State) -> Result<Served, Refusal>
     ensures changed { IfOk result (λ u. model.Changes (state_of state.now) model.DaemonReload u.state) }
     ensures refused { RefusesBy (model.Refuses (state_of state.now) model.DaemonReload) result }
 {
     let known = known_of_loaded(alloc, state, state.tree())?;
-    let known = Rc::new(alloc, known)?;
-    let mut changed = state.copy()?;
-    changed.reload()?;
+    let changed = with_loaded(state)?;
     Ok(Served::numbered(changed, known)?)
 }
 
 /// The state with that tree, loaded, of whose units that is known.
-fn with_tree(alloc: Global, state: &State, tree: Tree, known: Known) -> Result<Served, AllocError>
-    requires { KnowsFor known (record (state_of state.now) { loaded = tree }) }
+fn with_tree(state: &State, tree: Tree, known: Rc<Known>) -> Result<Served, AllocError>
+    requires { KnowsFor known.value (record (state_of state.now) { loaded = tree }) }
     ensures { IfOk result (λ u. u.state ≡ record (state_of state.now) { tree = tree; loaded = tree }) }
 {
-    let known = Rc::new(alloc, known)?;
     let mut changed = state.copy()?;
     changed.load_tree(tree)?;
     Served::numbered(changed, known)
@@ -198,7 +204,7 @@ fn installed(
     let known = Known::of(alloc, &tree, state, None)?;
     check_units(alloc, state.tree(), verb, unit)?;
     check_order(alloc, &known, state)?;
-    let served = with_tree(alloc, state, tree, known)?;
+    let served = with_tree(state, tree, known)?;
     Ok((served, Reply::Relinked { made, removed }))
 }
 
