@@ -1,9 +1,11 @@
 ghost use Rattle.um_falling.specs.Carrying.{Adds};
-ghost use Rattle.std.specs.Prelude.{◌≡◌, ◌≢◌, ◌↔◌, [], true, false, None, is_some, map, IfOk, IfErr, IfSome, IsTrue};
+ghost use Rattle.std.specs.Prelude.{◌≡◌, ◌≢◌, ◌↔◌, [], true, false, None, is_some, map, IfOk, IfErr, IfSome, IsTrue, MatchOption, OnOk};
 ghost use Rattle.um_engine.specs.Engine.{DiffersInRows, HasSameTables, LacksEffect, LeadsTo, Obeys, Settled, SettlesTooHeavy, changed, is_change, rows_of, standing_in, state_in, size_in, has_effect_in, rows_in, state_after, reply_in, actions_in, state_before};
 ghost use Rattle.um_engine.specs.OfStore.{is_of_store};
 ghost use Rattle.um_engine.specs.Planned.{Declines};
 ghost use Rattle.um_engine.specs.Served.{WorksOn, standing_of};
+ghost use Rattle.um_engine.specs.declared.engine.Change.TheVariants as changes;
+ghost use Rattle.um_falling.specs.Work.{Goes, Keeps};
 ghost use Rattle.um_model.specs.Machine as model;
 ghost use Rattle.um_model.specs.Machine.{Step, moment_of};
 ghost use Rattle.um_model.specs.Refusals.{Refused};
@@ -139,14 +141,27 @@ impl Engine {
         ensures refused { IfErr result (λ e. ¬ (e ≡ NoMemory)
             → SettlesTooHeavy (size_in self.now) work.entry.moment (state_of work.entry.now) work.entry.actions (refused_of e)) }
     {
-        settle(&mut work)?;
-        check_room_in(self.alloc, &self.served, &work, self.size)?;
+        self.settle_rows(&mut work)?;
         let (delta, actions) = work.done()?;
         Ok(Next {
             change: Change::Rows(delta),
             reply: Reply::Done,
             actions,
         })
+    }
+
+    /// Lets jobs begin in the work until none is ready. Refused is what weighs too much then (E14).
+    fn settle_rows(&self, work: &mut Work<'_>) -> Result<(), Refusal>
+        requires { WorksOn self.now.served work.old }
+        ensures settles { OnOk result (Goes (model.Settles work.old.moment (state_of work.old.now)) work.old work.new) }
+        ensures keeps { OnOk result (Keeps work.old work.new) }
+        ensures room { OnOk result (¬ model.IsTooHeavy (size_in self.now) (state_of work.new.now)) }
+        ensures refused { IfErr result (λ e. ¬ (e ≡ NoMemory)
+            → SettlesTooHeavy (size_in self.now) work.old.moment (state_of work.old.now) work.old.actions (refused_of e)) }
+    {
+        settle(work)?;
+        check_room_in(self.alloc, &self.served, work, self.size)?;
+        Ok(())
     }
 
     /// The step to these tables once jobs have begun at the moment.
@@ -324,6 +339,16 @@ fn settle_served(
     Ok(actions)
 }
 
+/// The change of these rows, or to these tables where there are none.
+fn change_of(rows: Option<Delta>, after: Served) -> Change
+    ensures { MatchOption rows (result ≡ changes.Tables after) (λ delta. result ≡ changes.Rows delta) }
+{
+    match rows {
+        Some(delta) => Change::Rows(delta),
+        None => Change::Tables(after),
+    }
+}
+
 /// What leads from what is served to these tables: rows, where nothing else differs.
 fn change_between(alloc: Global, served: &Served, after: Served) -> Result<Change, AllocError>
     ensures leads { IfOk result (λ change. changed change (standing_of served.now) ≡ standing_of after) }
@@ -331,8 +356,6 @@ fn change_between(alloc: Global, served: &Served, after: Served) -> Result<Chang
     ensures rows { IfOk result (λ change. IfSome (rows_of change) (DiffersInRows served.now.state after.state)) }
     ensures tables { IfOk result (λ change. rows_of change ≡ None → ¬ HasSameTables (standing_of served.now) (standing_of after)) }
 {
-    match rows_between(alloc, served.standing(), after.standing())? {
-        Some(delta) => Ok(Change::Rows(delta)),
-        None => Ok(Change::Tables(after)),
-    }
+    let rows = rows_between(alloc, served.standing(), after.standing())?;
+    Ok(change_of(rows, after))
 }

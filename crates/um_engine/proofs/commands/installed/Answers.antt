@@ -1,5 +1,5 @@
-use Rattle.std.proofs.Common.{refl, ap, subst, sym}
-use Rattle.um_model.specs.Install.{Installs, RefusesLinks, RefusesUnits}
+use Rattle.std.proofs.Common.{◌≡◌, ◌∙◌, ℕ, List, refl, ap, subst, sym}
+use Rattle.um_model.specs.Install.{Installs, RefusesLinks, RefusesUnits, paths_beyond}
 use Rattle.um_model.specs.Machine as model
 use Rattle.um_model.specs.Machine.{IsCrowded, IsHeld}
 use Rattle.um_model.specs.Refusals.{Refused}
@@ -10,6 +10,10 @@ use Rattle.um_engine.proofs.Causes.{by_links, by_crowd_of_install, by_units, by_
 use Rattle.um_engine.proofs.KnownLaws.{knows_made}
 use Rattle.um_engine.proofs.PlannedLaws.{refuses_on}
 use Rattle.um_engine.proofs.commands.installed.Goals as goal
+
+-- the same is answered
+relinks : (made made' removed removed' : List (List ℕ)) → made ≡ made' → removed ≡ removed' → model.Relinked made removed ≡ model.Relinked made' removed'
+relinks made made' removed removed' e f = cc
 
 pub returns-in_err-tree-clause-refused : goal.returns-in_err-tree-clause-refused
 returns-in_err-tree-clause-refused c =
@@ -86,4 +90,9 @@ returns-clause-refused c =
     free_to_install s c.args.verb c.args.unit.now tree made linked few able (c.in_ok-check_order.ensures tree (subst (λ (x : KnownView). KnowsFor x (record s { loaded = tree })) (sym c.deref.ensures) knows))
 
 pub returns-clause-reply : goal.returns-clause-reply
-returns-clause-reply c = ?
+returns-clause-reply c =
+    let s = state_of c.args.state.now in
+    let tree = c.in_ok-tree.field-0.tree in
+    let now = sym (ap (λ (x : model.State). x.tree) c.in_ok-served.ensures) in
+    relinks _ _ _ _ (c.in_ok-tree.ensures.made ∙ (ap (λ t. paths_beyond t tree) c.tree.ensures ∙ ap (paths_beyond s.tree) now))
+    (c.in_ok-tree.ensures.removed ∙ (ap (paths_beyond tree) c.tree.ensures ∙ ap (λ t. paths_beyond t s.tree) now))

@@ -1,18 +1,10 @@
-use Rattle.std.proofs.Common.{◌≡◌, ◌∙◌, ℕ, List, ap, refl, subst, sym, tt}
+use Rattle.std.proofs.Common.{◌∙◌, ap, refl, sym}
 use Rattle.um_model.specs.Machine as model
-use Rattle.um_model.specs.Machine.{State, IsHeldOr}
 use Rattle.um_state.specs.View.{state_of}
-use Rattle.um_engine.specs.Known.{IsGraphFor, KnownView, KnowsFor}
+use Rattle.um_engine.specs.Known.{KnownView}
+use Rattle.um_engine.proofs.FitsLaws.{fits_here}
 use Rattle.um_engine.proofs.PlannedLaws.{refuses_on}
 use Rattle.um_engine.proofs.planning.planned_by.Goals as goal
-
--- what is known fits, as it is read
-fits_here : (k x : KnownView) (s y : State) (unit : List ℕ) → x ≡ k → y ≡ s → KnowsFor k s → (KnowsFor x y → IsGraphFor y.loaded (IsHeldOr y unit) x.graph)
-    → IsGraphFor s.loaded (IsHeldOr s unit) k.graph
-fits_here k x s y unit known state knows fits =
-    subst (λ (z : KnownView). IsGraphFor s.loaded (IsHeldOr s unit) z.graph) known
-    (subst (λ (z : State). IsGraphFor z.loaded (IsHeldOr z unit) x.graph) state
-    (fits (subst (λ (z : State). KnowsFor x z) (sym state) (subst (λ (z : KnownView). KnowsFor z s) (sym known) knows))))
 
 pub returns-in_err-work-clause-refused : goal.returns-in_err-work-clause-refused
 returns-in_err-work-clause-refused c =
@@ -25,7 +17,7 @@ returns-in_err-changed-clause-refused c =
 pub planned_in-requires-clause-exact : goal.planned_in-requires-clause-exact
 planned_in-requires-clause-exact c =
     fits_here c.args.served.now.known c.known.result.now c.args.served.now.state (state_of c.state.result.now) c.args.unit.now c.known.ensures.known c.state.ensures.state c.known.ensures.knows
-    (c.if-fits.ensures tt)
+    (c.fits.ensures c.if-fits.true)
 
 pub lasts_in-requires : goal.lasts_in-requires
 lasts_in-requires c = c.in_ok-work.ensures.works.graph ∙ sym (ap (λ (k : KnownView). k.graph) c.known-then-fits.ensures.known)

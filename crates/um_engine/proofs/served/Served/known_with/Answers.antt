@@ -1,8 +1,9 @@
-use Rattle.std.proofs.Common.{◌↔◌, ℕ, List, Contains, ap, sym, subst}
+use Rattle.std.proofs.Common.{◌↔◌, ℕ, List, Contains, ap, refl, sym, subst}
 use Rattle.um_model.specs.Machine.{IsCrowded, IsHeldOr}
 use Rattle.um_state.specs.View.{state_of}
 use Rattle.um_wire.specs.Refusal.{refused_of}
-use Rattle.um_engine.specs.Known.{IsFull, IsGraphFor, KnowsFor}
+use Rattle.um_engine.specs.Known.{IsFull, IsGraphFor, KnownView, KnowsFor}
+use Rattle.um_engine.proofs.FitsLaws.{fits_here}
 use Rattle.um_engine.proofs.KnownLaws.{knows_named}
 use Rattle.um_model.specs.Dependencies.{IsKnown}
 use Rattle.um_model.specs.Tree.{without_run}
@@ -12,10 +13,26 @@ use Rattle.um_engine.proofs.SameUnitsLaws.{graph_by}
 use Rattle.um_engine.proofs.served.Served.known_with.Goals as goal
 
 pub returns-then-fits-clause-knows : goal.returns-then-fits-clause-knows
-returns-then-fits-clause-knows c = ?
+returns-then-fits-clause-knows c =
+    subst (λ (k : KnownView). KnowsFor k c.args.self.now.state) (sym c.in_ok-clone.ensures.cases)
+    (subst (λ (v : ServedView). KnowsFor c.self.inside.known.value v.state) c.self.view_is c.self.invariant.1)
 
 pub returns-then-fits-clause-known : goal.returns-then-fits-clause-known
-returns-then-fits-clause-known c = ?
+returns-then-fits-clause-known c =
+    let s = state_of c.self.inside.state in
+    let known = c.self.inside.known.value in
+    let named = c.args.named.now in
+    let fits = fits_here known c.deref.result.now s s named c.deref.ensures refl c.self.invariant.1 (c.fits.ensures c.if-fits.true) in
+    subst (λ (k : KnownView). IsGraphFor c.args.self.now.state.loaded (IsHeldOr c.args.self.now.state named) k.graph) (sym c.in_ok-clone.ensures.cases)
+    (subst (λ (v : ServedView). IsGraphFor v.state.loaded (IsHeldOr v.state named) known.graph) c.self.view_is fits)
+
+pub returns-then-fits-clause-refused : goal.returns-then-fits-clause-refused
+returns-then-fits-clause-refused c = λ r crowded.
+    let s = state_of c.self.inside.state in
+    let named = c.args.named.now in
+    let fits = fits_here c.self.inside.known.value c.deref.result.now s s named c.deref.ensures refl c.self.invariant.1 (c.fits.ensures c.if-fits.true) in
+    let here = subst (λ (v : ServedView). IsCrowded v.state.loaded (IsHeldOr v.state named) r) (sym c.self.view_is) crowded in
+    fits.few here.many
 
 pub returns-in_err-known-clause-refused : goal.returns-in_err-known-clause-refused
 returns-in_err-known-clause-refused c =
