@@ -22,11 +22,10 @@ use crate::jobs::unless_waiting;
 use crate::known::Known;
 use crate::loading::{check_order, known_of_loaded};
 use crate::planning::planned;
-use crate::resetting::without_failures;
+use crate::resetting::{asked_unit, without_failures};
 use crate::served::Served;
 use std::alloc::{AllocError, Global};
 use std::rc::Rc;
-use um_answer::{Asked, check_missing};
 use um_falling::Work;
 use um_install::{Installed, check_units, relink};
 use um_jobs::has_waiting;
@@ -80,11 +79,9 @@ fn without_waiting<'s>(
     ensures moment { IfOk result (λ work. work.moment ≡ moment) }
     ensures refused { RefusesBy (model.Refuses served.now.state (model.Cancel asked.now)) result }
 {
-    let state = served.state();
-    let leads = Asked::of(alloc, served.known().graph(), state.loaded(), asked)?;
-    check_missing(alloc, state, asked, leads.is_found)?;
+    let unit = asked_unit(alloc, served, asked)?;
     let mut work = served.work(alloc, moment)?;
-    cancel_waiting(&mut work, &leads.unit)?;
+    cancel_waiting(&mut work, &unit)?;
     Ok(work)
 }
 

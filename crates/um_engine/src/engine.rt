@@ -19,6 +19,7 @@ use crate::between::rows_between;
 use crate::commands::{Outcome, done};
 use crate::happenings::{is_unawaited, met};
 use crate::loading::known_of_loaded;
+use crate::memory::is_for_memory;
 use crate::room::{check_room, check_room_in};
 use crate::served::Served;
 use crate::settling::settle;
@@ -101,8 +102,12 @@ impl Engine {
                 served,
                 size,
             })),
-            Err(Refusal::NoMemory) => Err(AllocError),
-            Err(_) => Ok(None),
+            Err(refusal) => {
+                if is_for_memory(refusal) {
+                    return Err(AllocError);
+                }
+                Ok(None)
+            }
         }
     }
 

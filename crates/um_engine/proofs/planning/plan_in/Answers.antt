@@ -1,4 +1,4 @@
-use Rattle.std.proofs.Common.{◌≡◌, ◌∙◌, ℕ, List, Contains, Result, Ok, Err, refl, ap, subst, sym}
+use Rattle.std.proofs.Common.{◌∙◌, ℕ, List, Contains, Result, Ok, Err, refl, ap, subst, sym}
 use Rattle.std.specs.Prelude.{OnOk}
 use Rattle.um_falling.specs.Work.{WorkView}
 use Rattle.um_graph.specs.Graph.{GraphView}

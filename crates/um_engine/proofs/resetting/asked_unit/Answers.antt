@@ -4,7 +4,7 @@ use Rattle.um_model.specs.Machine.{State}
 use Rattle.um_model.specs.Refusals.{Refused}
 use Rattle.um_wire.specs.Refusal.{refused_of}
 use Rattle.um_engine.proofs.PlannedLaws.{refuses_on}
-use Rattle.um_engine.proofs.resetting.unit_reset.Goals as goal
+use Rattle.um_engine.proofs.resetting.asked_unit.Goals as goal
 
 pub returns-in_err-check_missing-clause-refused : goal.returns-in_err-check_missing-clause-refused
 returns-in_err-check_missing-clause-refused c =
