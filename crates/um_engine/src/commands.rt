@@ -1,10 +1,11 @@
 //! What a command does, and why it is refused.
 
-ghost use Rattle.std.specs.Prelude.{◌≡◌, [], false, Err, IfOk, IfErr, OnOk};
+ghost use Rattle.std.specs.Prelude.{◌≡◌, [], false, true, Err, IfOk, IfErr, MatchOption, OnOk};
 ghost use Rattle.um_engine.specs.Known.{KnowsFor};
 ghost use Rattle.um_engine.specs.Outcomes.{IsBasedOn, actions_by, reply_by, state_by};
 ghost use Rattle.um_engine.specs.Served.{WorksOn};
 ghost use Rattle.um_falling.specs.Work.{Keeps};
+ghost use Rattle.um_graph.specs.Graph.{IsNumberOf};
 ghost use Rattle.um_model.specs.Install.{paths_beyond};
 ghost use Rattle.um_model.specs.Jobs.{cancelled, jobs_of_unit};
 ghost use Rattle.um_model.specs.Live.{HoldsNoMore};
@@ -17,22 +18,37 @@ ghost use Rattle.um_wire.specs.Gives.{RefusesBy};
 ghost use Rattle.um_wire.specs.Refusal.{refused_of};
 ghost use Rattle.um_wire.specs.declared.refusal.Refusal.TheVariants.{NoMemory};
 
+use crate::jobs::unless_waiting;
 use crate::known::Known;
 use crate::loading::{check_order, known_of_loaded};
-use crate::numbered::jobs_in;
 use crate::planning::planned;
-use crate::resetting::without_failures;
+use crate::resetting::{asked_unit, without_failures};
 use crate::served::Served;
 use std::alloc::{AllocError, Global};
 use std::rc::Rc;
-use um_answer::{Asked, check_missing};
 use um_falling::Work;
 use um_install::{Installed, check_units, relink};
+use um_jobs::has_waiting;
 use um_model::{InstallVerb, Moment};
 use um_name::UnitName;
 use um_state::{Command, Reply, State};
 use um_tree::Tree;
 use um_wire::{Refusal, no_such_job};
+
+/// The number of the unit, if a job of it waits.
+fn waiting_number(work: &Work<'_>, unit: &UnitName) -> Option<usize>
+    ensures { MatchOption result (has_waiting (jobs_of_unit (state_of work.now.now).pending unit.now) ≡ false)
+        (λ number. IsNumberOf work.now.graph number unit.now × (has_waiting (jobs_of_unit (state_of work.now.now).pending unit.now) ≡ true)) }
+{
+    let Some(number) = work.graph().number(unit) else {
+        return None;
+    };
+    if has_waiting(work.jobs(number)) {
+        Some(number)
+    } else {
+        None
+    }
+}
 
 /// Takes out the jobs of the unit that wait. Where none of them waits it is refused (E21).
 fn cancel_waiting(work: &mut Work<'_>, unit: &UnitName) -> Result<(), Refusal>
@@ -42,13 +58,11 @@ fn cancel_waiting(work: &mut Work<'_>, unit: &UnitName) -> Result<(), Refusal>
     ensures actions { OnOk result (work.new.actions ≡ work.old.actions) }
     ensures refused { RefusesBy (λ r. (has_waiting (jobs_of_unit (state_of work.old.now).pending unit.now) ≡ false) × (r ≡ told.no_such_job unit.now)) result }
 {
-    let graph = work.graph();
-    let Some(number) = graph.number(unit) else {
+    let Some(number) = waiting_number(work, unit) else {
         return Err(no_such_job(work.alloc(), unit.as_str())?);
     };
-    let mut jobs = jobs_in(work)?;
-    jobs.cancel(work.alloc(), number, unit)?;
-    work.set_jobs(number, jobs.get(number));
+    let jobs = work.jobs(number);
+    work.set_jobs(number, unless_waiting(jobs));
     Ok(())
 }
 
@@ -65,11 +79,9 @@ fn without_waiting<'s>(
     ensures moment { IfOk result (λ work. work.moment ≡ moment) }
     ensures refused { RefusesBy (model.Refuses served.now.state (model.Cancel asked.now)) result }
 {
-    let state = served.state();
-    let leads = Asked::of(alloc, served.known().graph(), state.loaded(), asked)?;
-    check_missing(alloc, state, asked, leads.is_found)?;
+    let unit = asked_unit(alloc, served, asked)?;
     let mut work = served.work(alloc, moment)?;
-    cancel_waiting(&mut work, &leads.unit)?;
+    cancel_waiting(&mut work, &unit)?;
     Ok(work)
 }
 
@@ -153,24 +165,30 @@ fn kept(served: &Served, state: State) -> Result<Served, AllocError>
     Served::numbered(state, served.share_known()?)
 }
 
+/// The state with its tree in hand as the loaded one.
+fn with_loaded(state: &State) -> Result<State, AllocError>
+    ensures { IfOk result (λ u. state_of u ≡ record (state_of state.now) { loaded = (state_of state.now).tree }) }
+{
+    let mut changed = state.copy()?;
+    changed.reload()?;
+    Ok(changed)
+}
+
 /// The state with its tree in hand loaded. Refused are too many known units (E13), and pending jobs in a circle (E9).
 fn reloaded(alloc: Global, state: &State) -> Result<Served, Refusal>
     ensures changed { IfOk result (λ u. model.Changes (state_of state.now) model.DaemonReload u.state) }
     ensures refused { RefusesBy (model.Refuses (state_of state.now) model.DaemonReload) result }
 {
     let known = known_of_loaded(alloc, state, state.tree())?;
-    let known = Rc::new(alloc, known)?;
-    let mut changed = state.copy()?;
-    changed.reload()?;
+    let changed = with_loaded(state)?;
     Ok(Served::numbered(changed, known)?)
 }
 
 /// The state with that tree, loaded, of whose units that is known.
-fn with_tree(alloc: Global, state: &State, tree: Tree, known: Known) -> Result<Served, AllocError>
-    requires { KnowsFor known (record (state_of state.now) { loaded = tree }) }
+fn with_tree(state: &State, tree: Tree, known: Rc<Known>) -> Result<Served, AllocError>
+    requires { KnowsFor known.value (record (state_of state.now) { loaded = tree }) }
     ensures { IfOk result (λ u. u.state ≡ record (state_of state.now) { tree = tree; loaded = tree }) }
 {
-    let known = Rc::new(alloc, known)?;
     let mut changed = state.copy()?;
     changed.load_tree(tree)?;
     Served::numbered(changed, known)
@@ -198,7 +216,7 @@ fn installed(
     let known = Known::of(alloc, &tree, state, None)?;
     check_units(alloc, state.tree(), verb, unit)?;
     check_order(alloc, &known, state)?;
-    let served = with_tree(alloc, state, tree, known)?;
+    let served = with_tree(state, tree, known)?;
     Ok((served, Reply::Relinked { made, removed }))
 }
 

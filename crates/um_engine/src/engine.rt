@@ -1,14 +1,17 @@
 ghost use Rattle.um_falling.specs.Carrying.{Adds};
-ghost use Rattle.std.specs.Prelude.{◌≡◌, ◌≢◌, ◌↔◌, [], true, false, None, is_some, map, IfOk, IfErr, IfSome, IsTrue};
+ghost use Rattle.std.specs.Prelude.{◌≡◌, ◌≢◌, ◌↔◌, [], true, false, None, is_some, map, IfOk, IfErr, IfSome, IsTrue, MatchOption, OnOk};
 ghost use Rattle.um_engine.specs.Engine.{DiffersInRows, HasSameTables, LacksEffect, LeadsTo, Obeys, Settled, SettlesTooHeavy, changed, is_change, rows_of, standing_in, state_in, size_in, has_effect_in, rows_in, state_after, reply_in, actions_in, state_before};
 ghost use Rattle.um_engine.specs.OfStore.{is_of_store};
 ghost use Rattle.um_engine.specs.Planned.{Declines};
 ghost use Rattle.um_engine.specs.Served.{WorksOn, standing_of};
+ghost use Rattle.um_engine.specs.declared.engine.Change.TheVariants as changes;
+ghost use Rattle.um_falling.specs.Work.{Goes, Keeps};
 ghost use Rattle.um_model.specs.Machine as model;
 ghost use Rattle.um_model.specs.Machine.{Step, moment_of};
 ghost use Rattle.um_model.specs.Refusals.{Refused};
 ghost use Rattle.um_model.specs.Servable.{IsServable};
 ghost use Rattle.um_state.specs.View.{state_of, input_of, query_of, reply_of, action_of, command_of};
+ghost use Rattle.um_wire.specs.Gives.{RefusesBy};
 ghost use Rattle.um_wire.specs.Refusal.{refused_of};
 ghost use Rattle.um_wire.specs.declared.refusal.Refusal.TheVariants.{NoMemory};
 
@@ -16,12 +19,12 @@ use crate::between::rows_between;
 use crate::commands::{Outcome, done};
 use crate::happenings::{is_unawaited, met};
 use crate::loading::known_of_loaded;
+use crate::memory::is_for_memory;
 use crate::room::{check_room, check_room_in};
 use crate::served::Served;
 use crate::settling::settle;
 use std::alloc::{AllocError, Global};
 use std::mem;
-use std::rc::Rc;
 use um_answer::{list_known, reply_to};
 use um_falling::Work;
 use um_model::Moment;
@@ -99,8 +102,12 @@ impl Engine {
                 served,
                 size,
             })),
-            Err(Refusal::NoMemory) => Err(AllocError),
-            Err(_) => Ok(None),
+            Err(refusal) => {
+                if is_for_memory(refusal) {
+                    return Err(AllocError);
+                }
+                Ok(None)
+            }
         }
     }
 
@@ -139,14 +146,27 @@ impl Engine {
         ensures refused { IfErr result (λ e. ¬ (e ≡ NoMemory)
             → SettlesTooHeavy (size_in self.now) work.entry.moment (state_of work.entry.now) work.entry.actions (refused_of e)) }
     {
-        settle(&mut work)?;
-        check_room_in(self.alloc, &self.served, &work, self.size)?;
+        self.settle_rows(&mut work)?;
         let (delta, actions) = work.done()?;
         Ok(Next {
             change: Change::Rows(delta),
             reply: Reply::Done,
             actions,
         })
+    }
+
+    /// Lets jobs begin in the work until none is ready. Refused is what weighs too much then (E14).
+    fn settle_rows(&self, work: &mut Work<'_>) -> Result<(), Refusal>
+        requires { WorksOn self.now.served work.old }
+        ensures settles { OnOk result (Goes (model.Settles work.old.moment (state_of work.old.now)) work.old work.new) }
+        ensures keeps { OnOk result (Keeps work.old work.new) }
+        ensures room { OnOk result (¬ model.IsTooHeavy (size_in self.now) (state_of work.new.now)) }
+        ensures refused { IfErr result (λ e. ¬ (e ≡ NoMemory)
+            → SettlesTooHeavy (size_in self.now) work.old.moment (state_of work.old.now) work.old.actions (refused_of e)) }
+    {
+        settle(work)?;
+        check_room_in(self.alloc, &self.served, work, self.size)?;
+        Ok(())
     }
 
     /// The step to these tables once jobs have begun at the moment.
@@ -170,10 +190,21 @@ impl Engine {
             Settled (size_in self.now) moment (standing_in self.now) served.state [] r.0 (map action_of r.1.items)) }
         ensures refused { IfErr result (λ e. ¬ (e ≡ NoMemory) → SettlesTooHeavy (size_in self.now) moment served.state [] (refused_of e)) }
     {
-        let (served, actions) = settled(self.alloc, served, moment)?;
-        check_room(self.alloc, &served, self.size)?;
+        let mut served = served;
+        let actions = self.settle_in_room(&mut served, moment)?;
         let change = change_between(self.alloc, &self.served, served)?;
         Ok((change, actions))
+    }
+
+    /// Lets jobs begin in these tables at the moment, and tells what is asked of processes. Refused is what weighs too much then (E14).
+    fn settle_in_room(&self, served: &mut Served, moment: Moment) -> Result<Vec<Action>, Refusal>
+        ensures leads { IfOk result (λ r. LeadsTo (model.Settles moment served.old.state) moment (map action_of r.items) served.new.state) }
+        ensures room { IfOk result (λ _. ¬ model.IsTooHeavy (size_in self.now) served.new.state) }
+        ensures refused { IfErr result (λ e. ¬ (e ≡ NoMemory) → SettlesTooHeavy (size_in self.now) moment served.old.state [] (refused_of e)) }
+    {
+        let actions = settle_served(self.alloc, served, moment)?;
+        check_room(self.alloc, served, self.size)?;
+        Ok(actions)
     }
 
     /// The step that the input is. It is refused as the machine refuses it, or for want of memory (E15); nothing has changed then.
@@ -276,6 +307,16 @@ impl Engine {
     }
 }
 
+/// The state with what is known of its units. Refused are too many known units (E13), and pending jobs that wait for one another in a
+/// circle (E9).
+fn served_of(alloc: Global, state: State) -> Result<Served, Refusal>
+    ensures state { IfOk result (λ served. served.state ≡ state_of state) }
+    ensures refused { RefusesBy (model.CausesOfLoad (state_of state) (state_of state).loaded) result }
+{
+    let known = known_of_loaded(alloc, &state, state.loaded())?;
+    Ok(Served::numbered(state, known)?)
+}
+
 /// The state with what is known of its units, if a store of so many bytes may hold it. Refused are too many known units (E13), pending
 /// jobs that wait for one another in a circle (E9), and a weight beyond the size (E14).
 fn servable(alloc: Global, state: State, size: u64) -> Result<Served, Refusal>
@@ -283,27 +324,34 @@ fn servable(alloc: Global, state: State, size: u64) -> Result<Served, Refusal>
     ensures servable { IfOk result (λ _. IsServable size (state_of state)) }
     ensures refused { IfErr result (λ e. ¬ (e ≡ NoMemory) → ¬ IsServable size (state_of state)) }
 {
-    let known = known_of_loaded(alloc, &state, state.loaded())?;
-    let known = Rc::new(alloc, known)?;
-    let served = Served::numbered(state, known)?;
+    let served = served_of(alloc, state)?;
     check_room(alloc, &served, size)?;
     Ok(served)
 }
 
-/// The state in which jobs begin at the moment until none is ready, and what is asked of processes.
-fn settled(
+/// Lets jobs begin at the moment until none is ready, and tells what is asked of processes.
+fn settle_served(
     alloc: Global,
-    served: Served,
+    served: &mut Served,
     moment: Moment,
-) -> Result<(Served, Vec<Action>), AllocError>
-    ensures { IfOk result (λ r. LeadsTo (model.Settles moment served.state) moment (map action_of r.1.items) r.0.state) }
+) -> Result<Vec<Action>, AllocError>
+    ensures { IfOk result (λ r. LeadsTo (model.Settles moment served.old.state) moment (map action_of r.items) served.new.state) }
 {
-    let mut served = served;
     let mut work = served.work(alloc, moment)?;
     settle(&mut work)?;
     let (mut delta, actions) = work.done()?;
     served.swap(&mut delta);
-    Ok((served, actions))
+    Ok(actions)
+}
+
+/// The change of these rows, or to these tables where there are none.
+fn change_of(rows: Option<Delta>, after: Served) -> Change
+    ensures { MatchOption rows (result ≡ changes.Tables after) (λ delta. result ≡ changes.Rows delta) }
+{
+    match rows {
+        Some(delta) => Change::Rows(delta),
+        None => Change::Tables(after),
+    }
 }
 
 /// What leads from what is served to these tables: rows, where nothing else differs.
@@ -313,8 +361,6 @@ fn change_between(alloc: Global, served: &Served, after: Served) -> Result<Chang
     ensures rows { IfOk result (λ change. IfSome (rows_of change) (DiffersInRows served.now.state after.state)) }
     ensures tables { IfOk result (λ change. rows_of change ≡ None → ¬ HasSameTables (standing_of served.now) (standing_of after)) }
 {
-    match rows_between(alloc, served.standing(), after.standing())? {
-        Some(delta) => Ok(Change::Rows(delta)),
-        None => Ok(Change::Tables(after)),
-    }
+    let rows = rows_between(alloc, served.standing(), after.standing())?;
+    Ok(change_of(rows, after))
 }

@@ -3,8 +3,9 @@
 ghost use Rattle.std.specs.Bool.{Decides};
 ghost use Rattle.std.specs.Prelude.{◌≡◌, ◌↔◌, ◌&&◌, ℕ, true, [], Contains, map, vec_len, IfOk, IsTrue};
 ghost use Rattle.um_engine.specs.Engine.{DoesRows, FollowsUpon, MetBy};
-ghost use Rattle.um_engine.specs.Served.{standing_of};
+ghost use Rattle.um_engine.specs.Served.{begun_at, standing_of};
 ghost use Rattle.um_falling.specs.Over.{Serves};
+ghost use Rattle.um_falling.specs.Work.{Goes, Keeps};
 ghost use Rattle.um_model.specs.Ends.{waits_for_report};
 ghost use Rattle.um_model.specs.Machine as model;
 ghost use Rattle.um_model.specs.Service.{is_number, state_of_unit};
@@ -152,6 +153,22 @@ fn is_idle(keeps_next: bool, delta: &Delta, actions: &[Action]) -> bool
     keeps_next && delta.len() == 0 && actions.is_empty()
 }
 
+/// The work in which the deadlines that are due at the moment fired.
+fn fired<'s>(
+    alloc: Global,
+    served: &'s Served,
+    moment: Moment,
+) -> Result<Work<'s>, AllocError>
+    ensures follows { IfOk result (λ work. Goes (model.Follows moment served.now.state model.Tick)
+        (begun_at (standing_of served.now) served.now.known.graph moment) work) }
+    ensures keeps { IfOk result (λ work. Keeps (begun_at (standing_of served.now) served.now.known.graph moment) work) }
+{
+    let timers = served.state().units().deadlines()?;
+    let mut work = served.work(alloc, moment)?;
+    fire(&mut work, timers)?;
+    Ok(work)
+}
+
 /// What changes by a tick; nothing where it leaves all rows as they are and asks for nothing. Where no deadline is due that is so, and
 /// nothing is copied.
 fn after_tick(
@@ -165,9 +182,7 @@ fn after_tick(
     if state.units().none_due(moment) {
         return Ok((Change::Nothing, Vec::new(alloc)));
     }
-    let mut work = served.work(alloc, moment)?;
-    let timers = state.units().deadlines()?;
-    fire(&mut work, timers)?;
+    let work = fired(alloc, served, moment)?;
     let is_next = keeps_next(&work, state);
     let (delta, actions) = work.done()?;
     if is_idle(is_next, &delta, actions.as_slice()) {
@@ -200,8 +215,9 @@ fn after_boot(
     if boot.as_str() == state.boot().as_str() {
         return Ok(Change::Nothing);
     }
+    let id = boot.copy()?;
     let mut after = state.copy()?;
-    after.begin_boot(alloc, boot.copy()?);
+    after.begin_boot(alloc, id);
     after.set_clock(moment);
     match Served::of(alloc, after) {
         Ok(served) => Ok(Change::Tables(served)),

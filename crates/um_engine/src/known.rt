@@ -12,6 +12,7 @@ ghost use Rattle.um_model.specs.declared.refusals.Limit.TheVariants as limits;
 
 use std::alloc::{AllocError, Global};
 use std::marker::Model;
+use std::rc::Rc;
 use um_falling::Work;
 use um_graph::{Graph, known_units};
 use um_name::{Names, UnitName};
@@ -117,17 +118,18 @@ impl Known {
         tree: &Tree,
         state: &State,
         named: Option<&UnitName>,
-    ) -> Result<Known, Refusal>
-        ensures made { IfOk result (λ k. IsGraphFor tree.now (Contains k.extra) k.graph) }
-        ensures extra { IfOk result (λ k. (unit : List ℕ) → Contains k.extra unit ↔ IsHeldWith (state_of state.now) (option_copied named.entry) unit) }
-        ensures lasting { IfOk result (λ k. (unit : List ℕ) → Contains k.lasting unit ↔ IsKnown (without_run tree.now) (Contains k.extra) unit) }
+    ) -> Result<Rc<Known>, Refusal>
+        ensures made { IfOk result (λ k. IsGraphFor tree.now (Contains k.value.extra) k.value.graph) }
+        ensures extra { IfOk result (λ k. (unit : List ℕ) → Contains k.value.extra unit ↔ IsHeldWith (state_of state.now) (option_copied named.entry) unit) }
+        ensures lasting { IfOk result (λ k. (unit : List ℕ)
+            → Contains k.value.lasting unit ↔ IsKnown (without_run tree.now) (Contains k.value.extra) unit) }
         ensures few { IfOk result (λ k. ¬ IsFull tree.now (IsHeldWith (state_of state.now) (option_copied named.entry))) }
         ensures refused { IfErr result (λ e. ¬ (e ≡ refusals.NoMemory) → (e ≡ refusals.TooLarge limits.Units)
             × IsFull tree.now (IsHeldWith (state_of state.now) (option_copied named.entry))) }
     {
         let extra = held_with(alloc, state, named)?;
         let known = Known::with_units(alloc, tree, extra)?;
-        Ok(known)
+        Ok(Rc::new(alloc, known)?)
     }
 
     /// What is known of the units of the tree, with these beside them. Refused are too many (E13 `units`).

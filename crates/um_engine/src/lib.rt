@@ -10,6 +10,7 @@ mod jobs;
 mod known;
 mod laws;
 mod loading;
+mod memory;
 mod numbered;
 mod planning;
 mod resetting;

@@ -11,6 +11,7 @@ ghost use Rattle.um_wire.specs.Gives.{RefusesBy};
 use crate::known::Known;
 use crate::numbered::pending_by_number;
 use std::alloc::Global;
+use std::rc::Rc;
 use um_state::State;
 use um_transact::check_pending;
 use um_tree::Tree;
@@ -28,8 +29,8 @@ pub fn check_order(alloc: Global, known: &Known, state: &State) -> Result<(), Re
 
 /// What is known of the units of a tree that the state may load. Refused are too many known units (E13), and pending jobs that would
 /// wait for one another in a circle (E9).
-pub fn known_of_loaded(alloc: Global, state: &State, tree: &Tree) -> Result<Known, Refusal>
-    ensures knows { IfOk result (λ k. KnowsFor k (record (state_of state.now) { loaded = tree.now })) }
+pub fn known_of_loaded(alloc: Global, state: &State, tree: &Tree) -> Result<Rc<Known>, Refusal>
+    ensures knows { IfOk result (λ k. KnowsFor k.value (record (state_of state.now) { loaded = tree.now })) }
     ensures refused { RefusesBy (CausesOfLoad (state_of state.now) tree.now) result }
 {
     let known = Known::of(alloc, tree, state, None)?;

@@ -1,12 +1,12 @@
 //! What the plan of a command for a unit makes of the state (systemctl(1), "start", "stop", "restart", "try-restart").
 
-ghost use Rattle.std.specs.Prelude.{◌≡◌, [], ℕ, List, Contains, IfOk, IfErr, length};
+ghost use Rattle.std.specs.Prelude.{◌≡◌, [], ℕ, List, Contains, IfOk, IfErr, OnOk, length};
 ghost use Rattle.um_answer.specs.Loaded.{is_found as finds};
 ghost use Rattle.um_engine.specs.Demanded.{Demands, wants_it_there};
 ghost use Rattle.um_engine.specs.Known.{IsGraphFor, KnowsFor};
 ghost use Rattle.um_engine.specs.Outcomes.{IsBasedOn, IsSilent, state_by};
 ghost use Rattle.um_engine.specs.Planned.{AreActive, ArePending, HasPlan, IsTransactionFor};
-ghost use Rattle.um_engine.specs.Served.{WorksOn};
+ghost use Rattle.um_engine.specs.Served.{WorksOn, begun_at, standing_of};
 ghost use Rattle.um_falling.specs.Work.{Keeps};
 ghost use Rattle.um_graph.specs.Graph.{IsGraph, IsNumberOf};
 ghost use Rattle.um_jobs.specs.Named.{jobs_by};
@@ -15,6 +15,7 @@ ghost use Rattle.um_model.specs.Machine as model;
 ghost use Rattle.um_model.specs.Machine.{IsHeldOr};
 ghost use Rattle.um_model.specs.Service.{active_state_of, state_of_unit};
 ghost use Rattle.um_model.specs.Units.{load as load_in};
+ghost use Rattle.um_model.specs.declared.dependencies.Demand as demands;
 ghost use Rattle.um_state.specs.View.{state_of};
 ghost use Rattle.um_wire.specs.Gives.{RefusesBy};
 ghost use Rattle.um_wire.specs.Refusal.{refused_of};
@@ -166,8 +167,67 @@ struct Wanted<'a> {
     mode: JobMode,
 }
 
-/// The work with the plan for the demand on a unit that is known. Refused are, in this order, too many known units with the jobs of the plan
-/// (E13), a unit that isn't there (E7), and what `Transaction::check` refuses.
+/// Puts the jobs of the transaction. Refused are, in this order, too many known units with the jobs of the plan (E13), a unit that isn't
+/// there (E7), and what `Transaction::check` refuses; the work is of no use then.
+fn put_checked(
+    alloc: Global,
+    served: &Served,
+    work: &mut Work<'_>,
+    transaction: &Transaction<'_>,
+    wanted: &Wanted<'_>,
+) -> Result<(), Refusal>
+    requires finds { wanted.now.is_found ≡ finds (load_in served.now.state.loaded wanted.now.asked.now) }
+    requires begins { work.old ≡ begun_at (standing_of served.now) served.now.known.graph work.old.moment }
+    requires works { WorksOn served.now work.old }
+    requires graph { transaction.now.graph ≡ work.old.graph }
+    requires tidy { AreTidyJobs (state_of work.old.now).pending }
+    ensures planned { OnOk result ((root : demands.Demand × List ℕ) → IsTransactionFor served.now.state root transaction.now
+        → HasPlan served.now.state root (state_of work.new.now)) }
+    ensures works { OnOk result (WorksOn served.now work.new) }
+    ensures moment { OnOk result (work.new.moment ≡ work.old.moment) }
+    ensures actions { OnOk result (work.new.actions ≡ work.old.actions) }
+    ensures refused { (demand : demands.Demand) (unit : List ℕ)
+        → Demands served.now.state wanted.now.verb wanted.now.asked.now wanted.now.is_found demand unit → IsTransactionFor served.now.state (demand, unit) transaction.now
+        → RefusesBy (model.Refuses served.now.state (model.ForUnit wanted.now.verb wanted.now.asked.now wanted.now.mode)) result }
+{
+    put_plan(work, transaction.plan().as_slice());
+    check_crowded(alloc, served, work)?;
+    check_there(
+        alloc,
+        served.state(),
+        wanted.verb,
+        wanted.asked,
+        wanted.is_found,
+    )?;
+    transaction.check(alloc, wanted.mode)?;
+    Ok(())
+}
+
+/// Puts the plan for the demand on a unit that is known. Refused is what `put_checked` refuses; the work is of no use then.
+fn plan_in(
+    alloc: Global,
+    served: &Served,
+    work: &mut Work<'_>,
+    demand: Demand,
+    unit: &UnitName,
+    wanted: &Wanted<'_>,
+) -> Result<(), Refusal>
+    requires demands { Demands served.now.state wanted.now.verb wanted.now.asked.now wanted.now.is_found demand unit.now }
+    requires exact { IsGraphFor served.now.state.loaded (IsHeldOr served.now.state unit.now) served.now.known.graph }
+    requires begins { work.old ≡ begun_at (standing_of served.now) served.now.known.graph work.old.moment }
+    requires works { WorksOn served.now work.old }
+    ensures planned { OnOk result (HasPlan served.now.state (demand, unit.now) (state_of work.new.now)) }
+    ensures works { OnOk result (WorksOn served.now work.new) }
+    ensures moment { OnOk result (work.new.moment ≡ work.old.moment) }
+    ensures actions { OnOk result (work.new.actions ≡ work.old.actions) }
+    ensures refused { RefusesBy (model.Refuses served.now.state (model.ForUnit wanted.now.verb wanted.now.asked.now wanted.now.mode)) result }
+{
+    let situation = situation_of(work)?;
+    let transaction = transaction(alloc, work.graph(), &situation, demand, unit)?;
+    put_checked(alloc, served, work, &transaction, wanted)
+}
+
+/// The work with the plan for the demand on a unit that is known. Refused is what `put_checked` refuses.
 fn planned_in<'s>(
     alloc: Global,
     served: &'s Served,
@@ -185,19 +245,28 @@ fn planned_in<'s>(
     ensures refused { RefusesBy (model.Refuses served.now.state (model.ForUnit wanted.now.verb wanted.now.asked.now wanted.now.mode)) result }
 {
     let mut work = served.work(alloc, moment)?;
-    let situation = situation_of(&work)?;
-    let transaction = transaction(alloc, work.graph(), &situation, demand, unit)?;
-    put_plan(&mut work, transaction.plan().as_slice());
-    check_crowded(alloc, served, &work)?;
-    check_there(
-        alloc,
-        served.state(),
-        wanted.verb,
-        wanted.asked,
-        wanted.is_found,
-    )?;
-    transaction.check(alloc, wanted.mode)?;
+    plan_in(alloc, served, &mut work, demand, unit, wanted)?;
     Ok(work)
+}
+
+/// Carries out the plan for the demand on a unit that is known, at the moment that the state has. Refused is what `put_checked` refuses.
+fn carry_out(
+    alloc: Global,
+    served: &mut Served,
+    demand: Demand,
+    unit: &UnitName,
+    wanted: &Wanted<'_>,
+) -> Result<(), Refusal>
+    requires demands { Demands served.old.state wanted.now.verb wanted.now.asked.now wanted.now.is_found demand unit.now }
+    requires exact { IsGraphFor served.old.state.loaded (IsHeldOr served.old.state unit.now) served.old.known.graph }
+    ensures planned { OnOk result (HasPlan served.old.state (demand, unit.now) served.new.state) }
+    ensures refused { RefusesBy (model.Refuses served.old.state (model.ForUnit wanted.now.verb wanted.now.asked.now wanted.now.mode)) result }
+{
+    let moment = served.state().clock();
+    let work = planned_in(alloc, served, moment, demand, unit, wanted)?;
+    let (mut delta, _) = work.done()?;
+    served.swap(&mut delta);
+    Ok(())
 }
 
 /// The state after a plan by other known units, at the moment that it has.
@@ -215,11 +284,9 @@ fn planned_with(
     ensures planned { IfOk result (λ u. HasPlan served.now.state (demand, unit.now) u.state) }
     ensures refused { RefusesBy (model.Refuses served.now.state (model.ForUnit wanted.now.verb wanted.now.asked.now wanted.now.mode)) result }
 {
-    let state = served.state();
-    let mut changed = Served::numbered(state.copy()?, known)?;
-    let work = planned_in(alloc, &changed, state.clock(), demand, unit, wanted)?;
-    let (mut delta, _) = work.done()?;
-    changed.swap(&mut delta);
+    let state = served.state().copy()?;
+    let mut changed = Served::numbered(state, known)?;
+    carry_out(alloc, &mut changed, demand, unit, wanted)?;
     Ok(changed)
 }
 

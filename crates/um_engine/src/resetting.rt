@@ -44,7 +44,7 @@ fn reset_all(work: &mut Work<'_>, units: &[UnitName]) -> Result<(), AllocError>
 }
 
 /// The unit that counts for the name that was asked for; refused is one that is neither found nor held (E7).
-fn unit_reset(alloc: Global, served: &Served, asked: &UnitName) -> Result<UnitName, Refusal>
+pub fn asked_unit(alloc: Global, served: &Served, asked: &UnitName) -> Result<UnitName, Refusal>
     ensures unit { IfOk result (λ unit. unit ≡ model.unit_asked served.now.state asked.now) }
     ensures refused { RefusesBy (model.IsMissing served.now.state asked.now) result }
 {
@@ -66,7 +66,7 @@ fn units_reset(
     match asked {
         Some(asked) => {
             let mut units = Vec::new(alloc);
-            units.push(unit_reset(alloc, served, asked)?)?;
+            units.push(asked_unit(alloc, served, asked)?)?;
             Ok(units)
         }
         None => Ok(served.state().units().names()?),

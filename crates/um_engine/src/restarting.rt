@@ -11,6 +11,7 @@ ghost use Rattle.um_model.specs.Machine.{IsBefore};
 ghost use Rattle.um_model.specs.Plan.{AreFree};
 ghost use Rattle.um_state.specs.View.{state_of};
 
+use crate::memory::is_for_memory;
 use crate::numbered::jobs_in;
 use std::alloc::{AllocError, Global};
 use um_falling::Work;
@@ -18,7 +19,6 @@ use um_graph::Graph;
 use um_jobs::Jobs;
 use um_model::JobKind;
 use um_transact::check_pending;
-use um_wire::Refusal;
 
 /// Whether none of these jobs wait for one another in a circle.
 fn are_free(alloc: Global, graph: &Graph, jobs: &Jobs<'_>) -> Result<bool, AllocError>
@@ -26,8 +26,12 @@ fn are_free(alloc: Global, graph: &Graph, jobs: &Jobs<'_>) -> Result<bool, Alloc
 {
     match check_pending(alloc, graph, jobs.as_slice()) {
         Ok(()) => Ok(true),
-        Err(Refusal::NoMemory) => Err(AllocError),
-        Err(_) => Ok(false),
+        Err(refusal) => {
+            if is_for_memory(refusal) {
+                return Err(AllocError);
+            }
+            Ok(false)
+        }
     }
 }
 

@@ -48,7 +48,6 @@ impl Served {
         ensures refused { RefusesBy (IsCrowded (state_of state).loaded (IsHeld (state_of state))) result }
     {
         let known = Known::of(alloc, state.loaded(), &state, None)?;
-        let known = Rc::new(alloc, known)?;
         let served = Served::numbered(state, known)?;
         Ok(served)
     }
@@ -156,6 +155,6 @@ impl Served {
             return Ok(self.known.clone()?);
         }
         let known = Known::of(alloc, self.state.loaded(), &self.state, Some(named))?;
-        Ok(Rc::new(alloc, known)?)
+        Ok(known)
     }
 }

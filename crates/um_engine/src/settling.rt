@@ -48,6 +48,21 @@ fn tell_anew(jobs: &mut Jobs<'_>, work: &Work<'_>, unit: usize, spreads: bool)
     }
 }
 
+/// Lets these jobs begin, one after another, until none is ready. Where memory is refused the work is of no use.
+fn begin_all(jobs: &mut Jobs<'_>, work: &mut Work<'_>) -> Result<(), AllocError>
+    requires serves { Serves work.old.graph (state_of work.old.now) }
+    requires tells { Tells work.old.graph (state_of work.old.now) jobs.old }
+    ensures settles { OnOk result (Goes (model.Settles work.old.moment (state_of work.old.now)) work.old work.new) }
+    ensures keeps { OnOk result (Keeps work.old work.new) }
+{
+    'jobs: while let Some((unit, kind)) = jobs.ready() {
+        begin_job(jobs, work, unit, kind);
+        let spreads = happen(work, unit, begins(kind))?;
+        tell_anew(jobs, work, unit, spreads);
+    }
+    Ok(())
+}
+
 /// Lets jobs begin, one after another, until none is ready. Where memory is refused the work is of no use.
 pub fn settle(work: &mut Work<'_>) -> Result<(), AllocError>
     ensures settles { OnOk result (Goes (model.Settles work.old.moment (state_of work.old.now)) work.old work.new) }
@@ -60,12 +75,7 @@ pub fn settle(work: &mut Work<'_>) -> Result<(), AllocError>
         return Ok(());
     }
     let mut jobs = jobs_in(work)?;
-    'jobs: while let Some((unit, kind)) = jobs.ready() {
-        begin_job(&mut jobs, work, unit, kind);
-        let spreads = happen(work, unit, begins(kind))?;
-        tell_anew(&mut jobs, work, unit, spreads);
-    }
-    Ok(())
+    begin_all(&mut jobs, work)
 }
 
 /// A timer: its deadline and its unit.
@@ -127,6 +137,20 @@ fn fire_one(work: &mut Work<'_>, due: &Due) -> Result<(), AllocError>
     Ok(())
 }
 
+/// Fires these deadlines as `fire` does, and takes out those that it fired.
+fn fire_all(work: &mut Work<'_>, timers: &mut Timers) -> Result<(), AllocError>
+    requires { model.AreDeadlines (state_of work.old.now).units timers.old }
+    ensures follows { OnOk result (Goes (model.Follows work.old.moment (state_of work.old.now) model.Tick) work.old work.new) }
+    ensures keeps { OnOk result (Keeps work.old work.new) }
+{
+    let moment = work.moment();
+    'timers: while let Some(due) = next_due(timers, moment)? {
+        timers.clear(&due.unit);
+        fire_one(work, &due)?;
+    }
+    Ok(())
+}
+
 /// Fires these deadlines that stand and aren't past the moment, earliest first, then by the names of their units; after each one jobs
 /// begin. One that is gone or changed by then doesn't fire. Where memory is refused the work is of no use.
 pub fn fire(work: &mut Work<'_>, timers: Timers) -> Result<(), AllocError>
@@ -134,11 +158,6 @@ pub fn fire(work: &mut Work<'_>, timers: Timers) -> Result<(), AllocError>
     ensures follows { OnOk result (Goes (model.Follows work.old.moment (state_of work.old.now) model.Tick) work.old work.new) }
     ensures keeps { OnOk result (Keeps work.old work.new) }
 {
-    let moment = work.moment();
     let mut timers = timers;
-    'timers: while let Some(due) = next_due(&timers, moment)? {
-        timers.clear(&due.unit);
-        fire_one(work, &due)?;
-    }
-    Ok(())
+    fire_all(work, &mut timers)
 }

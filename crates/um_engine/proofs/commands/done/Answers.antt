@@ -1,16 +1,49 @@
-use Rattle.std.proofs.Common.{◌≢◌, [], ap, refl, rules, subst, sym}
+use Rattle.std.proofs.Common.{◌≡◌, ◌≢◌, ◌∙◌, ℕ, List, [], Result, ap, refl, subst, sym}
 use Rattle.um_model.specs.Machine as model
 use Rattle.um_model.specs.Machine.{State, Command}
 use Rattle.um_model.specs.Refusals.{Refused}
+use Rattle.um_model.specs.Tree.{Tree}
+use Rattle.std.specs.Result.{IsErrAnd}
+use Rattle.um_wire.specs.Gives.{RefusesBy}
 use Rattle.um_wire.specs.Refusal.{refused_of}
+use Rattle.um_wire.specs.declared.refusal.Refusal.{Refusal}
 use Rattle.um_wire.specs.declared.refusal.Refusal.TheVariants.{NoMemory}
-use Rattle.um_state.specs.View.{command_of, state_of}
+use Rattle.um_state.specs.View.{command_of, reply_of, state_of}
 use Rattle.um_model.specs.Live.{HoldsNoMore}
 use Rattle.um_engine.specs.Outcomes.{actions_by, state_by}
 use Rattle.um_engine.proofs.KnownLaws.{put_holds_no_more, link_holds_no_more, remove_holds_no_more}
 use Rattle.um_engine.proofs.PlannedLaws.{refuses_on}
 use Rattle.um_engine.proofs.Stepped.{does_so}
 use Rattle.um_engine.proofs.commands.done.Goals as goal
+
+-- what holds of a command by the state in hand holds of it by what is served
+at_command : (P : State → Command → Type 0) (x s : State) (command q : Command) → x ≡ s → q ≡ command → P x command → P s q
+at_command P x s command q here is h = subst (λ (y : State). P y q) here (subst (P x) (sym is) h)
+
+-- a call that gives on the refusal of the command
+gives_on : {X : Type 0} (x s : State) (command q : Command) (result : Result X Refusal) (e : Refusal) → x ≡ s → q ≡ command → IsErrAnd result (λ f. f ≡ e)
+    → (e ≢ NoMemory → model.Refuses x command (refused_of e)) → RefusesBy (model.Refuses s q) result
+gives_on x s command q result e here is on cause =
+    refuses_on (model.Refuses s q) result e on (at_command (λ y p. e ≢ NoMemory → model.Refuses y p (refused_of e)) x s command q here is cause)
+
+-- a command that isn't refused
+free_of : (x s : State) (command q : Command) → x ≡ s → q ≡ command → ((r : Refused) → ¬ model.Refuses x command r) → (r : Refused) → ¬ model.Refuses s q r
+free_of x s command q here is free = at_command (λ y p. (r : Refused) → ¬ model.Refuses y p r) x s command q here is free
+
+-- the command as it is read
+puts : (q : Command) (path path' text text' : List ℕ) → q ≡ model.PutFile path text → path' ≡ path → text' ≡ text → q ≡ model.PutFile path' text'
+puts q path path' text text' is e f = cc
+
+links : (q : Command) (path path' target target' : List ℕ) → q ≡ model.PutLink path target → path' ≡ path → target' ≡ target → q ≡ model.PutLink path' target'
+links q path path' target target' is e f = cc
+
+removes : (q : Command) (path path' : List ℕ) → q ≡ model.Remove path → path' ≡ path → q ≡ model.Remove path'
+removes q path path' is e = cc
+
+-- what is answered where nothing but Done is
+answers : (q command : Command) (before after : Tree) → q ≡ command → model.reply_after (model.Commanded command) before after ≡ model.Done
+    → model.Done ≡ model.reply_after (model.Commanded q) before after
+answers q command before after is done = sym (subst (λ (p : Command). model.reply_after (model.Commanded p) before after ≡ model.Done) (sym is) done)
 
 pub kept-requires : goal.kept-requires
 kept-requires c =
@@ -34,27 +67,30 @@ pub returns-in_ok-kept-in-PutFile-clause-does : goal.returns-in_ok-kept-in-PutFi
 returns-in_ok-kept-in-PutFile-clause-does c =
     let o = c.in_ok-kept-in-PutFile in
     let u = state_of c.in_ok-changed-in-PutFile.changed in
-    let told : model.Changes c.args.served.now.state (command_of c.args.command.now) u = search (rules, c.in-PutFile.is, c.state-state.ensures.state, c.in_ok-changed-in-PutFile.ensures.changed) in
+    let is : command_of c.args.command.now ≡ model.PutFile c.as_str.result.now c.as_str-in-PutFile.result.now = puts (command_of c.args.command.now) _ c.as_str.result.now _ c.as_str-in-PutFile.result.now (ap command_of c.in-PutFile.is) c.as_str.ensures.value c.as_str-in-PutFile.ensures.value in
+    let told = at_command (λ x q. model.Changes x q u) (state_of c.state-state.result.now) c.args.served.now.state (model.PutFile c.as_str.result.now c.as_str-in-PutFile.result.now) (command_of c.args.command.now) c.state-state.ensures.state is c.in_ok-changed-in-PutFile.ensures.changed in
     does_so c.args.moment c.args.served.now.state u o.field-0.state (command_of c.args.command.now) [] told o.ensures refl
 
 pub returns-in_ok-kept-in-PutLink-clause-does : goal.returns-in_ok-kept-in-PutLink-clause-does
 returns-in_ok-kept-in-PutLink-clause-does c =
     let o = c.in_ok-kept-in-PutLink in
     let u = state_of c.in_ok-changed-in-PutLink.changed in
-    let told : model.Changes c.args.served.now.state (command_of c.args.command.now) u = search (rules, c.in-PutLink.is, c.state-state.ensures.state, c.in_ok-changed-in-PutLink.ensures.changed) in
+    let is : command_of c.args.command.now ≡ model.PutLink c.as_str-in-PutLink.result.now c.as_str-in-PutLink-2.result.now = links (command_of c.args.command.now) _ c.as_str-in-PutLink.result.now _ c.as_str-in-PutLink-2.result.now (ap command_of c.in-PutLink.is) c.as_str-in-PutLink.ensures.value c.as_str-in-PutLink-2.ensures.value in
+    let told = at_command (λ x q. model.Changes x q u) (state_of c.state-state.result.now) c.args.served.now.state (model.PutLink c.as_str-in-PutLink.result.now c.as_str-in-PutLink-2.result.now) (command_of c.args.command.now) c.state-state.ensures.state is c.in_ok-changed-in-PutLink.ensures.changed in
     does_so c.args.moment c.args.served.now.state u o.field-0.state (command_of c.args.command.now) [] told o.ensures refl
 
 pub returns-in_ok-kept-in-Remove-clause-does : goal.returns-in_ok-kept-in-Remove-clause-does
 returns-in_ok-kept-in-Remove-clause-does c =
     let o = c.in_ok-kept-in-Remove in
     let u = state_of c.in_ok-changed-in-Remove.changed in
-    let told : model.Changes c.args.served.now.state (command_of c.args.command.now) u = search (rules, c.in-Remove.is, c.state-state.ensures.state, c.in_ok-changed-in-Remove.ensures.changed) in
+    let is : command_of c.args.command.now ≡ model.Remove c.as_str-in-Remove.result.now = removes (command_of c.args.command.now) _ c.as_str-in-Remove.result.now (ap command_of c.in-Remove.is) c.as_str-in-Remove.ensures.value in
+    let told = at_command (λ x q. model.Changes x q u) (state_of c.state-state.result.now) c.args.served.now.state (model.Remove c.as_str-in-Remove.result.now) (command_of c.args.command.now) c.state-state.ensures.state is c.in_ok-changed-in-Remove.ensures.changed in
     does_so c.args.moment c.args.served.now.state u o.field-0.state (command_of c.args.command.now) [] told o.ensures refl
 
 pub returns-in_ok-reloaded-in-DaemonReload-clause-does : goal.returns-in_ok-reloaded-in-DaemonReload-clause-does
 returns-in_ok-reloaded-in-DaemonReload-clause-does c =
     let u = c.in_ok-reloaded-in-DaemonReload.field-0.state in
-    let told : model.Changes c.args.served.now.state (command_of c.args.command.now) u = search (rules, c.in-DaemonReload.is, c.state-state.ensures.state, c.in_ok-reloaded-in-DaemonReload.ensures.changed) in
+    let told = at_command (λ x q. model.Changes x q u) (state_of c.state-state.result.now) c.args.served.now.state model.DaemonReload (command_of c.args.command.now) c.state-state.ensures.state (ap command_of c.in-DaemonReload.is) c.in_ok-reloaded-in-DaemonReload.ensures.changed in
     does_so c.args.moment c.args.served.now.state u u (command_of c.args.command.now) [] told refl refl
 
 pub returns-in_ok-outcome-in-ForUnit-clause-does : goal.returns-in_ok-outcome-in-ForUnit-clause-does
@@ -129,3 +165,109 @@ returns-in_err-served-in-Install-clause-refused c =
     refuses_on (model.Refuses s (command_of c.args.command.now)) c.from_residual-in_err-served-in-Install.result e
     c.from_residual-in_err-served-in-Install.ensures.1
     (subst (λ (q : Command). e ≢ NoMemory → model.Refuses s q (refused_of e)) (sym (ap command_of c.in-Install.is)) step)
+
+pub returns-in_err-changed-in-PutFile-clause-refused : goal.returns-in_err-changed-in-PutFile-clause-refused
+returns-in_err-changed-in-PutFile-clause-refused c =
+    let is : command_of c.args.command.now ≡ model.PutFile c.as_str.result.now c.as_str-in-PutFile.result.now = puts (command_of c.args.command.now) _ c.as_str.result.now _ c.as_str-in-PutFile.result.now (ap command_of c.in-PutFile.is) c.as_str.ensures.value c.as_str-in-PutFile.ensures.value in
+    gives_on (state_of c.state-state.result.now) c.args.served.now.state (model.PutFile c.as_str.result.now c.as_str-in-PutFile.result.now) (command_of c.args.command.now) c.from_residual.result c.in_err-changed-in-PutFile.field-0.0
+    c.state-state.ensures.state is c.from_residual.ensures.1 c.in_err-changed-in-PutFile.ensures.refused
+
+pub returns-in_ok-kept-in-PutFile-clause-refused : goal.returns-in_ok-kept-in-PutFile-clause-refused
+returns-in_ok-kept-in-PutFile-clause-refused c =
+    let is : command_of c.args.command.now ≡ model.PutFile c.as_str.result.now c.as_str-in-PutFile.result.now = puts (command_of c.args.command.now) _ c.as_str.result.now _ c.as_str-in-PutFile.result.now (ap command_of c.in-PutFile.is) c.as_str.ensures.value c.as_str-in-PutFile.ensures.value in
+    free_of (state_of c.state-state.result.now) c.args.served.now.state (model.PutFile c.as_str.result.now c.as_str-in-PutFile.result.now) (command_of c.args.command.now) c.state-state.ensures.state is c.in_ok-changed-in-PutFile.ensures.refused
+
+pub returns-in_err-changed-in-PutLink-clause-refused : goal.returns-in_err-changed-in-PutLink-clause-refused
+returns-in_err-changed-in-PutLink-clause-refused c =
+    let is : command_of c.args.command.now ≡ model.PutLink c.as_str-in-PutLink.result.now c.as_str-in-PutLink-2.result.now = links (command_of c.args.command.now) _ c.as_str-in-PutLink.result.now _ c.as_str-in-PutLink-2.result.now (ap command_of c.in-PutLink.is) c.as_str-in-PutLink.ensures.value c.as_str-in-PutLink-2.ensures.value in
+    gives_on (state_of c.state-state.result.now) c.args.served.now.state (model.PutLink c.as_str-in-PutLink.result.now c.as_str-in-PutLink-2.result.now) (command_of c.args.command.now) c.from_residual-in_err-changed-in-PutLink.result c.in_err-changed-in-PutLink.field-0.0
+    c.state-state.ensures.state is c.from_residual-in_err-changed-in-PutLink.ensures.1 c.in_err-changed-in-PutLink.ensures.refused
+
+pub returns-in_ok-kept-in-PutLink-clause-refused : goal.returns-in_ok-kept-in-PutLink-clause-refused
+returns-in_ok-kept-in-PutLink-clause-refused c =
+    let is : command_of c.args.command.now ≡ model.PutLink c.as_str-in-PutLink.result.now c.as_str-in-PutLink-2.result.now = links (command_of c.args.command.now) _ c.as_str-in-PutLink.result.now _ c.as_str-in-PutLink-2.result.now (ap command_of c.in-PutLink.is) c.as_str-in-PutLink.ensures.value c.as_str-in-PutLink-2.ensures.value in
+    free_of (state_of c.state-state.result.now) c.args.served.now.state (model.PutLink c.as_str-in-PutLink.result.now c.as_str-in-PutLink-2.result.now) (command_of c.args.command.now) c.state-state.ensures.state is c.in_ok-changed-in-PutLink.ensures.refused
+
+pub returns-in_err-changed-in-Remove-clause-refused : goal.returns-in_err-changed-in-Remove-clause-refused
+returns-in_err-changed-in-Remove-clause-refused c =
+    let is : command_of c.args.command.now ≡ model.Remove c.as_str-in-Remove.result.now = removes (command_of c.args.command.now) _ c.as_str-in-Remove.result.now (ap command_of c.in-Remove.is) c.as_str-in-Remove.ensures.value in
+    gives_on (state_of c.state-state.result.now) c.args.served.now.state (model.Remove c.as_str-in-Remove.result.now) (command_of c.args.command.now) c.from_residual-in_err-changed-in-Remove.result c.in_err-changed-in-Remove.field-0.0
+    c.state-state.ensures.state is c.from_residual-in_err-changed-in-Remove.ensures.1 c.in_err-changed-in-Remove.ensures.refused
+
+pub returns-in_ok-kept-in-Remove-clause-refused : goal.returns-in_ok-kept-in-Remove-clause-refused
+returns-in_ok-kept-in-Remove-clause-refused c =
+    let is : command_of c.args.command.now ≡ model.Remove c.as_str-in-Remove.result.now = removes (command_of c.args.command.now) _ c.as_str-in-Remove.result.now (ap command_of c.in-Remove.is) c.as_str-in-Remove.ensures.value in
+    free_of (state_of c.state-state.result.now) c.args.served.now.state (model.Remove c.as_str-in-Remove.result.now) (command_of c.args.command.now) c.state-state.ensures.state is c.in_ok-changed-in-Remove.ensures.refused
+
+pub returns-in_err-without_waiting-in-Cancel-clause-refused : goal.returns-in_err-without_waiting-in-Cancel-clause-refused
+returns-in_err-without_waiting-in-Cancel-clause-refused c =
+    let s = c.args.served.now.state in
+    gives_on s s (model.Cancel c.in-Cancel.unit) (command_of c.args.command.now) c.from_residual-in_err-without_waiting-in-Cancel.result c.in_err-without_waiting-in-Cancel.field-0.0
+    refl (ap command_of c.in-Cancel.is) c.from_residual-in_err-without_waiting-in-Cancel.ensures.1 c.in_err-without_waiting-in-Cancel.ensures.refused
+
+pub returns-in_err-without_failures-in-ResetFailed-clause-refused : goal.returns-in_err-without_failures-in-ResetFailed-clause-refused
+returns-in_err-without_failures-in-ResetFailed-clause-refused c =
+    let s = c.args.served.now.state in
+    gives_on s s (model.ResetFailed c.in-ResetFailed.unit) (command_of c.args.command.now) c.from_residual-in_err-without_failures-in-ResetFailed.result c.in_err-without_failures-in-ResetFailed.field-0.0
+    refl (ap command_of c.in-ResetFailed.is) c.from_residual-in_err-without_failures-in-ResetFailed.ensures.1 c.in_err-without_failures-in-ResetFailed.ensures.refused
+
+pub returns-in_ok-without_failures-in-ResetFailed-clause-refused : goal.returns-in_ok-without_failures-in-ResetFailed-clause-refused
+returns-in_ok-without_failures-in-ResetFailed-clause-refused c =
+    let s = c.args.served.now.state in
+    free_of s s (model.ResetFailed c.in-ResetFailed.unit) (command_of c.args.command.now) refl (ap command_of c.in-ResetFailed.is) c.in_ok-without_failures-in-ResetFailed.ensures.refused
+
+pub returns-in_ok-without_failures-in-ResetFailed-clause-does : goal.returns-in_ok-without_failures-in-ResetFailed-clause-does
+returns-in_ok-without_failures-in-ResetFailed-clause-does c =
+    let w = c.in_ok-without_failures-in-ResetFailed.field-0 in
+    subst (λ (q : Command). model.Does c.args.moment c.args.served.now.state q w.actions (state_of w.now)) (sym (ap command_of c.in-ResetFailed.is))
+    c.in_ok-without_failures-in-ResetFailed.ensures.does
+
+-- ---- what is answered, and on what the work goes
+
+pub returns-in_ok-kept-in-PutFile-clause-reply : goal.returns-in_ok-kept-in-PutFile-clause-reply
+returns-in_ok-kept-in-PutFile-clause-reply c =
+    answers (command_of c.args.command.now) _ c.args.served.now.state.tree c.in_ok-kept-in-PutFile.field-0.state.tree (ap command_of c.in-PutFile.is) refl
+
+pub returns-in_ok-kept-in-PutLink-clause-reply : goal.returns-in_ok-kept-in-PutLink-clause-reply
+returns-in_ok-kept-in-PutLink-clause-reply c =
+    answers (command_of c.args.command.now) _ c.args.served.now.state.tree c.in_ok-kept-in-PutLink.field-0.state.tree (ap command_of c.in-PutLink.is) refl
+
+pub returns-in_ok-kept-in-Remove-clause-reply : goal.returns-in_ok-kept-in-Remove-clause-reply
+returns-in_ok-kept-in-Remove-clause-reply c =
+    answers (command_of c.args.command.now) _ c.args.served.now.state.tree c.in_ok-kept-in-Remove.field-0.state.tree (ap command_of c.in-Remove.is) refl
+
+pub returns-in_ok-reloaded-in-DaemonReload-clause-reply : goal.returns-in_ok-reloaded-in-DaemonReload-clause-reply
+returns-in_ok-reloaded-in-DaemonReload-clause-reply c =
+    answers (command_of c.args.command.now) model.DaemonReload c.args.served.now.state.tree c.in_ok-reloaded-in-DaemonReload.field-0.state.tree (ap command_of c.in-DaemonReload.is) refl
+
+pub returns-in_ok-outcome-in-ForUnit-clause-reply : goal.returns-in_ok-outcome-in-ForUnit-clause-reply
+returns-in_ok-outcome-in-ForUnit-clause-reply c =
+    c.in_ok-outcome-in-ForUnit.ensures.silent.reply
+    ∙ answers (command_of c.args.command.now) _ c.args.served.now.state.tree (state_by c.in_ok-outcome-in-ForUnit.outcome).tree (ap command_of c.in-ForUnit.is) refl
+
+pub returns-in_ok-without_waiting-in-Cancel-clause-reply : goal.returns-in_ok-without_waiting-in-Cancel-clause-reply
+returns-in_ok-without_waiting-in-Cancel-clause-reply c =
+    answers (command_of c.args.command.now) _ c.args.served.now.state.tree (state_of c.in_ok-without_waiting-in-Cancel.field-0.now).tree (ap command_of c.in-Cancel.is) refl
+
+pub returns-in_ok-without_waiting-in-Cancel-clause-based : goal.returns-in_ok-without_waiting-in-Cancel-clause-based
+returns-in_ok-without_waiting-in-Cancel-clause-based c =
+    (c.in_ok-without_waiting-in-Cancel.ensures.works, c.in_ok-without_waiting-in-Cancel.ensures.moment)
+
+pub returns-in_ok-without_failures-in-ResetFailed-clause-reply : goal.returns-in_ok-without_failures-in-ResetFailed-clause-reply
+returns-in_ok-without_failures-in-ResetFailed-clause-reply c =
+    answers (command_of c.args.command.now) _ c.args.served.now.state.tree (state_of c.in_ok-without_failures-in-ResetFailed.field-0.now).tree (ap command_of c.in-ResetFailed.is) refl
+
+pub returns-in_ok-without_failures-in-ResetFailed-clause-based : goal.returns-in_ok-without_failures-in-ResetFailed-clause-based
+returns-in_ok-without_failures-in-ResetFailed-clause-based c =
+    (c.in_ok-without_failures-in-ResetFailed.ensures.works, c.in_ok-without_failures-in-ResetFailed.ensures.moment)
+
+pub returns-in_ok-outcome-in-ForUnit-clause-based : goal.returns-in_ok-outcome-in-ForUnit-clause-based
+returns-in_ok-outcome-in-ForUnit-clause-based c =
+    c.in_ok-outcome-in-ForUnit.ensures.based
+
+pub returns-in_ok-served-in-Install-clause-reply : goal.returns-in_ok-served-in-Install-clause-reply
+returns-in_ok-served-in-Install-clause-reply c =
+    let command = model.Install c.in-Install.verb c.in-Install.unit in
+    let served = c.in_ok-served-in-Install.served in
+    at_command (λ x q. reply_of c.in_ok-served-in-Install.reply ≡ model.reply_after (model.Commanded q) x.tree served.state.tree)
+    (state_of c.state-state.result.now) c.args.served.now.state command (command_of c.args.command.now) c.state-state.ensures.state (ap command_of c.in-Install.is) c.in_ok-served-in-Install.ensures.reply

@@ -1,5 +1,5 @@
-use Rattle.std.proofs.Common.{refl, ap, subst}
-use Rattle.um_model.specs.Install.{Installs, RefusesLinks, RefusesUnits}
+use Rattle.std.proofs.Common.{◌≡◌, ◌∙◌, ℕ, List, refl, ap, subst, sym}
+use Rattle.um_model.specs.Install.{Installs, RefusesLinks, RefusesUnits, paths_beyond}
 use Rattle.um_model.specs.Machine as model
 use Rattle.um_model.specs.Machine.{IsCrowded, IsHeld}
 use Rattle.um_model.specs.Refusals.{Refused}
@@ -10,6 +10,10 @@ use Rattle.um_engine.proofs.Causes.{by_links, by_crowd_of_install, by_units, by_
 use Rattle.um_engine.proofs.KnownLaws.{knows_made}
 use Rattle.um_engine.proofs.PlannedLaws.{refuses_on}
 use Rattle.um_engine.proofs.commands.installed.Goals as goal
+
+-- the same is answered
+relinks : (made made' removed removed' : List (List ℕ)) → made ≡ made' → removed ≡ removed' → model.Relinked made removed ≡ model.Relinked made' removed'
+relinks made made' removed removed' e f = cc
 
 pub returns-in_err-tree-clause-refused : goal.returns-in_err-tree-clause-refused
 returns-in_err-tree-clause-refused c =
@@ -54,15 +58,15 @@ returns-in_err-check_order-clause-refused c =
     let few : (q : Refused) → ¬ IsCrowded tree (IsHeld s) q = λ q h. c.in_ok-known.ensures.few h.many in
     let able : (q : Refused) → ¬ RefusesUnits s.tree c.args.verb c.args.unit.now q =
     subst (λ t. (q : Refused) → ¬ RefusesUnits t c.args.verb c.args.unit.now q) c.tree-3.ensures c.in_ok-check_units.ensures in
-    let k : KnownView = c.in_ok-known.known in
+    let k : KnownView = c.in_ok-known.known.value in
     let knows : KnowsFor k (record s { loaded = tree }) = knows_made k s tree c.in_ok-known.ensures.made c.in_ok-known.ensures.lasting c.in_ok-known.ensures.extra in
     let e = c.in_err-check_order.field-0.0 in
     refuses_on (model.Refuses s (model.Install c.args.verb c.args.unit.now)) c.from_residual-in_err-check_order.result e c.from_residual-in_err-check_order.ensures.1
-    (λ differs. by_circle s c.args.verb c.args.unit.now tree made linked few able (refused_of e) (c.in_err-check_order.ensures tree knows differs))
+    (λ differs. by_circle s c.args.verb c.args.unit.now tree made linked few able (refused_of e) (c.in_err-check_order.ensures tree (subst (λ (x : KnownView). KnowsFor x (record s { loaded = tree })) (sym c.deref.ensures) knows) differs))
 
 pub with_tree-requires : goal.with_tree-requires
 with_tree-requires c =
-    knows_made c.in_ok-known.known (state_of c.args.state.now) c.in_ok-tree.field-0.tree c.in_ok-known.ensures.made c.in_ok-known.ensures.lasting c.in_ok-known.ensures.extra
+    knows_made c.in_ok-known.known.value (state_of c.args.state.now) c.in_ok-tree.field-0.tree c.in_ok-known.ensures.made c.in_ok-known.ensures.lasting c.in_ok-known.ensures.extra
 
 pub returns-clause-changed : goal.returns-clause-changed
 returns-clause-changed c =
@@ -81,6 +85,14 @@ returns-clause-refused c =
     let few : (q : Refused) → ¬ IsCrowded tree (IsHeld s) q = λ q h. c.in_ok-known.ensures.few h.many in
     let able : (q : Refused) → ¬ RefusesUnits s.tree c.args.verb c.args.unit.now q =
     subst (λ t. (q : Refused) → ¬ RefusesUnits t c.args.verb c.args.unit.now q) c.tree-3.ensures c.in_ok-check_units.ensures in
-    let k : KnownView = c.in_ok-known.known in
+    let k : KnownView = c.in_ok-known.known.value in
     let knows : KnowsFor k (record s { loaded = tree }) = knows_made k s tree c.in_ok-known.ensures.made c.in_ok-known.ensures.lasting c.in_ok-known.ensures.extra in
-    free_to_install s c.args.verb c.args.unit.now tree made linked few able (c.in_ok-check_order.ensures tree knows)
+    free_to_install s c.args.verb c.args.unit.now tree made linked few able (c.in_ok-check_order.ensures tree (subst (λ (x : KnownView). KnowsFor x (record s { loaded = tree })) (sym c.deref.ensures) knows))
+
+pub returns-clause-reply : goal.returns-clause-reply
+returns-clause-reply c =
+    let s = state_of c.args.state.now in
+    let tree = c.in_ok-tree.field-0.tree in
+    let now = sym (ap (λ (x : model.State). x.tree) c.in_ok-served.ensures) in
+    relinks _ _ _ _ (c.in_ok-tree.ensures.made ∙ (ap (λ t. paths_beyond t tree) c.tree.ensures ∙ ap (paths_beyond s.tree) now))
+    (c.in_ok-tree.ensures.removed ∙ (ap (paths_beyond tree) c.tree.ensures ∙ ap (λ t. paths_beyond t s.tree) now))

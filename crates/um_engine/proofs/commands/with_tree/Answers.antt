@@ -1,12 +1,10 @@
-use Rattle.std.proofs.Common.{◌∙◌, ap, sym, subst}
+use Rattle.std.proofs.Common.{◌∙◌, ap}
 use Rattle.um_model.specs.Machine.{State}
 use Rattle.um_state.specs.View.{state_of}
-use Rattle.um_engine.specs.Known.{KnownView, KnowsFor}
 use Rattle.um_engine.proofs.KnownLaws.{knows_loaded}
 use Rattle.um_engine.proofs.commands.with_tree.Goals as goal
 
 pub numbered-requires : goal.numbered-requires
 numbered-requires c =
-    subst (λ (k : KnownView). KnowsFor k (state_of c.load_tree.new.self)) (sym c.in_ok-known.ensures.ok)
-    (knows_loaded c.args.known (state_of c.args.state.now) (state_of c.load_tree.new.self) c.args.tree c.args.tree c.requires
-    (c.in_ok-load_tree.ensures.ok ∙ ap (λ (x : State). record x { tree = c.args.tree; loaded = c.args.tree }) c.in_ok-changed.ensures))
+    knows_loaded c.args.known.value (state_of c.args.state.now) (state_of c.load_tree.new.self) c.args.tree c.args.tree c.requires
+    (c.in_ok-load_tree.ensures.ok ∙ ap (λ (x : State). record x { tree = c.args.tree; loaded = c.args.tree }) c.in_ok-changed.ensures)

@@ -1,7 +1,8 @@
-use Rattle.std.proofs.Common.{◌∙◌, map, sym, ap, subst, true≢false}
+use Rattle.std.proofs.Common.{◌∙◌, map, refl, sym, ap, subst, true≢false}
 use Rattle.um_model.specs.Machine.{State}
 use Rattle.um_state.specs.Due.{NoneDue}
 use Rattle.um_state.specs.View.{action_of}
+use Rattle.um_engine.specs.Served.{begun_at, standing_of}
 use Rattle.um_engine.proofs.DoneLaws.{tick_goes, tick_rests}
 use Rattle.um_engine.proofs.Ticks.{none_due_idle}
 use Rattle.um_engine.proofs.happenings.after_tick.Goals as goal
@@ -16,14 +17,14 @@ returns-then-none_due c = (
 pub returns-then-is_idle : goal.returns-then-is_idle
 returns-then-is_idle c =
     let idle = rw c.as_slice.ensures.value at (c.is_idle.ensures.0 c.if-is_idle.true) in
-    tick_rests c.args.served.now c.args.moment c.in_ok-work.work c.fire.new.work c.in_ok-delta.delta (map action_of c.in_ok-delta.actions.items) c.in_ok-work.ensures.begins
-    c.in_ok-fire.ensures.keeps c.in_ok-fire.ensures.follows c.in_ok-delta.ensures.after c.in_ok-delta.ensures.count c.in_ok-delta.ensures.actions idle.1
+    tick_rests c.args.served.now c.args.moment (begun_at (standing_of c.args.served.now) c.args.served.now.known.graph c.args.moment) c.in_ok-work.work c.in_ok-delta.delta (map action_of c.in_ok-delta.actions.items) refl
+    c.in_ok-work.ensures.keeps c.in_ok-work.ensures.follows c.in_ok-delta.ensures.after c.in_ok-delta.ensures.count c.in_ok-delta.ensures.actions idle.1
     (c.keeps_next-is_next.ensures.0 idle.0 ∙ ap (λ (s : State). s.next) c.state-state.ensures.state) idle.2
 
 pub returns : goal.returns
 returns c =
-    tick_goes c.args.served.now c.args.moment c.in_ok-work.work c.fire.new.work c.in_ok-delta.delta (map action_of c.in_ok-delta.actions.items) c.in_ok-work.ensures.begins
-    c.in_ok-fire.ensures.keeps c.in_ok-fire.ensures.follows c.in_ok-delta.ensures.after c.in_ok-delta.ensures.count c.in_ok-delta.ensures.actions
+    tick_goes c.args.served.now c.args.moment (begun_at (standing_of c.args.served.now) c.args.served.now.known.graph c.args.moment) c.in_ok-work.work c.in_ok-delta.delta (map action_of c.in_ok-delta.actions.items) refl
+    c.in_ok-work.ensures.keeps c.in_ok-work.ensures.follows c.in_ok-delta.ensures.after c.in_ok-delta.ensures.count c.in_ok-delta.ensures.actions
     (λ none next nothing.
     true≢false
     (sym (c.is_idle.ensures.1

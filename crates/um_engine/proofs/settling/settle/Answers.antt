@@ -2,7 +2,6 @@ use Rattle.std.proofs.Common.{◌≡◌, true, rules}
 use Rattle.um_state.specs.View.{state_of}
 use Rattle.um_engine.proofs.ReadyLaws.{still_waitless}
 use Rattle.um_engine.proofs.Steps.{settled}
-use Rattle.um_engine.proofs.WorkedLaws.{settling_done, settling_drops, settling_first, settling_more}
 use Rattle.um_falling.proofs.WorkLaws.{keeps_all}
 use Rattle.um_engine.proofs.settling.settle.Goals as goal
 
@@ -15,23 +14,14 @@ returns-then-none_waits-clause-settles c =
 pub returns-then-none_waits-clause-keeps : goal.returns-then-none_waits-clause-keeps
 returns-then-none_waits-clause-keeps c = keeps_all c.args.work.now
 
-pub jobs-init : goal.jobs-init
-jobs-init c = settling_first c.args.work.now c.in_ok-jobs.jobs c.graph.ensures.serves c.in_ok-jobs.ensures
+pub begin_all-requires-clause-serves : goal.begin_all-requires-clause-serves
+begin_all-requires-clause-serves c = c.graph.ensures.serves
 
-pub jobs-smaller : goal.jobs-smaller
-jobs-smaller c =
-    settling_drops c.args.work.now c.jobs.work c.jobs.jobs c.jobs.invariant c.in-Some.unit c.in-Some.kind c.in-Some.ensures.within c.in-Some.ensures.least
-    c.begin_job.new.work c.happen.new.work c.begin_job.ensures.keeps c.in_ok-spreads.ensures.keeps c.begin_job.ensures.begun c.in_ok-spreads.ensures.waits
-
-pub jobs-preserved : goal.jobs-preserved
-jobs-preserved c =
-    settling_more c.args.work.now c.jobs.work c.jobs.jobs c.jobs.invariant c.in-Some.unit c.in-Some.kind c.in-Some.ensures.within c.in-Some.ensures.least
-    c.begin_job.new.work c.happen.new.work c.begin_job.ensures.keeps c.in_ok-spreads.ensures.keeps c.begin_job.ensures.begun
-    c.begin_job.new.jobs c.tell_anew.new.jobs c.begins.result c.in_ok-spreads.spreads c.begins.ensures c.begin_job.ensures.actions c.begin_job.ensures.tells
-    c.in_ok-spreads.ensures.happens c.in_ok-spreads.ensures.others c.tell_anew.ensures
+pub begin_all-requires-clause-tells : goal.begin_all-requires-clause-tells
+begin_all-requires-clause-tells c = c.in_ok-jobs.ensures
 
 pub returns-clause-settles : goal.returns-clause-settles
-returns-clause-settles c = settling_done c.args.work.now c.jobs.work c.jobs.jobs c.jobs.invariant c.in_default.ensures.least
+returns-clause-settles c = c.begin_all.ensures.settles
 
 pub returns-clause-keeps : goal.returns-clause-keeps
-returns-clause-keeps c = c.jobs.invariant.keeps
+returns-clause-keeps c = c.begin_all.ensures.keeps

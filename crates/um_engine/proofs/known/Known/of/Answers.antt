@@ -1,22 +1,49 @@
-use Rattle.std.proofs.Common.{◌≡◌, ◌↔◌, ℕ, List, Contains, option_copied, rules, sym, subst}
+use Rattle.std.proofs.Common.{◌≡◌, ◌↔◌, ℕ, List, Contains, Result, Ok, Err, option_copied, refl, sym, subst}
+use Rattle.std.specs.Prelude.{IfErr}
+use Rattle.std.specs.Result.{IsErrAnd}
+use Rattle.um_model.specs.Dependencies.{IsKnown}
+use Rattle.um_model.specs.Tree.{without_run}
 use Rattle.um_state.specs.View.{state_of}
+use Rattle.um_wire.specs.declared.refusal.Refusal.{Refusal}
 use Rattle.um_wire.specs.declared.refusal.Refusal.TheVariants as refusals
 use Rattle.um_model.specs.declared.refusals.Limit.TheVariants as limits
-use Rattle.um_engine.specs.Known.{IsFull, IsHeldWith}
+use Rattle.um_engine.specs.Known.{IsFull, IsGraphFor, IsHeldWith, KnownView}
 use Rattle.um_engine.proofs.SameUnitsLaws.{full_by}
 use Rattle.um_engine.proofs.known.Known.of.Goals as goal
+
+-- a call that gives on a refusal
+full_on : {X : Type 0} (Full : Type 0) (result : Result X Refusal) (e : Refusal) → IsErrAnd result (λ f. f ≡ e) → (¬ (e ≡ refusals.NoMemory) → (e ≡ refusals.TooLarge limits.Units) × Full)
+    → IfErr result (λ f. ¬ (f ≡ refusals.NoMemory) → (f ≡ refusals.TooLarge limits.Units) × Full)
+full_on Full (Ok x) e on full = absurd on
+full_on Full (Err f) e on full = subst (λ (r : Refusal). ¬ (r ≡ refusals.NoMemory) → (r ≡ refusals.TooLarge limits.Units) × Full) (sym on) full
+
+pub returns-in_err-extra-clause-refused : goal.returns-in_err-extra-clause-refused
+returns-in_err-extra-clause-refused c =
+    full_on (IsFull c.args.tree.now (IsHeldWith (state_of c.args.state.now) (option_copied c.args.named))) c.from_residual.result refusals.NoMemory c.from_residual.ensures.1 (λ differs. absurd (differs refl))
 
 pub returns-in_err-known-clause-refused : goal.returns-in_err-known-clause-refused
 returns-in_err-known-clause-refused c =
     let Held = IsHeldWith (state_of c.args.state.now) (option_copied c.args.named) in
-    let e = c.in_err-known.field-0.0 in
-    let step : ¬ (e ≡ refusals.NoMemory) → (e ≡ refusals.TooLarge limits.Units) × IsFull c.args.tree.now Held =
-    λ differs. let r = c.in_err-known.ensures.refused differs in (r.0, full_by c.args.tree.now (Contains c.in_ok-extra.extra.items) Held c.in_ok-extra.ensures r.1) in
-    search (rules, step)
+    full_on (IsFull c.args.tree.now Held) c.from_residual-in_err-known.result c.in_err-known.field-0.0 c.from_residual-in_err-known.ensures.1
+    (λ differs. let r = c.in_err-known.ensures.refused differs in (r.0, full_by c.args.tree.now (Contains c.in_ok-extra.extra.items) Held c.in_ok-extra.ensures r.1))
+
+pub returns-in_err-new-clause-refused : goal.returns-in_err-new-clause-refused
+returns-in_err-new-clause-refused c =
+    full_on (IsFull c.args.tree.now (IsHeldWith (state_of c.args.state.now) (option_copied c.args.named))) c.from_residual-in_err-new.result refusals.NoMemory c.from_residual-in_err-new.ensures.1
+    (λ differs. absurd (differs refl))
+
+pub returns-clause-made : goal.returns-clause-made
+returns-clause-made c = subst (λ (k : KnownView). IsGraphFor c.args.tree.now (Contains k.extra) k.graph) (sym c.in_ok-new.ensures.ok) c.in_ok-known.ensures.made
+
+pub returns-clause-lasting : goal.returns-clause-lasting
+returns-clause-lasting c =
+    subst (λ (k : KnownView). (unit : List ℕ) → Contains k.lasting unit ↔ IsKnown (without_run c.args.tree.now) (Contains k.extra) unit) (sym c.in_ok-new.ensures.ok) c.in_ok-known.ensures.lasting
 
 pub returns-clause-extra : goal.returns-clause-extra
 returns-clause-extra c =
-    subst (λ xs. (unit : List ℕ) → Contains xs unit ↔ IsHeldWith (state_of c.args.state.now) (option_copied c.args.named) unit) (sym c.in_ok-known.ensures.extra) c.in_ok-extra.ensures
+    let Held = IsHeldWith (state_of c.args.state.now) (option_copied c.args.named) in
+    subst (λ (k : KnownView). (unit : List ℕ) → Contains k.extra unit ↔ Held unit) (sym c.in_ok-new.ensures.ok)
+    (subst (λ xs. (unit : List ℕ) → Contains xs unit ↔ Held unit) (sym c.in_ok-known.ensures.extra) c.in_ok-extra.ensures)
 
 pub returns-clause-few : goal.returns-clause-few
 returns-clause-few c full =

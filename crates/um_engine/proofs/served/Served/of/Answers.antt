@@ -1,17 +1,33 @@
-use Rattle.std.proofs.Common.{subst, sym}
-use Rattle.um_model.specs.Machine.{IsHeld}
+use Rattle.std.proofs.Common.{ap, refl, subst, sym}
+use Rattle.um_model.specs.Machine.{IsCrowded, IsHeld}
 use Rattle.um_state.specs.View.{state_of}
-use Rattle.um_engine.specs.Known.{IsFull, KnownView, KnowsFor}
+use Rattle.um_wire.specs.Refusal.{refused_of}
+use Rattle.um_wire.specs.declared.refusal.Refusal.TheVariants.{NoMemory}
+use Rattle.um_engine.specs.Known.{IsFull}
 use Rattle.um_engine.proofs.KnownLaws.{knows_made, knows_of}
+use Rattle.um_engine.proofs.PlannedLaws.{refuses_on}
 use Rattle.um_engine.proofs.served.Served.of.Goals as goal
 
 pub numbered-requires : goal.numbered-requires
 numbered-requires c =
     let s = state_of c.args.state in
-    let known = c.in_ok-known.known in
-    subst (λ (k : KnownView). KnowsFor k s) (sym c.in_ok-known-2.ensures.ok)
-    (knows_of known s c.loaded.result.now c.loaded.ensures
-    (knows_made known s c.loaded.result.now c.in_ok-known.ensures.made c.in_ok-known.ensures.lasting c.in_ok-known.ensures.extra))
+    let known = c.in_ok-known.known.value in
+    knows_of known s c.loaded.result.now c.loaded.ensures
+    (knows_made known s c.loaded.result.now c.in_ok-known.ensures.made c.in_ok-known.ensures.lasting c.in_ok-known.ensures.extra)
+
+pub returns-in_err-known-clause-refused : goal.returns-in_err-known-clause-refused
+returns-in_err-known-clause-refused c =
+    let s = state_of c.args.state in
+    let e = c.in_err-known.field-0.0 in
+    refuses_on (IsCrowded s.loaded (IsHeld s)) c.from_residual.result e c.from_residual.ensures.1
+    (λ differs.
+    let full = c.in_err-known.ensures.refused differs in
+    record { many = subst (λ tree. IsFull tree (IsHeld s)) c.loaded.ensures full.1; refusal = ap refused_of full.0 })
+
+pub returns-in_err-served-clause-refused : goal.returns-in_err-served-clause-refused
+returns-in_err-served-clause-refused c =
+    let s = state_of c.args.state in
+    refuses_on (IsCrowded s.loaded (IsHeld s)) c.from_residual-in_err-served.result NoMemory c.from_residual-in_err-served.ensures.1 (λ differs. absurd (differs refl))
 
 pub returns-clause-refused : goal.returns-clause-refused
 returns-clause-refused c = λ r crowded.

@@ -1,6 +1,6 @@
 use Rattle.std.specs.FinMap as finite
 use Rattle.um_engine.proofs.WorkedLaws.{Firing}
-use Rattle.um_engine.proofs.settling.fire.Given as goal
+use Rattle.um_engine.proofs.settling.fire_all.Given as goal
 
 -- what fires the rest fires the whole
 abbrev pub invariant-timers : goal.invariant-timers

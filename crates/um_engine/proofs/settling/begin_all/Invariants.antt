@@ -1,7 +1,7 @@
 use Rattle.um_state.specs.View.{state_of}
 use Rattle.um_engine.proofs.ReadyLaws.{waiting_in}
 use Rattle.um_engine.proofs.WorkedLaws.{Settling}
-use Rattle.um_engine.proofs.settling.settle.Given as goal
+use Rattle.um_engine.proofs.settling.begin_all.Given as goal
 
 -- what is told by number is what the state tells, and what settles the rest settles the whole
 abbrev pub invariant-jobs : goal.invariant-jobs

@@ -1,0 +1,13 @@
+use Rattle.std.proofs.Common.{◌≡◌, ◌∙◌, Contains, Some, slice_get, subst, sym}
+use Rattle.um_falling.proofs.AlongLaws.{known_by}
+use Rattle.um_graph.specs.Graph.{IsNumberOf}
+use Rattle.um_engine.specs.Known.{KnownView}
+use Rattle.std.proofs.lemmas.Option.{same_Some}
+use Rattle.um_engine.proofs.known.Known.lasts_at_in.Goals as goal
+
+pub returns-else-not-holds : goal.returns-else-not-holds
+returns-else-not-holds c = λ lasts unit number held.
+    let named : IsNumberOf c.args.self.now.graph c.args.number c.in-Some.unit.now =
+    sym (subst (λ (k : KnownView). Some c.in-Some.unit.now ≡ slice_get k.graph.names c.args.number) c.self.view_is c.in-Some.ensures) in
+    let same : c.in-Some.unit.now ≡ unit = same_Some c.in-Some.unit.now unit (sym named ∙ number) in
+    subst (Contains c.args.self.now.lasting) same (c.lasts.ensures lasts (known_by c.args.self.now.graph c.args.number c.in-Some.unit.now named))

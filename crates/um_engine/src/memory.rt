@@ -1,0 +1,13 @@
+//! Want of memory, told from what is refused for a cause.
+
+ghost use Rattle.std.specs.Prelude.{◌≡◌, ◌↔◌, IsTrue};
+ghost use Rattle.um_wire.specs.declared.refusal.Refusal.TheVariants.{NoMemory};
+
+use um_wire::Refusal;
+
+/// Whether nothing but memory was wanting.
+pub fn is_for_memory(refusal: Refusal) -> bool
+    ensures { IsTrue result ↔ (refusal ≡ NoMemory) }
+{
+    matches!(refusal, Refusal::NoMemory)
+}
