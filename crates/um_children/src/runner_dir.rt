@@ -11,7 +11,7 @@ use crate::places::{
 };
 use crate::removal::remove_files;
 use crate::shells::{has_run, send, send_kept, start};
-use crate::silence::Silence;
+use crate::silence::{Silence, has_long_been};
 use crate::standing::{Known, Standing, stronger};
 use crate::trouble::{Cause, Trouble};
 use crate::watch::Watch;
@@ -20,7 +20,7 @@ use std::collections::BTreeMap;
 use std::fs::Files;
 use std::mem;
 use std::process::Processes;
-use std::time::{Clock, Instant};
+use std::time::Clock;
 use um_keeper::SpawnOrder;
 use um_model::{Fate, NextNumber, ProcessNumber, Signal};
 use um_runner::RunnerFile;
@@ -250,30 +250,6 @@ impl<'a, R: Files + Processes + Clock> RunnerDir<'a, R> {
         Ok(send_kept(self.rt, self.alloc, known))
     }
 
-    /// Notes whether nobody has claimed the number, and since when.
-    fn heed(&mut self, number: ProcessNumber, standing: Standing)
-        ensures failures { self.new.failures ≡ self.old.failures }
-    {
-        let n = number.get();
-        if standing != Standing::Silent {
-            self.silences.remove(&n);
-            return;
-        }
-        let Ok(now) = Instant::now(self.rt) else {
-            return;
-        };
-        let silence = match self.silences.get(&n) {
-            Some(silence) => *silence,
-            None => Silence::Since(now),
-        };
-        let is_long = silence.is_long(now);
-        let next = if is_long { Silence::Told } else { silence };
-        // where there is no memory for it, it is told later
-        if self.silences.insert(n, next).is_ok() && is_long {
-            self.silent = Some(number);
-        }
-    }
-
     /// Whether a number of which so much is known runs, as it did when it was looked at last: no signal waits for its pid, and nothing may have
     /// come since its files were read. So it is with most, and nothing is to be done for them.
     fn runs_on(&self, known: Known) -> bool {
@@ -293,7 +269,9 @@ impl<'a, R: Files + Processes + Clock> RunnerDir<'a, R> {
         }
         let was_restless = mem::replace(&mut self.is_restless, true);
         let known = self.learn(number, before, claim)?;
-        self.heed(number, known.standing);
+        if has_long_been(self.rt, &mut self.silences, number, known.standing) {
+            self.silent = Some(number);
+        }
         // where there is no memory for it the files are read again
         let is_kept = known == before || self.known.insert(number.get(), known).is_ok();
         self.is_restless = was_restless || !is_kept || !known.is_settled();
