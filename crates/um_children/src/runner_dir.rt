@@ -66,6 +66,34 @@ fn admit(foreign: Option<ProcessNumber>) -> Result<(), Trouble> {
     }
 }
 
+/// What is known of the number.
+fn known_in(known: &BTreeMap<u64, Known>, number: ProcessNumber) -> Known {
+    match known.get(&number.get()) {
+        Some(known) => *known,
+        None => Known::nothing(),
+    }
+}
+
+/// What is known of the number after so many changes of the folder; its files are read where anything may have come since they were read.
+fn look<R: Files>(
+    rt: &R,
+    alloc: Global,
+    folder: &str,
+    changes: u64,
+    number: ProcessNumber,
+    known: Known,
+) -> Result<Known, Trouble> {
+    let changes = Some(changes);
+    if known.standing.is_final() || known.changes == changes {
+        return Ok(known);
+    }
+    Ok(Known {
+        standing: standing_in(rt, alloc, folder, number, known.standing)?,
+        kept: known.kept,
+        changes,
+    })
+}
+
 impl<'a, R: Files + Processes + Clock> RunnerDir<'a, R> {
     /// Children over the folder, through the runner at `program`. The folder is made where nothing stands there; one that stands there is
     /// the manager's alone from then on (mode 700).
@@ -202,33 +230,6 @@ impl<'a, R: Files + Processes + Clock> RunnerDir<'a, R> {
         start(self.rt, self.alloc, program, folder, order)
     }
 
-    /// What is known of the number.
-    fn known(&self, number: ProcessNumber) -> Known {
-        match self.known.get(&number.get()) {
-            Some(known) => *known,
-            None => Known::nothing(),
-        }
-    }
-
-    /// What is known of the number now; its files are read where anything may have come since they were read.
-    fn look(&self, number: ProcessNumber, known: Known) -> Result<Known, Trouble> {
-        let changes = Some(self.watch.changes());
-        if known.standing.is_final() || known.changes == changes {
-            return Ok(known);
-        }
-        Ok(Known {
-            standing: standing_in(
-                self.rt,
-                self.alloc,
-                self.folder.as_str(),
-                number,
-                known.standing,
-            )?,
-            kept: known.kept,
-            changes,
-        })
-    }
-
     /// Looks at the folder where the number begins a round.
     fn begin(&mut self, number: ProcessNumber)
         ensures failures { self.new.failures ≡ self.old.failures }
@@ -243,9 +244,10 @@ impl<'a, R: Files + Processes + Clock> RunnerDir<'a, R> {
     /// What is known of the number, once it was claimed where it has to be, and a kept signal was sent where it can be.
     fn learn(&self, number: ProcessNumber, before: Known, claim: bool) -> Result<Known, Trouble> {
         admit(self.foreign)?;
-        let mut known = self.look(number, before)?;
+        let (folder, changes) = (self.folder.as_str(), self.watch.changes());
+        let mut known = look(self.rt, self.alloc, folder, changes, number, before)?;
         if claim && known.standing == Standing::Silent {
-            known.standing = bar(self.rt, self.alloc, self.folder.as_str(), number)?;
+            known.standing = bar(self.rt, self.alloc, folder, number)?;
         }
         Ok(send_kept(self.rt, self.alloc, known))
     }
@@ -263,7 +265,7 @@ impl<'a, R: Files + Processes + Clock> RunnerDir<'a, R> {
     {
         self.begin(number);
         self.silent = None;
-        let before = self.known(number);
+        let before = known_in(&self.known, number);
         if self.runs_on(before) {
             return Ok(Fate::Executed);
         }
@@ -282,7 +284,7 @@ impl<'a, R: Files + Processes + Clock> RunnerDir<'a, R> {
         ensures failures { self.new.failures ≡ self.old.failures }
     {
         admit(self.foreign)?;
-        let known = self.known(number);
+        let known = known_in(&self.known, number);
         if known.standing.is_final() {
             return Ok(());
         }
@@ -362,7 +364,7 @@ impl<'a, R: Files + Processes + Clock> Children for RunnerDir<'a, R> {
     /// `NoMemory` where a growth was refused, `Device` where the system refuses: a later call removes what was left.
     fn forget(&mut self, number: ProcessNumber) -> Result<(), ChildFault> {
         let answer = self.remove_files(number);
-        if self.known(number).standing.is_final() {
+        if known_in(&self.known, number).standing.is_final() {
             self.known.remove(&number.get());
         }
         self.count(answer)
