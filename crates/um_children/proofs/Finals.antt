@@ -1,12 +1,10 @@
 -- No number that was told absent starts: one call more keeps it.
-use Rattle.std.proofs.Common.{Option, ◌≡◌, ℕ, Bool, true, false, ◌||◌, ◌&&◌, not, cond, eqb, List, [], ◌∷◌, ◌++◌, refl, sym, subst, ◌∙◌}
-use Rattle.std.proofs.lemmas.Bool.{and_parts, eqb-true, true≢false}
+use Rattle.std.proofs.Common.{◌≡◌, ℕ, Bool, true, false, ◌||◌, ◌&&◌, cond, eqb, List, [], ◌∷◌, ◌++◌, refl, sym, subst, ◌∙◌}
+use Rattle.std.proofs.lemmas.Bool.{eqb-true, true≢false}
 use Rattle.std.proofs.lemmas.List.{map-append}
 use Rattle.std.proofs.lemmas.List.Folds.{list_any-append}
-use Rattle.um_model.specs.Children.{Call, Spawned, Signalled, Asked, Forgot, ForgotOthers, Spawn}
-use Rattle.um_model.specs.declared.children.Fate.{Fate}
-use Rattle.um_model.specs.declared.service.Signal.{Signal}
-use Rattle.um_children.specs.History.{tells_absent, is_start, is_absence, has_started, was_absent, IsFinal}
+use Rattle.um_model.specs.Children.{Call, Spawned, Signalled, Asked, Forgot, ForgotOthers}
+use Rattle.um_children.specs.History.{is_start, is_absence, has_started, was_absent, IsFinal}
 use Rattle.um_children.specs.Calls.{Fits, call_of, calls_of}
 use Rattle.um_children.specs.declared.call.Call as told
 

@@ -107,11 +107,7 @@ fn ends_copied(
 ) -> Result<Vec<(ProcessNumber, End)>, AllocError>
     ensures { IfOk result (λ copies. copies.items ≡ ends.now) }
 {
-    let mut copies = Vec::new(alloc);
-    for end in ends {
-        copies.push(*end)?;
-    }
-    Ok(copies)
+    Vec::from_slice(alloc, ends)
 }
 
 impl FakeChildren {

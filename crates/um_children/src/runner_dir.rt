@@ -11,7 +11,7 @@ use crate::places::{
 };
 use crate::removal::remove_files;
 use crate::shells::{has_run, send, send_kept, start};
-use crate::silence::Silence;
+use crate::silence::{Silence, has_long_been};
 use crate::standing::{Known, Standing, stronger};
 use crate::trouble::{Cause, Trouble};
 use crate::watch::Watch;
@@ -20,7 +20,7 @@ use std::collections::BTreeMap;
 use std::fs::Files;
 use std::mem;
 use std::process::Processes;
-use std::time::{Clock, Instant};
+use std::time::Clock;
 use um_keeper::SpawnOrder;
 use um_model::{Fate, NextNumber, ProcessNumber, Signal};
 use um_runner::RunnerFile;
@@ -64,6 +64,34 @@ fn admit(foreign: Option<ProcessNumber>) -> Result<(), Trouble> {
         Some(_) => Err(Trouble::Failed(Cause::Foreign)),
         None => Ok(()),
     }
+}
+
+/// What is known of the number.
+fn known_in(known: &BTreeMap<u64, Known>, number: ProcessNumber) -> Known {
+    match known.get(&number.get()) {
+        Some(known) => *known,
+        None => Known::nothing(),
+    }
+}
+
+/// What is known of the number after so many changes of the folder; its files are read where anything may have come since they were read.
+fn look<R: Files>(
+    rt: &R,
+    alloc: Global,
+    folder: &str,
+    changes: u64,
+    number: ProcessNumber,
+    known: Known,
+) -> Result<Known, Trouble> {
+    let changes = Some(changes);
+    if known.standing.is_final() || known.changes == changes {
+        return Ok(known);
+    }
+    Ok(Known {
+        standing: standing_in(rt, alloc, folder, number, known.standing)?,
+        kept: known.kept,
+        changes,
+    })
 }
 
 impl<'a, R: Files + Processes + Clock> RunnerDir<'a, R> {
@@ -202,33 +230,6 @@ impl<'a, R: Files + Processes + Clock> RunnerDir<'a, R> {
         start(self.rt, self.alloc, program, folder, order)
     }
 
-    /// What is known of the number.
-    fn known(&self, number: ProcessNumber) -> Known {
-        match self.known.get(&number.get()) {
-            Some(known) => *known,
-            None => Known::nothing(),
-        }
-    }
-
-    /// What is known of the number now; its files are read where anything may have come since they were read.
-    fn look(&self, number: ProcessNumber, known: Known) -> Result<Known, Trouble> {
-        let changes = Some(self.watch.changes());
-        if known.standing.is_final() || known.changes == changes {
-            return Ok(known);
-        }
-        Ok(Known {
-            standing: standing_in(
-                self.rt,
-                self.alloc,
-                self.folder.as_str(),
-                number,
-                known.standing,
-            )?,
-            kept: known.kept,
-            changes,
-        })
-    }
-
     /// Looks at the folder where the number begins a round.
     fn begin(&mut self, number: ProcessNumber)
         ensures failures { self.new.failures ≡ self.old.failures }
@@ -243,35 +244,12 @@ impl<'a, R: Files + Processes + Clock> RunnerDir<'a, R> {
     /// What is known of the number, once it was claimed where it has to be, and a kept signal was sent where it can be.
     fn learn(&self, number: ProcessNumber, before: Known, claim: bool) -> Result<Known, Trouble> {
         admit(self.foreign)?;
-        let mut known = self.look(number, before)?;
+        let (folder, changes) = (self.folder.as_str(), self.watch.changes());
+        let mut known = look(self.rt, self.alloc, folder, changes, number, before)?;
         if claim && known.standing == Standing::Silent {
-            known.standing = bar(self.rt, self.alloc, self.folder.as_str(), number)?;
+            known.standing = bar(self.rt, self.alloc, folder, number)?;
         }
         Ok(send_kept(self.rt, self.alloc, known))
-    }
-
-    /// Notes whether nobody has claimed the number, and since when.
-    fn heed(&mut self, number: ProcessNumber, standing: Standing)
-        ensures failures { self.new.failures ≡ self.old.failures }
-    {
-        let n = number.get();
-        if standing != Standing::Silent {
-            self.silences.remove(&n);
-            return;
-        }
-        let Ok(now) = Instant::now(self.rt) else {
-            return;
-        };
-        let silence = match self.silences.get(&n) {
-            Some(silence) => *silence,
-            None => Silence::Since(now),
-        };
-        let is_long = silence.is_long(now);
-        let next = if is_long { Silence::Told } else { silence };
-        // where there is no memory for it, it is told later
-        if self.silences.insert(n, next).is_ok() && is_long {
-            self.silent = Some(number);
-        }
     }
 
     /// Whether a number of which so much is known runs, as it did when it was looked at last: no signal waits for its pid, and nothing may have
@@ -287,13 +265,15 @@ impl<'a, R: Files + Processes + Clock> RunnerDir<'a, R> {
     {
         self.begin(number);
         self.silent = None;
-        let before = self.known(number);
+        let before = known_in(&self.known, number);
         if self.runs_on(before) {
             return Ok(Fate::Executed);
         }
         let was_restless = mem::replace(&mut self.is_restless, true);
         let known = self.learn(number, before, claim)?;
-        self.heed(number, known.standing);
+        if has_long_been(self.rt, &mut self.silences, number, known.standing) {
+            self.silent = Some(number);
+        }
         // where there is no memory for it the files are read again
         let is_kept = known == before || self.known.insert(number.get(), known).is_ok();
         self.is_restless = was_restless || !is_kept || !known.is_settled();
@@ -304,7 +284,7 @@ impl<'a, R: Files + Processes + Clock> RunnerDir<'a, R> {
         ensures failures { self.new.failures ≡ self.old.failures }
     {
         admit(self.foreign)?;
-        let known = self.known(number);
+        let known = known_in(&self.known, number);
         if known.standing.is_final() {
             return Ok(());
         }
@@ -384,7 +364,7 @@ impl<'a, R: Files + Processes + Clock> Children for RunnerDir<'a, R> {
     /// `NoMemory` where a growth was refused, `Device` where the system refuses: a later call removes what was left.
     fn forget(&mut self, number: ProcessNumber) -> Result<(), ChildFault> {
         let answer = self.remove_files(number);
-        if self.known(number).standing.is_final() {
+        if known_in(&self.known, number).standing.is_final() {
             self.known.remove(&number.get());
         }
         self.count(answer)

@@ -1,6 +1,9 @@
 //! How long nobody has claimed a number that was started.
 
-use std::time::Instant;
+use crate::standing::Standing;
+use std::collections::BTreeMap;
+use std::time::{Clock, Instant};
+use um_model::ProcessNumber;
 
 /// So many seconds are waited for the claim of a runner, which takes far less where all is well, until it is told that there is none.
 const PATIENCE: u64 = 10;
@@ -22,4 +25,29 @@ impl Silence {
             Silence::Told => false,
         }
     }
+}
+
+/// Notes whether nobody has claimed the number, and since when. Whether it is to be told now.
+pub(crate) fn has_long_been<R: Clock>(
+    rt: &R,
+    silences: &mut BTreeMap<u64, Silence>,
+    number: ProcessNumber,
+    standing: Standing,
+) -> bool {
+    let n = number.get();
+    if standing != Standing::Silent {
+        silences.remove(&n);
+        return false;
+    }
+    let Ok(now) = Instant::now(rt) else {
+        return false;
+    };
+    let silence = match silences.get(&n) {
+        Some(silence) => *silence,
+        None => Silence::Since(now),
+    };
+    let is_long = silence.is_long(now);
+    let next = if is_long { Silence::Told } else { silence };
+    // where there is no memory for it, it is told later
+    silences.insert(n, next).is_ok() && is_long
 }

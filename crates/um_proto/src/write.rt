@@ -1,4 +1,4 @@
-ghost use Rattle.std.specs.Prelude.{◌≡◌, ◌∷◌, [], map, string_bytes, false, ◌++◌, IfOk, IsTrue, OnOk, length, unwrap_or, ◌<◌, ◌≤◌};
+ghost use Rattle.std.specs.Prelude.{◌≡◌, ◌∷◌, [], map, string_bytes, false, ◌++◌, IfOk, IsOkAnd, IsTrue, OnOk, length, unwrap_or, ◌<◌, ◌≤◌};
 ghost use Rattle.serde_json.specs.Data.{array, string};
 ghost use Rattle.std.specs.List.{flat_map};
 ghost use Rattle.serde_json.specs.View.{view, items_of};
@@ -243,25 +243,32 @@ fn valued(alloc: Global, value: Value) -> Result<Value, AllocError>
     json!(in alloc; {"ok": true, "value": value})
 }
 
+/// A reply with this value, where it could be made.
+fn valued_by(alloc: Global, value: Result<Value, AllocError>) -> Result<Value, AllocError>
+    ensures { IfOk result (λ v. IsOkAnd value (λ w. view v ≡ model.valued (view w))) }
+{
+    valued(alloc, value?)
+}
+
 /// A reply, with an empty list in place of the warnings of a unit that it shows.
 fn reply_value(alloc: Global, reply: &Reply) -> Result<Value, AllocError>
     ensures { IfOk result (λ v. view v ≡ model.reply_data (written.unwarned (reply_of reply.now))) }
 {
     match reply {
         Reply::Done => json!(in alloc; {"ok": true}),
-        Reply::Shown(shown) => valued(alloc, shown_value(alloc, shown)?),
-        Reply::Activity(state) => valued(alloc, json!(in alloc; state.text())?),
-        Reply::Files(files) => valued(alloc, files_value(alloc, files.as_slice())?),
+        Reply::Shown(shown) => valued_by(alloc, shown_value(alloc, shown)),
+        Reply::Activity(state) => valued_by(alloc, Value::try_from_str(alloc, state.text())),
+        Reply::Files(files) => valued_by(alloc, files_value(alloc, files.as_slice())),
         Reply::Relinked { made, removed } => {
-            valued(
+            valued_by(
                 alloc,
-                relinked_value(alloc, made.as_slice(), removed.as_slice())?,
+                relinked_value(alloc, made.as_slice(), removed.as_slice()),
             )
         }
-        Reply::EnabledAs(answer) => valued(alloc, json!(in alloc; answer.text())?),
-        Reply::Listed(units) => valued(alloc, units_value(alloc, units.as_slice())?),
-        Reply::Jobs(jobs) => valued(alloc, jobs_value(alloc, jobs.as_slice())?),
-        Reply::Told(actions) => valued(alloc, actions_value(alloc, actions.as_slice())?),
+        Reply::EnabledAs(answer) => valued_by(alloc, Value::try_from_str(alloc, answer.text())),
+        Reply::Listed(units) => valued_by(alloc, units_value(alloc, units.as_slice())),
+        Reply::Jobs(jobs) => valued_by(alloc, jobs_value(alloc, jobs.as_slice())),
+        Reply::Told(actions) => valued_by(alloc, actions_value(alloc, actions.as_slice())),
         Reply::Refused(refusal) => refused_value(alloc, refusal),
     }
 }
