@@ -154,11 +154,7 @@ fn is_idle(keeps_next: bool, delta: &Delta, actions: &[Action]) -> bool
 }
 
 /// The work in which the deadlines that are due at the moment fired.
-fn fired<'s>(
-    alloc: Global,
-    served: &'s Served,
-    moment: Moment,
-) -> Result<Work<'s>, AllocError>
+fn fired<'s>(alloc: Global, served: &'s Served, moment: Moment) -> Result<Work<'s>, AllocError>
     ensures follows { IfOk result (λ work. Goes (model.Follows moment served.now.state model.Tick)
         (begun_at (standing_of served.now) served.now.known.graph moment) work) }
     ensures keeps { IfOk result (λ work. Keeps (begun_at (standing_of served.now) served.now.known.graph moment) work) }

@@ -349,6 +349,31 @@ fn planned_by<'s>(
     Ok(Outcome::Tables(changed, Reply::Done))
 }
 
+/// What the plan of a command leads to for the unit that was found for it.
+fn planned_for<'s>(
+    alloc: Global,
+    served: &'s Served,
+    moment: Moment,
+    unit: &UnitName,
+    wanted: &Wanted<'_>,
+) -> Result<Outcome<'s>, Refusal>
+    requires same { unit.now ≡ model.unit_asked served.now.state wanted.now.asked.now }
+    requires finds { wanted.now.is_found ≡ finds (load_in served.now.state.loaded wanted.now.asked.now) }
+    ensures changed { IfOk result (λ o. model.Changes served.now.state (model.ForUnit wanted.now.verb wanted.now.asked.now wanted.now.mode) (state_by o)) }
+    ensures silent { IfOk result (λ o. IsSilent o) }
+    ensures based { IfOk result (λ o. IsBasedOn served.now moment o) }
+    ensures refused { RefusesBy (model.Refuses served.now.state (model.ForUnit wanted.now.verb wanted.now.asked.now wanted.now.mode)) result }
+{
+    let state = served.state();
+    let known = served.known_with(alloc, unit)?;
+    let Some(demand) = demand_for(state, wanted.verb, unit) else {
+        check_there(alloc, state, wanted.verb, wanted.asked, wanted.is_found)?;
+        return Ok(Outcome::Rows(served.work(alloc, moment)?));
+    };
+    let outcome = planned_by(alloc, served, known, moment, demand, unit, wanted)?;
+    Ok(outcome)
+}
+
 /// What the plan of a command for a unit leads to, before any job begins: rows, where what is known of units stays. Refused are, in this
 /// order, too many known units with the one that is named, or with the jobs of the plan (E13), one that isn't there (E7), and what
 /// `Transaction::check` refuses.
@@ -367,17 +392,11 @@ pub fn planned<'s>(
 {
     let state = served.state();
     let Asked { unit, is_found } = Asked::of(alloc, served.known().graph(), state.loaded(), asked)?;
-    let known = served.known_with(alloc, &unit)?;
-    let Some(demand) = demand_for(state, verb, &unit) else {
-        check_there(alloc, state, verb, asked, is_found)?;
-        return Ok(Outcome::Rows(served.work(alloc, moment)?));
-    };
     let wanted = Wanted {
         verb,
         asked,
         is_found,
         mode,
     };
-    let outcome = planned_by(alloc, served, known, moment, demand, &unit, &wanted)?;
-    Ok(outcome)
+    planned_for(alloc, served, moment, &unit, &wanted)
 }

@@ -1,11 +1,13 @@
 //! Automatic restarts (systemd.service(5), "Restart=").
 
 ghost use Rattle.std.specs.Bool.{Decides};
-ghost use Rattle.std.specs.Prelude.{◌≡◌, ℕ, List, IfOk, OnOk};
+ghost use Rattle.std.specs.Prelude.{◌≡◌, ℕ, List, false, IfOk, OnOk};
+ghost use Rattle.um_engine.specs.Filled.{Tells};
 ghost use Rattle.um_engine.specs.Planned.{ArePending};
 ghost use Rattle.um_falling.specs.Over.{Serves};
 ghost use Rattle.um_falling.specs.Work.{Keeps};
 ghost use Rattle.um_graph.specs.Graph.{IsNumberOf};
+ghost use Rattle.um_model.specs.Jobs.{has_job, jobs_of_unit};
 ghost use Rattle.um_model.specs.Machine as model;
 ghost use Rattle.um_model.specs.Machine.{IsBefore};
 ghost use Rattle.um_model.specs.Plan.{AreFree};
@@ -35,6 +37,23 @@ fn are_free(alloc: Global, graph: &Graph, jobs: &Jobs<'_>) -> Result<bool, Alloc
     }
 }
 
+/// Puts a start of the unit with this number, of which no job is pending: unless the pending jobs, which are told here, would then wait for
+/// one another in a circle.
+fn start_in(work: &mut Work<'_>, jobs: &mut Jobs<'_>, unit: usize) -> Result<(), AllocError>
+    requires { Tells work.old.graph (state_of work.old.now) jobs.old }
+    ensures state { OnOk result ((name : List ℕ) → IsNumberOf work.old.graph unit name
+        → has_job (jobs_of_unit (state_of work.old.now).pending name) ≡ false → model.Restarts (state_of work.old.now) name (state_of work.new.now)) }
+    ensures keeps { OnOk result (Keeps work.old work.new) }
+    ensures actions { OnOk result (work.new.actions ≡ work.old.actions) }
+{
+    jobs.put(unit, JobKind::Start);
+    if !are_free(work.alloc(), work.graph(), jobs)? {
+        return Ok(());
+    }
+    work.set_jobs(unit, jobs.get(unit));
+    Ok(())
+}
+
 /// Puts a start of the unit with this number as its one job: unless a job of it is pending or the pending jobs would then wait for one
 /// another in a circle. Where memory is refused the work is of no use.
 pub fn restart(work: &mut Work<'_>, unit: usize) -> Result<(), AllocError>
@@ -47,10 +66,5 @@ pub fn restart(work: &mut Work<'_>, unit: usize) -> Result<(), AllocError>
         return Ok(());
     }
     let mut jobs = jobs_in(work)?;
-    jobs.put(unit, JobKind::Start);
-    if !are_free(work.alloc(), work.graph(), &jobs)? {
-        return Ok(());
-    }
-    work.set_jobs(unit, jobs.get(unit));
-    Ok(())
+    start_in(work, &mut jobs, unit)
 }
