@@ -8,6 +8,7 @@ use std::{env, fs, thread};
 use um_children::{
     Children, End, FakeChildren, Fate, NextNumber, ProcessNumber, RunnerDir, Signal,
 };
+use um_keeper::SpawnOrder;
 
 /// Fates are asked so many times, every 10 ms.
 const POLLS: u32 = 500;
@@ -150,20 +151,103 @@ fn wait_for_news(
     Ok(asked.is_some())
 }
 
-/// A process is news from its start until it runs, and once it has ended.
-fn news(rt: &HostRuntime, alloc: Global) -> anyhow::Result<()> {
-    let mut children = open(rt, SEEN)?;
-    let order = Orders::new(alloc)?.order("ExecStart=/bin/sleep 1")?;
-    let number = order.number();
-    children.spawn(order)?;
+/// What is told of a process, of which nothing but its files tell, from its start to its end.
+fn is_news(
+    rt: &HostRuntime,
+    children: &mut Dir<'_>,
+    number: ProcessNumber,
+) -> anyhow::Result<()> {
     let starting = children.has_news();
-    fate_of(rt, &mut children, number, false)?;
-    let running = wait_for_news(rt, &mut children, Some(number))?;
-    let ended = wait_for_news(rt, &mut children, None)?;
-    let fate = fate_of(rt, &mut children, number, true)?;
+    fate_of(rt, children, number, false)?;
+    let running = wait_for_news(rt, children, Some(number))?;
+    let ended = wait_for_news(rt, children, None)?;
+    let fate = fate_of(rt, children, number, true)?;
     println!(rt;
         "news at the start: {starting}, while it runs: {running}, at its end: {ended}; {fate:?}"
     )?;
+    Ok(())
+}
+
+/// A process is news from its start until it runs, and once it has ended.
+fn news(rt: &HostRuntime, alloc: Global) -> anyhow::Result<()> {
+    let order = Orders::new(alloc)?.order("ExecStart=/bin/sleep 1")?;
+    let number = order.number();
+    let mut children = open(rt, SEEN)?;
+    children.spawn(order)?;
+    is_news(rt, &mut children, number)
+}
+
+/// Two orders of one number, one of each store; tells whether it is one.
+fn twice(
+    orders: &mut Orders,
+    others: &mut Orders,
+    lines: &str,
+) -> anyhow::Result<(SpawnOrder, SpawnOrder, bool)> {
+    let first = orders.order(lines)?;
+    let second = others.order(lines)?;
+    let same = first.number() == second.number();
+    Ok((first, second, same))
+}
+
+/// Whether a runner starts something that comes to a claim of the manager, and one that comes after the number was forgotten.
+fn starts_late(
+    rt: &HostRuntime,
+    children: &mut Dir<'_>,
+    first: SpawnOrder,
+    second: SpawnOrder,
+) -> anyhow::Result<(bool, Fate)> {
+    let number = first.number();
+    children.spawn(first)?;
+    let started = comes(rt, "late");
+    let later = children.fate(number, true)?;
+    children.forget(number)?;
+    children.spawn(second)?;
+    Ok((started || comes(rt, "late"), later))
+}
+
+/// A number that the manager has claimed.
+fn claimed(
+    rt: &HostRuntime,
+    orders: &mut Orders,
+    others: &mut Orders,
+    children: &mut Dir<'_>,
+) -> anyhow::Result<()> {
+    let (first, second, same) = twice(orders, others, "ExecStart=/bin/sh -c 'echo x >>late'")?;
+    let fate = children.fate(first.number(), true)?;
+    let (started, later) = starts_late(rt, children, first, second)?;
+    println!(rt; "claimed: {fate:?}, then {later:?}; the same number: {same}; started: {started}")?;
+    Ok(())
+}
+
+/// A number that two runners claim.
+fn claimed_twice(
+    rt: &HostRuntime,
+    orders: &mut Orders,
+    others: &mut Orders,
+    children: &mut Dir<'_>,
+) -> anyhow::Result<()> {
+    let lines = "ExecStart=/bin/sh -c 'echo x >>two; sleep 1'";
+    let (first, second, same) = twice(orders, others, lines)?;
+    let number = first.number();
+    children.spawn(first)?;
+    children.spawn(second)?;
+    let fate = fate_of(rt, children, number, true)?;
+    let size = fs::metadata(rt, "two")?.len();
+    println!(rt; "two runners: {fate:?}; the same number: {same}; bytes written: {size}")?;
+    Ok(())
+}
+
+/// Both, over these stores.
+fn claimed_of(
+    rt: &HostRuntime,
+    orders: &mut Orders,
+    others: &mut Orders,
+    children: &mut Dir<'_>,
+) -> anyhow::Result<()> {
+    claimed(rt, orders, others, children)?;
+    claimed_twice(rt, orders, others, children)?;
+    let failures = children.failures();
+    println!(rt; "failures: {failures}")?;
     Ok(())
 }
 
@@ -173,44 +257,28 @@ fn claims(rt: &HostRuntime, alloc: Global) -> anyhow::Result<()> {
     let mut children = open(rt, TWICE)?;
     let mut orders = Orders::new(alloc)?;
     let mut others = Orders::new(alloc)?;
-    let lines = "ExecStart=/bin/sh -c 'echo x >>late'";
-    let first = orders.order(lines)?;
-    let second = others.order(lines)?;
-    let number = first.number();
-    let same = number == second.number();
-    let fate = children.fate(number, true)?;
-    children.spawn(first)?;
-    let started = comes(rt, "late");
-    let later = children.fate(number, true)?;
-    children.forget(number)?;
-    children.spawn(second)?;
-    let started = started || comes(rt, "late");
-    println!(rt; "claimed: {fate:?}, then {later:?}; the same number: {same}; started: {started}")?;
-    let lines = "ExecStart=/bin/sh -c 'echo x >>two; sleep 1'";
-    let first = orders.order(lines)?;
-    let second = others.order(lines)?;
-    let number = first.number();
-    let same = number == second.number();
-    children.spawn(first)?;
-    children.spawn(second)?;
-    let fate = fate_of(rt, &mut children, number, true)?;
-    let size = fs::metadata(rt, "two")?.len();
-    println!(rt; "two runners: {fate:?}; the same number: {same}; bytes written: {size}")?;
-    let failures = children.failures();
-    println!(rt; "failures: {failures}")?;
-    Ok(())
+    claimed_of(rt, &mut orders, &mut others, &mut children)
 }
 
-/// A start through a runner that isn't there is refused, and the number is the manager's from then on.
-fn no_runner(rt: &HostRuntime, alloc: Global) -> anyhow::Result<()> {
-    let mut children = RunnerDir::open(rt, alloc, "/nonexistent", ALONE)?;
-    let order = Orders::new(alloc)?.order("ExecStart=/bin/true")?;
+/// What comes of a start through a runner that isn't there.
+fn starts_none(
+    rt: &HostRuntime,
+    children: &mut Dir<'_>,
+    order: SpawnOrder,
+) -> anyhow::Result<()> {
     let number = order.number();
     let spawned = children.spawn(order);
     let fate = children.fate(number, true)?;
     let failures = children.failures();
     println!(rt; "no runner: {spawned:?}, then {fate:?}; failures: {failures}")?;
     Ok(())
+}
+
+/// A start through a runner that isn't there is refused, and the number is the manager's from then on.
+fn no_runner(rt: &HostRuntime, alloc: Global) -> anyhow::Result<()> {
+    let order = Orders::new(alloc)?.order("ExecStart=/bin/true")?;
+    let mut children = RunnerDir::open(rt, alloc, "/nonexistent", ALONE)?;
+    starts_none(rt, &mut children, order)
 }
 
 /// A number that is forgotten leaves nothing.
@@ -237,38 +305,49 @@ const ODD: &[(u64, &str, &str)] = &[
     (26, "26.pid", "12a\n"),
 ];
 
-/// Files of another form.
-fn odd_files(rt: &HostRuntime, children: &mut Dir<'_>) -> anyhow::Result<()> {
-    let alloc = rt.alloc();
-    for (n, name, text) in ODD {
-        let path = format!(in alloc; "{FOLDER}/{name}")?;
-        fs::write(rt, path.as_str(), *text)?;
-        let fate = children.fate(number(*n)?, true)?;
-        let signal = children.signal(number(*n)?, Signal::Kill);
-        println!(rt; "{name} {text:?}: {fate:?}, signal {signal:?}")?;
-    }
+/// The fate of a number with a file of another form, and whether it can be signalled.
+fn odd_file(rt: &HostRuntime, children: &mut Dir<'_>, odd: &(u64, &str, &str)) -> anyhow::Result<()> {
+    let (n, name, text) = *odd;
+    let path = format!(in rt.alloc(); "{FOLDER}/{name}")?;
+    fs::write(rt, path.as_str(), text)?;
+    let fate = children.fate(number(n)?, true)?;
+    let signal = children.signal(number(n)?, Signal::Kill);
+    println!(rt; "{name} {text:?}: {fate:?}, signal {signal:?}")?;
+    Ok(())
+}
+
+/// What stands there as a status and is no file.
+fn no_files(rt: &HostRuntime, children: &mut Dir<'_>) -> anyhow::Result<()> {
     fs::create_dir(rt, "processes/27.status")?;
     let fate = children.fate(number(27)?, true)?;
     std::os::unix::fs::symlink(rt, "/proc/self/stat", "processes/28.status")?;
     let linked = children.fate(number(28)?, true)?;
     println!(rt; "a directory: {fate:?}, a link: {linked:?}")?;
-    let bytes = vec![in alloc; 255u8; 1 << 20]?;
+    Ok(())
+}
+
+/// Files of another form.
+fn odd_files(rt: &HostRuntime, children: &mut Dir<'_>) -> anyhow::Result<()> {
+    for odd in ODD {
+        odd_file(rt, children, odd)?;
+    }
+    no_files(rt, children)?;
+    let bytes = vec![in rt.alloc(); 255u8; 1 << 20]?;
     fs::write(rt, "processes/29.status", bytes.as_slice())?;
     let large = children.fate(number(29)?, true)?;
     println!(rt; "a megabyte that is no text: {large:?}")?;
     Ok(())
 }
 
-/// Children in memory, of which none was started.
-fn in_memory(rt: &HostRuntime, alloc: Global) -> anyhow::Result<()> {
-    let mut children = FakeChildren::new(alloc);
+/// What children in memory tell of a process that was never started.
+fn told_in_memory(rt: &HostRuntime, children: &mut FakeChildren) -> anyhow::Result<()> {
     children.ends(number(2)?, End::Code(3))?;
     let starting = children.fate(number(2)?, false)?;
     let absent = children.fate(number(2)?, true)?;
     children.fuse(2);
     children.signal(number(2)?, Signal::Term)?;
     let failed = children.fate(number(2)?, true);
-    let copy = children.copy(alloc)?;
+    let copy = children.copy(rt.alloc())?;
     let (calls, failures) = (copy.calls().len(), copy.failures());
     println!(rt;
         "in memory: {starting:?}, {absent:?}, {failed:?}; calls: {calls}, failures: {failures}"
@@ -276,17 +355,22 @@ fn in_memory(rt: &HostRuntime, alloc: Global) -> anyhow::Result<()> {
     Ok(())
 }
 
+/// All rows of children in a folder.
+fn in_folder(rt: &HostRuntime, orders: &mut Orders, children: &mut Dir<'_>) -> anyhow::Result<()> {
+    ends(rt, orders, children)?;
+    claims(rt, rt.alloc())?;
+    no_runner(rt, rt.alloc())?;
+    news(rt, rt.alloc())?;
+    forgets(rt, children)?;
+    odd_files(rt, children)
+}
+
 /// All rows.
 pub fn rows(rt: &HostRuntime, alloc: Global) -> anyhow::Result<()> {
     let mut children = open(rt, FOLDER)?;
     let mut orders = Orders::new(alloc)?;
-    ends(rt, &mut orders, &mut children)?;
-    claims(rt, alloc)?;
-    no_runner(rt, alloc)?;
-    news(rt, alloc)?;
-    forgets(rt, &mut children)?;
-    odd_files(rt, &mut children)?;
-    in_memory(rt, alloc)?;
+    in_folder(rt, &mut orders, &mut children)?;
+    told_in_memory(rt, &mut FakeChildren::new(alloc))?;
     let failures = children.failures();
     println!(rt; "failures: {failures}")?;
     Ok(())

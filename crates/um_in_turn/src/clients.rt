@@ -11,7 +11,6 @@ use um_children::FakeChildren;
 use um_manager::{Connection, Manager, Output, Pieces};
 use um_model::{Moment, UnitVerb};
 use um_sector::MemDisk;
-use um_state::BootId;
 use um_wire::{Refusal, spell};
 
 type InMemory = Manager<MemDisk, FakeChildren>;
@@ -59,40 +58,44 @@ const STARTED: usize = 4;
 
 const ENDED: usize = 5;
 
+/// Asserts of the disk of an opening that was refused so what its images stand for.
+fn stands_as_before(
+    alloc: Global,
+    course: &Course,
+    refusal: Refusal,
+    disk: &MemDisk,
+) -> Result<(), Wrong> {
+    let high = match refusal {
+        Refusal::NoMemory => LOADED.len(),
+        Refusal::Device => BOOTED,
+        refusal => return Err(Wrong::from(refusal)),
+    };
+    stand_for(alloc, course, disk, LOADED.len(), high)
+}
+
 /// The manager over a store that is loaded, opened again where it found no memory: then each image stands for the state from before, or,
 /// where its disk found none, maybe for that behind the boot.
 fn opened_manager(alloc: Global, course: &Course) -> Result<InMemory, Wrong> {
     let disk = taker_behind(alloc, course, LOADED, false)?
         .keeper
         .into_disk();
-    let children = FakeChildren::new(alloc);
     let boot = boot_of(alloc, "one")?;
-    let again = boot_of(alloc, "one")?;
     let (refusal, disk, children) = match Manager::open(
         alloc,
         disk,
-        children,
+        FakeChildren::new(alloc),
         boot,
         Moment::FIRST,
     ) {
         Ok(manager) => return Ok(manager),
         Err(refused) => refused,
     };
-    let high = match refusal {
-        Refusal::NoMemory => LOADED.len(),
-        Refusal::Device => BOOTED,
-        refusal => return Err(Wrong::from(refusal)),
-    };
-    stand_for(alloc, course, &disk, LOADED.len(), high)?;
-    open(alloc, disk, children, again)
+    stands_as_before(alloc, course, refusal, &disk)?;
+    open(alloc, disk, children)
 }
 
-fn open(
-    alloc: Global,
-    disk: MemDisk,
-    children: FakeChildren,
-    boot: BootId,
-) -> Result<InMemory, Wrong> {
+fn open(alloc: Global, disk: MemDisk, children: FakeChildren) -> Result<InMemory, Wrong> {
+    let boot = boot_of(alloc, "one")?;
     match Manager::open(alloc, disk, children, boot, Moment::FIRST) {
         Ok(manager) => Ok(manager),
         Err((refusal, _, _)) => Err(Wrong::from(refusal)),
@@ -102,7 +105,7 @@ fn open(
 /// The manager whose disk found no memory, opened again.
 fn again(alloc: Global, manager: InMemory) -> Result<InMemory, Wrong> {
     let (disk, children) = manager.into_parts();
-    open(alloc, disk, children, boot_of(alloc, "one")?)
+    open(alloc, disk, children)
 }
 
 fn output(manager: &mut InMemory, number: usize) -> Result<Output, Wrong> {
@@ -287,20 +290,37 @@ fn lists(alloc: Global, manager: &mut InMemory, number: usize) -> Result<bool, W
     Ok(told == Some(0))
 }
 
+/// What was refused for want of memory is done when it is asked again, by the clients of these numbers.
+fn done_in_the_end(alloc: Global, course: &Course, manager: &mut InMemory) -> Result<(), Wrong> {
+    done(alloc, course, manager, 3)?;
+    if lists(alloc, manager, 5)? || lists(alloc, manager, 6)? {
+        return Ok(());
+    }
+    Err(found("no memory where there is some"))
+}
+
+/// Two clients in one turn of a manager, which finds so many grains, and what is asked again behind it. Tells whether nothing of the turn was
+/// refused.
+fn two_of(
+    alloc: Global,
+    course: &Course,
+    mut manager: InMemory,
+    grains: Option<usize>,
+) -> Result<bool, Wrong> {
+    let turned = both_and_list(alloc, course, &mut manager, 1, grains)?;
+    if let Turned::Failed = turned {
+        manager = again(alloc, manager)?;
+    }
+    done_in_the_end(alloc, course, &mut manager)?;
+    Ok(matches!(turned, Turned::Done))
+}
+
 /// Two clients in one turn, which finds so many grains, and a list of the jobs behind it; what finds no memory is asked again. Tells whether
 /// nothing of the turn was refused.
 pub fn two(alloc: Global, grains: Option<usize>) -> Result<bool, Wrong> {
     let course = course_of(alloc, TURNED)?;
-    let mut manager = opened_manager(alloc, &course)?;
-    let turned = both_and_list(alloc, &course, &mut manager, 1, grains)?;
-    if let Turned::Failed = turned {
-        manager = again(alloc, manager)?;
-    }
-    done(alloc, &course, &mut manager, 3)?;
-    if lists(alloc, &mut manager, 5)? || lists(alloc, &mut manager, 6)? {
-        return Ok(matches!(turned, Turned::Done));
-    }
-    Err(found("no memory where there is some"))
+    let manager = opened_manager(alloc, &course)?;
+    two_of(alloc, &course, manager, grains)
 }
 
 /// The same with as much memory as there is; tells how many requests there were.

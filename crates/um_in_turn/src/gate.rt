@@ -153,21 +153,42 @@ fn has(alloc: Global, gate: &FaultyGate, number: usize, texts: &[&str]) -> Resul
     Ok(count)
 }
 
-/// One run; tells how many calls it made.
-fn run(alloc: Global, course: &Course, clients: Clients, fails: u64) -> Result<u64, Wrong> {
-    let mut manager = manager(alloc)?;
-    let mut gate = Buffered::new(alloc, gate_of(alloc, clients, fails)?)?;
-    let mut clock = FakeMoments::new(alloc, Moment::FIRST, 0);
-    serve(&mut manager, &mut gate, &mut clock, ROUNDS)?;
-    has(alloc, &gate.gate, clients.asks(), TOLD)?;
-    let replies = has(alloc, &gate.gate, clients.commands, DONES)?;
+/// Asserts of a run what its clients have, and that the state is that of a beginning.
+fn have(
+    alloc: Global,
+    course: &Course,
+    clients: Clients,
+    gate: &FaultyGate,
+    manager: &Serving,
+) -> Result<(), Wrong> {
+    has(alloc, gate, clients.asks(), TOLD)?;
+    let replies = has(alloc, gate, clients.commands, DONES)?;
     // behind the boot each reply is that to a command that was taken
     let bytes = spell(alloc, manager.state())?;
     let last = course.states.len().saturating_sub(1);
     match course.place(replies.saturating_add(1), last, bytes.as_slice()) {
-        Some(_) => Ok(gate.gate.calls()),
+        Some(_) => Ok(()),
         None => Err(found("the state isn't that of a beginning")),
     }
+}
+
+/// Serves the rounds.
+fn served(
+    alloc: Global,
+    manager: &mut Serving,
+    gate: &mut Buffered<FaultyGate>,
+) -> Result<(), Wrong> {
+    let mut clock = FakeMoments::new(alloc, Moment::FIRST, 0);
+    Ok(serve(manager, gate, &mut clock, ROUNDS)?)
+}
+
+/// One run; tells how many calls it made.
+fn run(alloc: Global, course: &Course, clients: Clients, fails: u64) -> Result<u64, Wrong> {
+    let mut gate = Buffered::new(alloc, gate_of(alloc, clients, fails)?)?;
+    let mut manager = manager(alloc)?;
+    served(alloc, &mut manager, &mut gate)?;
+    have(alloc, course, clients, &gate.gate, &manager)?;
+    Ok(gate.gate.calls())
 }
 
 /// Each call of the gate fails in turn; tells how many cases were tried.

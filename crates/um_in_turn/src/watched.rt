@@ -215,6 +215,42 @@ impl Watched {
         Ok(())
     }
 
+    /// Takes what the opening was told.
+    fn begin(&mut self, alloc: Global) -> Result<(), Wrong> {
+        let mut orders = Vec::new(alloc);
+        self.alone.take_row((0, Coming::Booted(BOOT)))?;
+        let calls = calls_behind(&self.manager, self.seen);
+        hear(&mut self.alone, calls, End::Lost, &mut orders)?;
+        self.claimed = asked(alloc, calls)?;
+        let untold = left_untold(alloc, calls, self.claimed.as_slice())?;
+        self.look(alloc, orders.as_slice(), true)?;
+        self.untold = untold;
+        Ok(())
+    }
+
+    /// The reply to a row is that of the engine; tells what it orders.
+    fn is_answer(&mut self, alloc: Global, row: Row, bytes: &[u8]) -> Result<Vec<Order>, Wrong> {
+        let answer = self.alone.take_row(row)?;
+        if bytes != frame(alloc, answer.reply.as_slice())?.as_slice() {
+            return Err(found("another reply than that of the engine"));
+        }
+        Ok(answer.orders)
+    }
+
+    /// What the engine alone orders, where this was told, the time has come, and the row behind it.
+    fn due(&mut self, alloc: Global, row: Option<Row>, bytes: &[u8]) -> Result<Vec<Order>, Wrong> {
+        let mut orders = Vec::new(alloc);
+        let calls = calls_behind(&self.manager, self.seen);
+        hear(&mut self.alone, calls, End::Code(203), &mut orders)?;
+        let tick = self.alone.take_row((0, Coming::Tick))?;
+        orders.extend_from_slice(tick.orders.as_slice())?;
+        if let Some(row) = row {
+            let more = self.is_answer(alloc, row, bytes)?;
+            orders.extend_from_slice(more.as_slice())?;
+        }
+        Ok(orders)
+    }
+
     /// A turn in which this request comes, or nothing, and the row that it is.
     pub fn turn(&mut self, alloc: Global, text: &str, row: Option<Row>) -> Result<(), Wrong> {
         let Some(connection) = Connection::new(0) else {
@@ -227,18 +263,7 @@ impl Watched {
         };
         self.manager.turn(Moment::FIRST, &pieces)?;
         let output = self.manager.output(connection);
-        let mut orders = Vec::new(alloc);
-        let calls = calls_behind(&self.manager, self.seen);
-        hear(&mut self.alone, calls, End::Code(203), &mut orders)?;
-        let tick = self.alone.take_row((0, Coming::Tick))?;
-        orders.extend_from_slice(tick.orders.as_slice())?;
-        if let Some(row) = row {
-            let answer = self.alone.take_row(row)?;
-            orders.extend_from_slice(answer.orders.as_slice())?;
-            if output.bytes.as_slice() != frame(alloc, answer.reply.as_slice())?.as_slice() {
-                return Err(found("another reply than that of the engine"));
-            }
-        }
+        let orders = self.due(alloc, row, output.bytes.as_slice())?;
         self.look(alloc, orders.as_slice(), false)
     }
 }
@@ -259,21 +284,13 @@ fn asked(alloc: Global, calls: &[Call]) -> Result<Vec<ProcessNumber>, Wrong> {
 
 /// What an opening made of a manager, where the engine alone stood so before.
 pub fn watch(alloc: Global, manager: Running, alone: Alone, seen: usize) -> Result<Watched, Wrong> {
-    let mut alone = alone;
-    let mut orders = Vec::new(alloc);
-    alone.take_row((0, Coming::Booted(BOOT)))?;
-    let calls = calls_behind(&manager, seen);
-    hear(&mut alone, calls, End::Lost, &mut orders)?;
-    let claimed = asked(alloc, calls)?;
-    let untold = left_untold(alloc, calls, claimed.as_slice())?;
     let mut watched = Watched {
         manager,
         alone,
         seen,
-        claimed,
+        claimed: Vec::new(alloc),
         untold: Vec::new(alloc),
     };
-    watched.look(alloc, orders.as_slice(), true)?;
-    watched.untold = untold;
+    watched.begin(alloc)?;
     Ok(watched)
 }

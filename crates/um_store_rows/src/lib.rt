@@ -42,6 +42,3 @@ mod state;
 mod submitting;
 #[cfg(test)]
 mod timer;
-
-/// The rows are its tests; by itself the program does nothing.
-fn main() {}

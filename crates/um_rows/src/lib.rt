@@ -55,6 +55,3 @@ mod state;
 mod texts;
 #[cfg(test)]
 mod unit_files;
-
-/// The rows are its tests; by itself the program does nothing.
-fn main() {}

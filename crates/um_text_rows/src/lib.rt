@@ -25,6 +25,3 @@ mod unit;
 mod value;
 #[cfg(test)]
 mod words;
-
-/// The rows are its tests; by itself the program does nothing.
-fn main() {}

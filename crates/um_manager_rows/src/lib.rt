@@ -40,6 +40,3 @@ mod serving;
 mod texts;
 #[cfg(test)]
 mod turns;
-
-/// The rows are its tests; by itself the program does nothing.
-fn main() {}
