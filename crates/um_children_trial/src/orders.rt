@@ -12,7 +12,7 @@ use um_state::{Command, Event, Input};
 #[derive(Drop)]
 pub struct Orders {
     alloc: Global,
-    keeper: Keeper<MemDisk>,
+    keeper: Box<Keeper<MemDisk>>,
     /// So many orders were given.
     count: u64,
 }
@@ -42,7 +42,7 @@ impl Orders {
         match Keeper::open(alloc, disk) {
             Ok(keeper) => Ok(Orders {
                 alloc,
-                keeper,
+                keeper: Box::new(alloc, keeper)?,
                 count: 0,
             }),
             Err((refusal, _)) => Err(refusal.into()),
@@ -57,10 +57,11 @@ impl Orders {
         let path = format!(in alloc; "lib/{name}")?;
         let text = format!(in alloc; "[Service]\n{lines}\n")?;
         let unit = UnitName::parse(alloc, name.as_str())?;
-        order_of(&mut self.keeper, Command::PutFile { path, text })?;
-        order_of(&mut self.keeper, Command::DaemonReload)?;
+        let keeper = self.keeper.as_mut();
+        order_of(keeper, Command::PutFile { path, text })?;
+        order_of(keeper, Command::DaemonReload)?;
         let verb = UnitVerb::Start;
         let mode = JobMode::Replace;
-        order_of(&mut self.keeper, Command::ForUnit { verb, unit, mode })?.context("no order")
+        order_of(keeper, Command::ForUnit { verb, unit, mode })?.context("no order")
     }
 }

@@ -35,9 +35,10 @@ fn number(n: u64) -> anyhow::Result<ProcessNumber> {
 }
 
 /// Children over the folder, with this program as the runner.
-fn open<'a>(rt: &'a HostRuntime, folder: &str) -> anyhow::Result<Dir<'a>> {
+fn open<'a>(rt: &'a HostRuntime, folder: &str) -> anyhow::Result<Box<Dir<'a>>> {
     let program = env::current_exe(rt)?;
-    Ok(RunnerDir::open(rt, rt.alloc(), program.as_str(), folder)?)
+    let children = RunnerDir::open(rt, rt.alloc(), program.as_str(), folder)?;
+    Ok(Box::new(rt.alloc(), children)?)
 }
 
 /// The fate of the number, once it has ended, or, where that is enough, once it runs; else the last one.
@@ -174,7 +175,7 @@ fn news(rt: &HostRuntime, alloc: Global) -> anyhow::Result<()> {
     let number = order.number();
     let mut children = open(rt, SEEN)?;
     children.spawn(order)?;
-    is_news(rt, &mut children, number)
+    is_news(rt, children.as_mut(), number)
 }
 
 /// Two orders of one number, one of each store; tells whether it is one.
@@ -257,7 +258,7 @@ fn claims(rt: &HostRuntime, alloc: Global) -> anyhow::Result<()> {
     let mut children = open(rt, TWICE)?;
     let mut orders = Orders::new(alloc)?;
     let mut others = Orders::new(alloc)?;
-    claimed_of(rt, &mut orders, &mut others, &mut children)
+    claimed_of(rt, &mut orders, &mut others, children.as_mut())
 }
 
 /// What comes of a start through a runner that isn't there.
@@ -277,8 +278,8 @@ fn starts_none(
 /// A start through a runner that isn't there is refused, and the number is the manager's from then on.
 fn no_runner(rt: &HostRuntime, alloc: Global) -> anyhow::Result<()> {
     let order = Orders::new(alloc)?.order("ExecStart=/bin/true")?;
-    let mut children = RunnerDir::open(rt, alloc, "/nonexistent", ALONE)?;
-    starts_none(rt, &mut children, order)
+    let mut children = Box::new(alloc, RunnerDir::open(rt, alloc, "/nonexistent", ALONE)?)?;
+    starts_none(rt, children.as_mut(), order)
 }
 
 /// A number that is forgotten leaves nothing.
@@ -369,7 +370,7 @@ fn in_folder(rt: &HostRuntime, orders: &mut Orders, children: &mut Dir<'_>) -> a
 pub fn rows(rt: &HostRuntime, alloc: Global) -> anyhow::Result<()> {
     let mut children = open(rt, FOLDER)?;
     let mut orders = Orders::new(alloc)?;
-    in_folder(rt, &mut orders, &mut children)?;
+    in_folder(rt, &mut orders, children.as_mut())?;
     told_in_memory(rt, &mut FakeChildren::new(alloc))?;
     let failures = children.failures();
     println!(rt; "failures: {failures}")?;

@@ -94,7 +94,7 @@ fn orders_of(alloc: Global, actions: &[Action]) -> Result<Vec<Order>, Wrong> {
 #[derive(Drop)]
 pub struct Alone {
     alloc: Global,
-    engine: Engine,
+    engine: Box<Engine>,
 }
 
 impl Alone {
@@ -102,7 +102,10 @@ impl Alone {
     pub fn new(alloc: Global) -> Result<Alone, Wrong> {
         let size = layout()?.body_limit() as u64;
         match Engine::of(alloc, State::empty(alloc), size)? {
-            Some(engine) => Ok(Alone { alloc, engine }),
+            Some(engine) => Ok(Alone {
+                alloc,
+                engine: Box::new(alloc, engine)?,
+            }),
             None => Err(found("no engine")),
         }
     }

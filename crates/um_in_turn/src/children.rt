@@ -100,9 +100,9 @@ pub const ONESHOT: Life = Life {
 };
 
 /// Opens a manager.
-fn open(alloc: Global, disk: MemDisk, children: FaultyChildren) -> Result<Running, Wrong> {
+fn open(alloc: Global, disk: MemDisk, children: FaultyChildren) -> Result<Box<Running>, Wrong> {
     match Manager::open(alloc, disk, children, boot_of(alloc, BOOT)?, Moment::FIRST) {
-        Ok(manager) => Ok(manager),
+        Ok(manager) => Ok(Box::new(alloc, manager)?),
         Err((refusal, _, _)) => Err(Wrong::from(refusal)),
     }
 }
@@ -115,7 +115,7 @@ fn again(alloc: Global, watched: Watched, end: Option<(u64, u8)>) -> Result<Watc
         seen,
         ..
     } = watched;
-    let (disk, mut children) = manager.into_parts();
+    let (disk, mut children) = Box::into_inner(manager).into_parts();
     if let Some((number, code)) = end {
         children.ends(process(number)?, End::Code(code))?;
     }
@@ -149,7 +149,7 @@ fn stored(alloc: Global, life: &Life) -> Result<(MemDisk, Alone), Wrong> {
         spent(alloc, receipt)?;
         alone.take_row(*row)?;
     }
-    Ok((keeper.into_disk(), alone))
+    Ok((Box::into_inner(keeper).into_disk(), alone))
 }
 
 /// The children of a life, of which one call fails.

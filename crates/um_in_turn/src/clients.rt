@@ -75,10 +75,8 @@ fn stands_as_before(
 
 /// The manager over a store that is loaded, opened again where it found no memory: then each image stands for the state from before, or,
 /// where its disk found none, maybe for that behind the boot.
-fn opened_manager(alloc: Global, course: &Course) -> Result<InMemory, Wrong> {
-    let disk = taker_behind(alloc, course, LOADED, false)?
-        .keeper
-        .into_disk();
+fn opened_manager(alloc: Global, course: &Course) -> Result<Box<InMemory>, Wrong> {
+    let disk = taker_behind(alloc, course, LOADED, false)?.into_disk();
     let boot = boot_of(alloc, "one")?;
     let (refusal, disk, children) = match Manager::open(
         alloc,
@@ -87,24 +85,24 @@ fn opened_manager(alloc: Global, course: &Course) -> Result<InMemory, Wrong> {
         boot,
         Moment::FIRST,
     ) {
-        Ok(manager) => return Ok(manager),
+        Ok(manager) => return Ok(Box::new(alloc, manager)?),
         Err(refused) => refused,
     };
     stands_as_before(alloc, course, refusal, &disk)?;
     open(alloc, disk, children)
 }
 
-fn open(alloc: Global, disk: MemDisk, children: FakeChildren) -> Result<InMemory, Wrong> {
+fn open(alloc: Global, disk: MemDisk, children: FakeChildren) -> Result<Box<InMemory>, Wrong> {
     let boot = boot_of(alloc, "one")?;
     match Manager::open(alloc, disk, children, boot, Moment::FIRST) {
-        Ok(manager) => Ok(manager),
+        Ok(manager) => Ok(Box::new(alloc, manager)?),
         Err((refusal, _, _)) => Err(Wrong::from(refusal)),
     }
 }
 
 /// The manager whose disk found no memory, opened again.
-fn again(alloc: Global, manager: InMemory) -> Result<InMemory, Wrong> {
-    let (disk, children) = manager.into_parts();
+fn again(alloc: Global, manager: Box<InMemory>) -> Result<Box<InMemory>, Wrong> {
+    let (disk, children) = Box::into_inner(manager).into_parts();
     open(alloc, disk, children)
 }
 
@@ -304,14 +302,14 @@ fn done_in_the_end(alloc: Global, course: &Course, manager: &mut InMemory) -> Re
 fn two_of(
     alloc: Global,
     course: &Course,
-    mut manager: InMemory,
+    mut manager: Box<InMemory>,
     grains: Option<usize>,
 ) -> Result<bool, Wrong> {
-    let turned = both_and_list(alloc, course, &mut manager, 1, grains)?;
+    let turned = both_and_list(alloc, course, manager.as_mut(), 1, grains)?;
     if let Turned::Failed = turned {
         manager = again(alloc, manager)?;
     }
-    done_in_the_end(alloc, course, &mut manager)?;
+    done_in_the_end(alloc, course, manager.as_mut())?;
     Ok(matches!(turned, Turned::Done))
 }
 

@@ -127,7 +127,8 @@ fn deeds(alloc: Global, disk: &MemDisk) -> Result<(usize, usize), Wrong> {
 
 /// The number of disk calls of an opening.
 fn calls_of_open(alloc: Global, disk: MemDisk) -> Result<u64, Wrong> {
-    Ok(opened(alloc, Fuse::new(disk, 0))?.into_disk().calls())
+    let keeper = opened(alloc, Fuse::new(disk, 0))?;
+    Ok(Box::into_inner(keeper).into_disk().calls())
 }
 
 /// The disk of an opening whose call of this number isn't made.
@@ -144,7 +145,7 @@ impl Crashes<'_> {
     fn look(&mut self, image: MemDisk, low: usize, high: usize) -> Result<usize, Wrong> {
         self.images = self.images.saturating_add(1);
         let keeper = opened(self.alloc, image)?;
-        let bytes = bytes_of(self.alloc, &keeper)?;
+        let bytes = bytes_of(self.alloc, keeper.as_ref())?;
         match self.course.place(low, high, bytes.as_slice()) {
             Some(place) => Ok(place),
             None => Err(found("an image isn't that of a beginning")),
@@ -156,12 +157,13 @@ impl Crashes<'_> {
         let mut keeper = opened(self.alloc, image)?;
         let receipt = keeper.submit(input_of(self.alloc, ONWARD)?)?;
         spent(self.alloc, receipt)?;
-        let bytes = bytes_of(self.alloc, &keeper)?;
+        let bytes = bytes_of(self.alloc, keeper.as_ref())?;
         if !self.course.is_onward(place, bytes.as_slice()) {
             return Err(found("what goes on behind a crash leads elsewhere"));
         }
-        let again = opened(self.alloc, oldest(self.alloc, &keeper.into_disk())?)?;
-        let bytes = bytes_of(self.alloc, &again)?;
+        let left = oldest(self.alloc, &Box::into_inner(keeper).into_disk())?;
+        let again = opened(self.alloc, left)?;
+        let bytes = bytes_of(self.alloc, again.as_ref())?;
         if !self.course.is_onward(place, bytes.as_slice()) {
             return Err(found("what went on behind a crash isn't there"));
         }
@@ -243,7 +245,7 @@ fn stopped(
         Outcome::Creating(disk) => Ok((disk, 0, 0)),
         Outcome::Opening(disk, done) => Ok((disk, done, done)),
         Outcome::Taking(keeper, done, more) => {
-            let disk = keeper.into_disk().into_inner();
+            let disk = Box::into_inner(keeper).into_disk().into_inner();
             Ok((disk, done, done.saturating_add(more)))
         }
     }
@@ -324,7 +326,7 @@ fn creation(
 }
 
 /// A store with a file.
-fn with_file(alloc: Global) -> Result<Keeper<MemDisk>, Wrong> {
+fn with_file(alloc: Global) -> Result<Box<Keeper<MemDisk>>, Wrong> {
     let mut keeper = opened(alloc, made(alloc)?)?;
     let receipt = keeper.submit(input_of(alloc, ONWARD)?)?;
     spent(alloc, receipt)?;
@@ -333,10 +335,10 @@ fn with_file(alloc: Global) -> Result<Keeper<MemDisk>, Wrong> {
 
 /// A creation over a store with a file, and over a blank disk, is stopped before each call; tells how many images were opened.
 pub fn each_creation(alloc: Global) -> Result<u64, Wrong> {
-    let empty = bytes_of(alloc, &opened(alloc, made(alloc)?)?)?;
+    let empty = bytes_of(alloc, opened(alloc, made(alloc)?)?.as_ref())?;
     let keeper = with_file(alloc)?;
-    let before = bytes_of(alloc, &keeper)?;
-    let base = keeper.into_disk().settled();
+    let before = bytes_of(alloc, keeper.as_ref())?;
+    let base = Box::into_inner(keeper).into_disk().settled();
     let nothing = blank(alloc)?;
     let mut images: u64 = 0;
     for fails in 1..=calls_of_create(alloc)? {

@@ -134,7 +134,7 @@ fn is_beginning(
     high: usize,
 ) -> Result<(), Wrong> {
     let keeper = opened(alloc, image)?;
-    let bytes = bytes_of(alloc, &keeper)?;
+    let bytes = bytes_of(alloc, keeper.as_ref())?;
     match course.place(low, high, bytes.as_slice()) {
         Some(_) => Ok(()),
         None => Err(found("the store isn't that of a beginning")),
@@ -176,17 +176,17 @@ fn is_created_again(alloc: Global, course: &Course, disk: MemDisk) -> Result<(),
 fn is_refused(
     alloc: Global,
     course: &Course,
-    keeper: Keeper<Failing>,
+    keeper: Box<Keeper<Failing>>,
     done: usize,
     more: usize,
 ) -> Result<(), Wrong> {
     let mut keeper = keeper;
-    let bytes = bytes_of(alloc, &keeper)?;
+    let bytes = bytes_of(alloc, keeper.as_ref())?;
     if !course.is_at(done, bytes.as_slice()) {
         return Err(found("the state after E16 isn't that from before"));
     }
-    takes_nothing(alloc, &mut keeper)?;
-    let disk = keeper.into_disk().into_inner();
+    takes_nothing(alloc, keeper.as_mut())?;
+    let disk = Box::into_inner(keeper).into_disk().into_inner();
     are_beginnings(alloc, course, disk, done, done.saturating_add(more))
 }
 

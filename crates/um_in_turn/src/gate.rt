@@ -105,11 +105,11 @@ fn gate_of(alloc: Global, clients: Clients, fails: u64) -> Result<FaultyGate, Wr
     Ok(FaultyGate::new(gate, fails))
 }
 
-fn manager(alloc: Global) -> Result<Serving, Wrong> {
+fn manager(alloc: Global) -> Result<Box<Serving>, Wrong> {
     let disk = made(alloc)?;
     let children = FakeChildren::new(alloc);
     match Manager::open(alloc, disk, children, boot_of(alloc, "one")?, Moment::FIRST) {
-        Ok(manager) => Ok(manager),
+        Ok(manager) => Ok(Box::new(alloc, manager)?),
         Err((refusal, _, _)) => Err(Wrong::from(refusal)),
     }
 }
@@ -172,6 +172,11 @@ fn have(
     }
 }
 
+/// The same gate, with what goes from one round to the next.
+fn buffered(alloc: Global, clients: Clients, fails: u64) -> Result<Buffered<FaultyGate>, Wrong> {
+    Ok(Buffered::new(alloc, gate_of(alloc, clients, fails)?)?)
+}
+
 /// Serves the rounds.
 fn served(
     alloc: Global,
@@ -184,11 +189,12 @@ fn served(
 
 /// One run; tells how many calls it made.
 fn run(alloc: Global, course: &Course, clients: Clients, fails: u64) -> Result<u64, Wrong> {
-    let mut gate = Buffered::new(alloc, gate_of(alloc, clients, fails)?)?;
     let mut manager = manager(alloc)?;
-    served(alloc, &mut manager, &mut gate)?;
-    have(alloc, course, clients, &gate.gate, &manager)?;
-    Ok(gate.gate.calls())
+    let mut gate = Box::new(alloc, buffered(alloc, clients, fails)?)?;
+    served(alloc, manager.as_mut(), gate.as_mut())?;
+    let gate = &gate.as_ref().gate;
+    have(alloc, course, clients, gate, manager.as_ref())?;
+    Ok(gate.calls())
 }
 
 /// Each call of the gate fails in turn; tells how many cases were tried.

@@ -72,14 +72,14 @@ pub const ENABLED: &[Row] = &[
 /// What takes the inputs of a life.
 #[derive(Drop)]
 pub struct Taker {
-    pub keeper: Keeper<MemDisk>,
+    pub keeper: Box<Keeper<MemDisk>>,
     /// A wrong program: whatever comes is answered E15.
     always_wanting: bool,
 }
 
 impl Taker {
     /// Over a keeper.
-    pub fn over(keeper: Keeper<MemDisk>) -> Taker {
+    pub fn over(keeper: Box<Keeper<MemDisk>>) -> Taker {
         Taker {
             keeper,
             always_wanting: false,
@@ -96,16 +96,22 @@ impl Taker {
 
     /// The keeper opened again over its disk.
     pub fn reopened(self, alloc: Global) -> Result<Taker, Wrong> {
-        let keeper = opened(alloc, self.keeper.into_disk())?;
+        let always_wanting = self.always_wanting;
+        let keeper = opened(alloc, self.into_disk())?;
         Ok(Taker {
             keeper,
-            always_wanting: self.always_wanting,
+            always_wanting,
         })
+    }
+
+    /// The disk of its keeper.
+    pub fn into_disk(self) -> MemDisk {
+        Box::into_inner(self.keeper).into_disk()
     }
 
     /// Asserts that it is in the state of the beginning of so many rows.
     pub fn is_at(&self, alloc: Global, course: &Course, place: usize) -> Result<(), Wrong> {
-        if course.is_at(place, bytes_of(alloc, &self.keeper)?.as_slice()) {
+        if course.is_at(place, bytes_of(alloc, self.keeper.as_ref())?.as_slice()) {
             return Ok(());
         }
         Err(found("another state than that of the engine"))
@@ -156,7 +162,7 @@ fn open_at(
     always_wanting: bool,
 ) -> Result<Taker, Wrong> {
     let keeper = match Keeper::open(alloc, disk) {
-        Ok(keeper) => keeper,
+        Ok(keeper) => Box::new(alloc, keeper)?,
         Err((Refusal::NoMemory | Refusal::Device, disk)) => {
             stand_for(alloc, course, &disk, place, place)?;
             opened(alloc, disk)?
@@ -247,7 +253,7 @@ fn taken_again(
 ) -> Result<Taker, Wrong> {
     is_closed(alloc, &mut taker, row)?;
     let mut taker = taker.reopened(alloc)?;
-    let bytes = bytes_of(alloc, &taker.keeper)?;
+    let bytes = bytes_of(alloc, taker.keeper.as_ref())?;
     match course.place(place, place.saturating_add(1), bytes.as_slice()) {
         Some(now) if now == place => once_more(alloc, course, &mut taker, place, row)?,
         Some(_) => {}
@@ -311,8 +317,7 @@ pub fn taker_behind(
 pub fn rows_taken(alloc: Global, rows: &[Row]) -> Result<u64, Wrong> {
     let course = course_of(alloc, rows)?;
     let taker = taker_behind(alloc, &course, rows, false)?;
-    let disk = taker.keeper.into_disk();
-    open_at(alloc, &course, disk, rows.len(), false)?;
+    open_at(alloc, &course, taker.into_disk(), rows.len(), false)?;
     Ok(rows.len() as u64)
 }
 

@@ -49,7 +49,7 @@ fn created(alloc: Global, first: Grains) -> Result<(MemDisk, usize), Wrong> {
 fn at(
     alloc: Global,
     course: &Course,
-    keeper: Keeper<MemDisk>,
+    keeper: Box<Keeper<MemDisk>>,
     place: usize,
 ) -> Result<Taker, Wrong> {
     let taker = Taker::over(keeper);
@@ -73,7 +73,10 @@ fn opened(
         let told = Keeper::open(alloc, disk);
         drop(hoard);
         disk = match told {
-            Ok(keeper) => return Ok((at(alloc, course, keeper, place)?, tries)),
+            Ok(keeper) => {
+                let keeper = Box::new(alloc, keeper)?;
+                return Ok((at(alloc, course, keeper, place)?, tries));
+            }
             Err((Refusal::NoMemory | Refusal::Device, disk)) => disk,
             Err((refusal, _)) => return Err(Wrong::from(refusal)),
         };
@@ -101,7 +104,7 @@ fn reopened(
 ) -> Result<(Taker, bool), Wrong> {
     is_closed(alloc, &mut taker, row)?;
     let taker = taker.reopened(alloc)?;
-    let bytes = bytes_of(alloc, &taker.keeper)?;
+    let bytes = bytes_of(alloc, taker.keeper.as_ref())?;
     match course.place(place, place.saturating_add(1), bytes.as_slice()) {
         Some(now) => Ok((taker, now != place)),
         None => Err(found("the store isn't that of a beginning")),
@@ -180,7 +183,7 @@ fn play(alloc: Global, rows: &[Row], first: Grains) -> Result<usize, Wrong> {
     let (disk, creating) = created(alloc, first)?;
     let (taker, opening) = opened(alloc, &course, disk, 0, first)?;
     let (taker, taking) = take_rows(alloc, &course, taker, rows, first)?;
-    let (_, again) = opened(alloc, &course, taker.keeper.into_disk(), rows.len(), first)?;
+    let (_, again) = opened(alloc, &course, taker.into_disk(), rows.len(), first)?;
     let openings = opening.saturating_add(again);
     Ok(creating.saturating_add(taking).saturating_add(openings))
 }

@@ -80,19 +80,19 @@ pub enum Outcome {
     /// An opening was refused, behind so many rows.
     Opening(MemDisk, usize),
     /// A call of the keeper was refused, behind so many rows, which took so many more.
-    Taking(Keeper<Failing>, usize, usize),
+    Taking(Box<Keeper<Failing>>, usize, usize),
 }
 
 /// How a call went.
 #[derive(Drop)]
 enum Gone {
     /// It was done, with so many rows.
-    On(Keeper<Failing>, usize),
-    Refused(Keeper<Failing>, usize),
+    On(Box<Keeper<Failing>>, usize),
+    Refused(Box<Keeper<Failing>>, usize),
     NotOpened(Failing),
 }
 
-fn submit(alloc: Global, keeper: Keeper<Failing>, row: Row) -> Result<Gone, Wrong> {
+fn submit(alloc: Global, keeper: Box<Keeper<Failing>>, row: Row) -> Result<Gone, Wrong> {
     let mut keeper = keeper;
     match keeper.submit(input_of(alloc, row)?) {
         Ok(receipt) => {
@@ -146,7 +146,11 @@ pub fn let_go(alloc: Global, answers: Vec<Result<Receipt, Refusal>>) {
     let _counts = counted(alloc, answers);
 }
 
-fn submit_all(alloc: Global, keeper: Keeper<Failing>, rows: &[Row]) -> Result<Gone, Wrong> {
+fn submit_all(
+    alloc: Global,
+    keeper: Box<Keeper<Failing>>,
+    rows: &[Row],
+) -> Result<Gone, Wrong> {
     let mut keeper = keeper;
     let answers = keeper.submit_all(inputs_of(alloc, rows)?)?;
     if answers.len() != rows.len() {
@@ -160,7 +164,7 @@ fn submit_all(alloc: Global, keeper: Keeper<Failing>, rows: &[Row]) -> Result<Go
     }
 }
 
-fn checkpoint(keeper: Keeper<Failing>) -> Result<Gone, Wrong> {
+fn checkpoint(keeper: Box<Keeper<Failing>>) -> Result<Gone, Wrong> {
     let mut keeper = keeper;
     match keeper.checkpoint() {
         Ok(()) => Ok(Gone::On(keeper, 0)),
@@ -171,7 +175,7 @@ fn checkpoint(keeper: Keeper<Failing>) -> Result<Gone, Wrong> {
 
 fn open(alloc: Global, disk: Failing) -> Result<Gone, Wrong> {
     match Keeper::open(alloc, disk) {
-        Ok(keeper) => Ok(Gone::On(keeper, 0)),
+        Ok(keeper) => Ok(Gone::On(Box::new(alloc, keeper)?, 0)),
         Err((Refusal::Device, disk)) => Ok(Gone::NotOpened(disk)),
         Err((refusal, _)) => Err(Wrong::from(refusal)),
     }
@@ -181,7 +185,7 @@ impl Script {
     fn go(
         &self,
         alloc: Global,
-        keeper: Keeper<Failing>,
+        keeper: Box<Keeper<Failing>>,
         deed: Deed,
         done: usize,
     ) -> Result<Gone, Wrong> {
@@ -192,12 +196,12 @@ impl Script {
             },
             Deed::List(count) => submit_all(alloc, keeper, self.rows_from(done, count)?),
             Deed::Checkpoint => checkpoint(keeper),
-            Deed::Open => open(alloc, keeper.into_disk()),
+            Deed::Open => open(alloc, Box::into_inner(keeper).into_disk()),
         }
     }
 
     /// The calls behind the opening.
-    fn play_over(&self, alloc: Global, keeper: Keeper<Failing>) -> Result<Outcome, Wrong> {
+    fn play_over(&self, alloc: Global, keeper: Box<Keeper<Failing>>) -> Result<Outcome, Wrong> {
         let mut keeper = keeper;
         let mut done: usize = 0;
         for deed in self.deeds.as_slice() {
@@ -210,7 +214,7 @@ impl Script {
                 Gone::NotOpened(disk) => return Ok(Outcome::Opening(disk.into_inner(), done)),
             }
         }
-        Ok(Outcome::Done(keeper.into_disk().calls()))
+        Ok(Outcome::Done(Box::into_inner(keeper).into_disk().calls()))
     }
 
     /// The whole script over this disk.

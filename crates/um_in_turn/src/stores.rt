@@ -38,10 +38,10 @@ pub fn made(alloc: Global) -> Result<MemDisk, Wrong> {
     Ok(disk)
 }
 
-/// The keeper that is opened over a disk.
-pub fn opened<D: Disk + Drop>(alloc: Global, disk: D) -> Result<Keeper<D>, Wrong> {
+/// The keeper that is opened over a disk. It is boxed, since it is large.
+pub fn opened<D: Disk + Drop>(alloc: Global, disk: D) -> Result<Box<Keeper<D>>, Wrong> {
     match Keeper::open(alloc, disk) {
-        Ok(keeper) => Ok(keeper),
+        Ok(keeper) => Ok(Box::new(alloc, keeper)?),
         Err((refusal, _)) => Err(Wrong::from(refusal)),
     }
 }
@@ -73,9 +73,11 @@ pub fn newest(alloc: Global, disk: &MemDisk) -> Result<MemDisk, Wrong> {
 
 /// The state of the store that a disk holds, as bytes; None where there is no store.
 pub fn state_on(alloc: Global, disk: MemDisk) -> Result<Option<Vec<u8>>, Wrong> {
-    match Keeper::open(alloc, disk) {
-        Ok(keeper) => Ok(Some(bytes_of(alloc, &keeper)?)),
-        Err((Refusal::NotFormatted, _)) => Ok(None),
-        Err((refusal, _)) => Err(Wrong::from(refusal)),
+    match opened(alloc, disk) {
+        Ok(keeper) => Ok(Some(bytes_of(alloc, keeper.as_ref())?)),
+        Err(Wrong::Refused {
+            refusal: Refusal::NotFormatted,
+        }) => Ok(None),
+        Err(wrong) => Err(wrong),
     }
 }

@@ -22,7 +22,7 @@ pub type Running = Manager<MemDisk, FaultyChildren>;
 /// A manager, and what the engine alone makes of what it was told.
 #[derive(Drop)]
 pub struct Watched {
-    pub manager: Running,
+    pub manager: Box<Running>,
     pub alone: Alone,
     /// So many calls of the children were looked at.
     pub seen: usize,
@@ -188,7 +188,7 @@ fn calls_behind(manager: &Running, seen: usize) -> &[Call] {
 impl Watched {
     /// Looks at what a turn or an opening did beside what was told and taken, by the orders of the engine alone.
     fn look(&mut self, alloc: Global, orders: &[Order], is_opening: bool) -> Result<(), Wrong> {
-        let calls = calls_behind(&self.manager, self.seen);
+        let calls = calls_behind(self.manager.as_ref(), self.seen);
         let done = ordered(alloc, calls)?;
         are_carried_out(done.as_slice(), orders, is_opening)?;
         are_claimed(calls, self.claimed.as_slice())?;
@@ -219,7 +219,7 @@ impl Watched {
     fn begin(&mut self, alloc: Global) -> Result<(), Wrong> {
         let mut orders = Vec::new(alloc);
         self.alone.take_row((0, Coming::Booted(BOOT)))?;
-        let calls = calls_behind(&self.manager, self.seen);
+        let calls = calls_behind(self.manager.as_ref(), self.seen);
         hear(&mut self.alone, calls, End::Lost, &mut orders)?;
         self.claimed = asked(alloc, calls)?;
         let untold = left_untold(alloc, calls, self.claimed.as_slice())?;
@@ -240,7 +240,7 @@ impl Watched {
     /// What the engine alone orders, where this was told, the time has come, and the row behind it.
     fn due(&mut self, alloc: Global, row: Option<Row>, bytes: &[u8]) -> Result<Vec<Order>, Wrong> {
         let mut orders = Vec::new(alloc);
-        let calls = calls_behind(&self.manager, self.seen);
+        let calls = calls_behind(self.manager.as_ref(), self.seen);
         hear(&mut self.alone, calls, End::Code(203), &mut orders)?;
         let tick = self.alone.take_row((0, Coming::Tick))?;
         orders.extend_from_slice(tick.orders.as_slice())?;
@@ -283,7 +283,12 @@ fn asked(alloc: Global, calls: &[Call]) -> Result<Vec<ProcessNumber>, Wrong> {
 }
 
 /// What an opening made of a manager, where the engine alone stood so before.
-pub fn watch(alloc: Global, manager: Running, alone: Alone, seen: usize) -> Result<Watched, Wrong> {
+pub fn watch(
+    alloc: Global,
+    manager: Box<Running>,
+    alone: Alone,
+    seen: usize,
+) -> Result<Watched, Wrong> {
     let mut watched = Watched {
         manager,
         alone,

@@ -18,17 +18,32 @@ use um_sector::Disk;
 use um_state::Query;
 use um_wire::Refusal;
 
+/// The text of the reply to a query.
+fn reply_text(alloc: Global, engine: &Engine, query: &Query) -> Result<Vec<u8>, Refusal> {
+    let reply = engine.query(query)?;
+    let written = write_reply(alloc, &reply);
+    drop(reply);
+    Ok(written?.bytes)
+}
+
 /// What `umd ctl` prints of the reply to a query.
 fn told_text(alloc: Global, engine: &Engine, verb: Verb, query: &Query) -> Result<String, Refusal> {
-    let reply = engine.query(query)?;
-    let text = write_reply(alloc, &reply)?;
-    let Ok(value) = Value::from_slice(alloc, &text.bytes) else {
+    let text = reply_text(alloc, engine, query)?;
+    let Ok(value) = Value::from_slice(alloc, &text) else {
         return Err(Refusal::NoMemory);
     };
     match told_of(alloc, verb, &value)? {
         Some(told) => Ok(told.output),
         None => Ok(String::new(alloc)),
     }
+}
+
+/// What `umd ctl` prints of the units and of the jobs of a state.
+fn units_and_jobs(alloc: Global, engine: &Engine) -> Result<String, Refusal> {
+    let mut text = told_text(alloc, engine, Verb::ListUnits, &Query::ListUnits)?;
+    let jobs = told_text(alloc, engine, Verb::ListJobs, &Query::ListJobs)?;
+    text.push_str(jobs.as_str())?;
+    Ok(text)
 }
 
 /// What `umd ctl` prints of the units and of the jobs of the state that the store stands for.
@@ -38,10 +53,9 @@ fn units_text<D: Disk>(alloc: Global, disk: &mut D) -> Result<String, Refusal> {
     let Some(engine) = Engine::of(alloc, state, u64::MAX)? else {
         return Ok(String::new(alloc));
     };
-    let mut text = told_text(alloc, &engine, Verb::ListUnits, &Query::ListUnits)?;
-    let jobs = told_text(alloc, &engine, Verb::ListJobs, &Query::ListJobs)?;
-    text.push_str(jobs.as_str())?;
-    Ok(text)
+    let told = units_and_jobs(alloc, &engine);
+    drop(engine);
+    told
 }
 
 /// What the store stands for, in short.

@@ -11,7 +11,8 @@ use std::net::Net;
 use std::process::Processes;
 use std::thread;
 use std::time::{Clock, Duration};
-use um_children::Children;
+use um_children::{Children, RunnerDir};
+use um_filedisk::FileDisk;
 use um_gate::{Moments, SocketGate, SystemMoments, system_moment};
 use um_keeper::OpenedStore;
 use um_line::ServeLine;
@@ -188,6 +189,71 @@ fn open_loop<'a, R: Files + Net + Clock, E: Eprint>(
     })
 }
 
+/// The manager of a store in a file, whose children run under runners, and tell.
+type Served<'a, R> = Manager<FileDisk<'a, R>, Telling<'a, RunnerDir<'a, R>, Lines<'a, R>>>;
+
+/// Opens the manager over what was taken.
+fn open_manager<'a, R>(
+    system: &'a R,
+    alloc: Global,
+    lines: &'a Lines<'a, R>,
+    tally: &'a Tally,
+    boot: BootId,
+    disk: FileDisk<'a, R>,
+    children: RunnerDir<'a, R>,
+) -> Result<Served<'a, R>, End>
+where
+    R: Files<File = File> + Net + Processes + Clock + Eprint,
+{
+    let children = Telling::new(children, lines, tally);
+    match Manager::open(alloc, disk, children, boot, system_moment(system)) {
+        Ok(manager) => Ok(manager),
+        Err((refusal, _, _)) => Err(ends(lines, refusal)),
+    }
+}
+
+/// Says how the store stood that was opened, and what became of its processes.
+fn tell_adopted<D: Disk, C: Children, R: Eprint>(rt: &R, manager: &Manager<D, C>, lost: u64) {
+    tell_opened(rt, manager.opened());
+    let adopted = manager.adopted();
+    let _unheard = eprintln!(rt; "umd: {adopted} processes adopted, of which {lost} are lost");
+}
+
+/// Serves rounds, until one fails.
+fn serve_rounds<R: Clock, D: Disk, C: Children + News>(
+    state: &mut Loop<'_, R>,
+    manager: &mut Manager<D, C>,
+    tally: &Tally,
+) -> Result<(), Refusal> {
+    for _ in 0..u64::MAX {
+        state.step(manager, tally)?;
+    }
+    Ok(())
+}
+
+/// Serves a manager that was opened over a socket, until it fails.
+fn serve_opened<'a, R>(
+    system: &'a R,
+    alloc: Global,
+    lines: &Lines<'a, R>,
+    tally: &Tally,
+    line: &ServeLine<'_>,
+    manager: &mut Served<'a, R>,
+) -> Result<u8, End>
+where
+    R: Files<File = File> + Net + Processes + Clock + Eprint,
+{
+    if manager.children().is_foreign() {
+        return Err(End { status: REFUSED });
+    }
+    tell_adopted(lines, manager, tally.absent());
+    let mut state = open_loop(system, alloc, lines, line, manager.state().clock())?;
+    match serve_rounds(&mut state, manager, tally) {
+        Ok(()) => Ok(0),
+        Err(refusal) => Err(ends(lines, refusal)),
+    }
+}
+
 /// Opens the manager and serves it, until it fails.
 fn serve_over<R>(system: &R, alloc: Global, line: &ServeLine<'_>) -> Result<u8, End>
 where
@@ -195,38 +261,23 @@ where
 {
     take_block(alloc);
     let lines = Lines::new(system, alloc);
-    let rt = &lines;
+    let tally = Tally::new();
     let boot = match boot_id(alloc, line.boot) {
         Ok(boot) => boot,
-        Err(refusal) => return Err(ends(rt, refusal)),
+        Err(refusal) => return Err(ends(&lines, refusal)),
     };
     let Taken {
         disk,
         children,
         lock: _lock,
-    } = match take_places(system, rt, alloc, line) {
+    } = match take_places(system, &lines, alloc, line) {
         Ok(taken) => taken,
         Err(status) => return Err(End { status }),
     };
-    let tally = Tally::new();
-    let children = Telling::new(children, rt, &tally);
-    let mut manager = match Manager::open(alloc, disk, children, boot, system_moment(system)) {
-        Ok(manager) => manager,
-        Err((refusal, _, _)) => return Err(ends(rt, refusal)),
-    };
-    if manager.children().is_foreign() {
-        return Err(End { status: REFUSED });
-    }
-    tell_opened(rt, manager.opened());
-    let (adopted, lost) = (manager.adopted(), tally.absent());
-    let _unheard = eprintln!(rt; "umd: {adopted} processes adopted, of which {lost} are lost");
-    let mut state = open_loop(system, alloc, rt, line, manager.state().clock())?;
-    for _ in 0..u64::MAX {
-        if let Err(refusal) = state.step(&mut manager, &tally) {
-            return Err(ends(rt, refusal));
-        }
-    }
-    Ok(0)
+    let mut manager = open_manager(system, alloc, &lines, &tally, boot, disk, children)?;
+    let ended = serve_opened(system, alloc, &lines, &tally, line, &mut manager);
+    drop(manager);
+    ended
 }
 
 /// Serves a store over a socket, until it fails; then it has said why on standard error, and gives the exit status: 1 where the store, or
