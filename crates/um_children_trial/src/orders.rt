@@ -42,7 +42,7 @@ impl Orders {
         match Keeper::open(alloc, disk) {
             Ok(keeper) => Ok(Orders {
                 alloc,
-                keeper: Box::new(alloc, keeper)?,
+                keeper: Box::new(alloc, keeper).ok().context("no memory")?,
                 count: 0,
             }),
             Err((refusal, _)) => Err(refusal.into()),

@@ -38,7 +38,7 @@ fn number(n: u64) -> anyhow::Result<ProcessNumber> {
 fn open<'a>(rt: &'a HostRuntime, folder: &str) -> anyhow::Result<Box<Dir<'a>>> {
     let program = env::current_exe(rt)?;
     let children = RunnerDir::open(rt, rt.alloc(), program.as_str(), folder)?;
-    Ok(Box::new(rt.alloc(), children)?)
+    Box::new(rt.alloc(), children).ok().context("no memory")
 }
 
 /// The fate of the number, once it has ended, or, where that is enough, once it runs; else the last one.
@@ -278,7 +278,8 @@ fn starts_none(
 /// A start through a runner that isn't there is refused, and the number is the manager's from then on.
 fn no_runner(rt: &HostRuntime, alloc: Global) -> anyhow::Result<()> {
     let order = Orders::new(alloc)?.order("ExecStart=/bin/true")?;
-    let mut children = Box::new(alloc, RunnerDir::open(rt, alloc, "/nonexistent", ALONE)?)?;
+    let children = RunnerDir::open(rt, alloc, "/nonexistent", ALONE)?;
+    let mut children = Box::new(alloc, children).ok().context("no memory")?;
     starts_none(rt, children.as_mut(), order)
 }
 
