@@ -2,14 +2,14 @@
 
 use crate::alone::{Alone, spent};
 use crate::faulty_children::FaultyChildren;
+use crate::managers;
 use crate::rows::{Coming, Row, boot_of, input_of};
-use crate::stores::{made, opened};
+use crate::stores::{made, opened, submit};
 use crate::watched::{BOOT, Running, Watched, watch};
 use crate::wrong::{Wrong, found};
 use std::alloc::Global;
 use um_children::{End, FakeChildren, ProcessNumber};
-use um_manager::Manager;
-use um_model::{Moment, UnitVerb};
+use um_model::UnitVerb;
 use um_sector::MemDisk;
 
 const START: &str = r#"{"verb":"start","unit":"a"}"#;
@@ -101,10 +101,7 @@ pub const ONESHOT: Life = Life {
 
 /// Opens a manager.
 fn open(alloc: Global, disk: MemDisk, children: FaultyChildren) -> Result<Box<Running>, Wrong> {
-    match Manager::open(alloc, disk, children, boot_of(alloc, BOOT)?, Moment::FIRST) {
-        Ok(manager) => Ok(Box::new(alloc, manager)?),
-        Err((refusal, _, _)) => Err(Wrong::from(refusal)),
-    }
+    managers::opened(alloc, disk, children, boot_of(alloc, BOOT)?)
 }
 
 /// The manager is opened again; before that the process ended so.
@@ -145,7 +142,7 @@ fn stored(alloc: Global, life: &Life) -> Result<(MemDisk, Alone), Wrong> {
     let mut keeper = opened(alloc, made(alloc)?)?;
     let mut alone = Alone::new(alloc)?;
     for row in life.rows {
-        let receipt = keeper.submit(input_of(alloc, *row)?)?;
+        let receipt = submit(keeper.as_mut(), input_of(alloc, *row)?)?;
         spent(alloc, receipt)?;
         alone.take_row(*row)?;
     }

@@ -3,13 +3,14 @@
 use crate::alone::{Course, course_of};
 use crate::hoard::Hoard;
 use crate::lives::{SLEEPS, stand_for, taker_behind};
+use crate::managers;
 use crate::rows::{Coming, Row, boot_of};
 use crate::sessions::{add, frame, sent, silence};
 use crate::wrong::{Wrong, found};
 use std::alloc::Global;
 use um_children::FakeChildren;
 use um_manager::{Connection, Manager, Output, Pieces};
-use um_model::{Moment, UnitVerb};
+use um_model::UnitVerb;
 use um_sector::MemDisk;
 use um_wire::{Refusal, spell};
 
@@ -78,12 +79,11 @@ fn stands_as_before(
 fn opened_manager(alloc: Global, course: &Course) -> Result<Box<InMemory>, Wrong> {
     let disk = taker_behind(alloc, course, LOADED, false)?.into_disk();
     let boot = boot_of(alloc, "one")?;
-    let (refusal, disk, children) = match Manager::open(
+    let (refusal, disk, children) = match managers::open(
         alloc,
         disk,
         FakeChildren::new(alloc),
         boot,
-        Moment::FIRST,
     ) {
         Ok(manager) => return Ok(Box::new(alloc, manager)?),
         Err(refused) => refused,
@@ -93,11 +93,7 @@ fn opened_manager(alloc: Global, course: &Course) -> Result<Box<InMemory>, Wrong
 }
 
 fn open(alloc: Global, disk: MemDisk, children: FakeChildren) -> Result<Box<InMemory>, Wrong> {
-    let boot = boot_of(alloc, "one")?;
-    match Manager::open(alloc, disk, children, boot, Moment::FIRST) {
-        Ok(manager) => Ok(Box::new(alloc, manager)?),
-        Err((refusal, _, _)) => Err(Wrong::from(refusal)),
-    }
+    managers::opened(alloc, disk, children, boot_of(alloc, "one")?)
 }
 
 /// The manager whose disk found no memory, opened again.
@@ -209,7 +205,7 @@ fn turn(
     grains: Option<usize>,
 ) -> Result<Result<(), Refusal>, Wrong> {
     let hoard = Hoard::all_but(alloc, grains)?;
-    let turned = manager.turn(Moment::FIRST, pieces);
+    let turned = managers::turn(manager, pieces);
     drop(hoard);
     Ok(turned)
 }
@@ -242,8 +238,8 @@ fn both(
 /// The jobs that were asked for behind the show are listed in the next turn, which is asked again where it found no memory.
 fn listed(alloc: Global, manager: &mut InMemory, first: usize) -> Result<(), Wrong> {
     let nothing = silence(alloc)?;
-    match manager.turn(Moment::FIRST, &nothing) {
-        Err(Refusal::NoMemory) => manager.turn(Moment::FIRST, &nothing)?,
+    match managers::turn(manager, &nothing) {
+        Err(Refusal::NoMemory) => managers::turn(manager, &nothing)?,
         turned => turned?,
     }
     reply_among(alloc, &output(manager, first)?, &[NONE, WANTING])?;
@@ -279,7 +275,7 @@ fn done(alloc: Global, course: &Course, manager: &mut InMemory, first: usize) ->
 
 /// Asks for the jobs, and tells whether they were listed: there are none.
 fn lists(alloc: Global, manager: &mut InMemory, number: usize) -> Result<bool, Wrong> {
-    match manager.turn(Moment::FIRST, &sent(alloc, number, &[JOBS])?) {
+    match managers::turn(manager, &sent(alloc, number, &[JOBS])?) {
         Ok(()) => {}
         Err(Refusal::NoMemory) => return Ok(false),
         Err(refusal) => return Err(Wrong::from(refusal)),

@@ -4,7 +4,9 @@ use crate::alone::{Course, ONWARD, course_onward, spent};
 use crate::disk::RESTART;
 use crate::rows::{Coming, Row, input_of};
 use crate::scripts::{Deed, Outcome, Script};
-use crate::stores::{blank, bytes_of, create_on, made, newest, oldest, opened, state_on};
+use crate::stores::{
+    blank, bytes_of, create_on, made, newest, oldest, open, opened, state_on, submit,
+};
 use crate::wrong::{Wrong, found};
 use std::alloc::Global;
 use um_keeper::Keeper;
@@ -133,7 +135,7 @@ fn calls_of_open(alloc: Global, disk: MemDisk) -> Result<u64, Wrong> {
 
 /// The disk of an opening whose call of this number isn't made.
 fn half_opened(alloc: Global, disk: MemDisk, fails: u64) -> Result<MemDisk, Wrong> {
-    match Keeper::open(alloc, Fuse::new(disk, fails)) {
+    match open(alloc, Fuse::new(disk, fails)) {
         Err((Refusal::Device, disk)) => Ok(disk.into_inner()),
         Err((refusal, _)) => Err(Wrong::from(refusal)),
         Ok(_) => Err(found("an opening whose call failed is done")),
@@ -155,7 +157,7 @@ impl Crashes<'_> {
     /// Goes on over an image with one more input, which is there when it is opened again.
     fn go_on(&mut self, image: MemDisk, place: usize) -> Result<(), Wrong> {
         let mut keeper = opened(self.alloc, image)?;
-        let receipt = keeper.submit(input_of(self.alloc, ONWARD)?)?;
+        let receipt = submit(keeper.as_mut(), input_of(self.alloc, ONWARD)?)?;
         spent(self.alloc, receipt)?;
         let bytes = bytes_of(self.alloc, keeper.as_ref())?;
         if !self.course.is_onward(place, bytes.as_slice()) {
@@ -328,7 +330,7 @@ fn creation(
 /// A store with a file.
 fn with_file(alloc: Global) -> Result<Box<Keeper<MemDisk>>, Wrong> {
     let mut keeper = opened(alloc, made(alloc)?)?;
-    let receipt = keeper.submit(input_of(alloc, ONWARD)?)?;
+    let receipt = submit(keeper.as_mut(), input_of(alloc, ONWARD)?)?;
     spent(alloc, receipt)?;
     Ok(keeper)
 }

@@ -3,7 +3,7 @@
 use crate::alone::{Course, course_of, spent};
 use crate::rows::{Coming, Row, input_of};
 use crate::scripts::{Deed, Failing, Outcome, Script, let_go};
-use crate::stores::{blank, bytes_of, create_on, newest, oldest, opened, state_on};
+use crate::stores::{blank, bytes_of, create_on, newest, oldest, opened, state_on, submit};
 use crate::wrong::{Wrong, found};
 use std::alloc::Global;
 use um_keeper::Keeper;
@@ -108,7 +108,7 @@ fn is_closed(told: Result<(), Refusal>) -> Result<(), Wrong> {
 /// Asserts that a keeper that failed takes nothing more (E17).
 fn takes_nothing(alloc: Global, keeper: &mut Keeper<Failing>) -> Result<(), Wrong> {
     let row = (0, Coming::Reload);
-    match keeper.submit(input_of(alloc, row)?) {
+    match submit(keeper, input_of(alloc, row)?) {
         Ok(receipt) => {
             let _answer = spent(alloc, receipt);
             return Err(found("a keeper that failed takes an input"));

@@ -2,6 +2,7 @@
 
 use crate::alone::{Course, course_of};
 use crate::faulty_gate::FaultyGate;
+use crate::managers;
 use crate::rows::{Coming, Row, boot_of};
 use crate::sessions::frames;
 use crate::stores::made;
@@ -12,7 +13,7 @@ use um_gate::{FakeGate, FakeMoments, Note};
 use um_manager::Manager;
 use um_model::{Moment, UnitVerb};
 use um_sector::MemDisk;
-use um_serve::{Buffered, serve};
+use um_serve::Buffered;
 use um_wire::spell;
 
 /// So many rounds are served.
@@ -108,10 +109,7 @@ fn gate_of(alloc: Global, clients: Clients, fails: u64) -> Result<FaultyGate, Wr
 fn manager(alloc: Global) -> Result<Box<Serving>, Wrong> {
     let disk = made(alloc)?;
     let children = FakeChildren::new(alloc);
-    match Manager::open(alloc, disk, children, boot_of(alloc, "one")?, Moment::FIRST) {
-        Ok(manager) => Ok(Box::new(alloc, manager)?),
-        Err((refusal, _, _)) => Err(Wrong::from(refusal)),
-    }
+    managers::opened(alloc, disk, children, boot_of(alloc, "one")?)
 }
 
 /// What a gate took for a client.
@@ -184,7 +182,7 @@ fn served(
     gate: &mut Buffered<FaultyGate>,
 ) -> Result<(), Wrong> {
     let mut clock = FakeMoments::new(alloc, Moment::FIRST, 0);
-    Ok(serve(manager, gate, &mut clock, ROUNDS)?)
+    Ok(managers::serve(manager, gate, &mut clock, ROUNDS)?)
 }
 
 /// One run; tells how many calls it made.

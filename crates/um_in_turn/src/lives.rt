@@ -3,7 +3,7 @@
 use crate::alone::{Answer, Course, course_of, refused, spent};
 use crate::crash::{combinations, turn};
 use crate::rows::{Coming, Row, input_of};
-use crate::stores::{blank, bytes_of, create_on, opened, state_on};
+use crate::stores::{blank, bytes_of, create_on, open, opened, state_on, submit};
 use crate::wrong::{Wrong, found};
 use std::alloc::Global;
 use um_keeper::{Keeper, Receipt};
@@ -91,7 +91,7 @@ impl Taker {
         if self.always_wanting {
             return Err(Refusal::NoMemory);
         }
-        self.keeper.submit(input)
+        submit(self.keeper.as_mut(), input)
     }
 
     /// The keeper opened again over its disk.
@@ -161,8 +161,8 @@ fn open_at(
     place: usize,
     always_wanting: bool,
 ) -> Result<Taker, Wrong> {
-    let keeper = match Keeper::open(alloc, disk) {
-        Ok(keeper) => Box::new(alloc, keeper)?,
+    let keeper = match open(alloc, disk) {
+        Ok(keeper) => keeper,
         Err((Refusal::NoMemory | Refusal::Device, disk)) => {
             stand_for(alloc, course, &disk, place, place)?;
             opened(alloc, disk)?
@@ -218,7 +218,7 @@ pub fn heard(alloc: Global, told: Result<Receipt, Refusal>) -> Result<Taken, Wro
     }
 }
 
-fn submit(alloc: Global, taker: &mut Taker, row: Row) -> Result<Taken, Wrong> {
+fn submit_row(alloc: Global, taker: &mut Taker, row: Row) -> Result<Taken, Wrong> {
     let told = taker.submit(input_of(alloc, row)?);
     heard(alloc, told)
 }
@@ -270,7 +270,7 @@ fn once_more(
     place: usize,
     row: Row,
 ) -> Result<(), Wrong> {
-    match submit(alloc, taker, row)? {
+    match submit_row(alloc, taker, row)? {
         Taken::As(answer) => is_answer(course, place, &answer),
         Taken::Wanting | Taken::Failed => Err(found("no memory where there is some")),
     }
@@ -284,7 +284,7 @@ fn take(
     place: usize,
     row: Row,
 ) -> Result<Taker, Wrong> {
-    match submit(alloc, &mut taker, row)? {
+    match submit_row(alloc, &mut taker, row)? {
         Taken::As(answer) => is_answer(course, place, &answer)?,
         Taken::Wanting => {
             taker.is_at(alloc, course, place)?;

@@ -17,6 +17,7 @@ mod gate;
 mod hoard;
 mod limited;
 mod lives;
+mod managers;
 mod rows;
 mod scarce;
 mod scripts;

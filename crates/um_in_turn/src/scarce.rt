@@ -5,7 +5,7 @@ use crate::clients::two;
 use crate::hoard::Hoard;
 use crate::lives::{Taken, Taker, heard, is_answer, is_closed, is_untouched, stand_for};
 use crate::rows::{Row, input_of};
-use crate::stores::{blank, bytes_of, create_on};
+use crate::stores::{blank, bytes_of, create_on, open};
 use crate::wrong::{Wrong, found};
 use std::alloc::Global;
 use um_keeper::Keeper;
@@ -70,13 +70,10 @@ fn opened(
     let mut grains = first;
     for tries in 0..MOST {
         let hoard = Hoard::all_but(alloc, grains)?;
-        let told = Keeper::open(alloc, disk);
+        let told = open(alloc, disk);
         drop(hoard);
         disk = match told {
-            Ok(keeper) => {
-                let keeper = Box::new(alloc, keeper)?;
-                return Ok((at(alloc, course, keeper, place)?, tries));
-            }
+            Ok(keeper) => return Ok((at(alloc, course, keeper, place)?, tries)),
             Err((Refusal::NoMemory | Refusal::Device, disk)) => disk,
             Err((refusal, _)) => return Err(Wrong::from(refusal)),
         };

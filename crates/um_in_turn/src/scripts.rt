@@ -2,6 +2,7 @@
 
 use crate::alone::spent;
 use crate::rows::{Row, input_of, inputs_of};
+use crate::stores;
 use crate::stores::create_on;
 use crate::wrong::{Wrong, found};
 use std::alloc::Global;
@@ -94,7 +95,7 @@ enum Gone {
 
 fn submit(alloc: Global, keeper: Box<Keeper<Failing>>, row: Row) -> Result<Gone, Wrong> {
     let mut keeper = keeper;
-    match keeper.submit(input_of(alloc, row)?) {
+    match stores::submit(keeper.as_mut(), input_of(alloc, row)?) {
         Ok(receipt) => {
             spent(alloc, receipt)?;
             Ok(Gone::On(keeper, 1))
@@ -174,8 +175,8 @@ fn checkpoint(keeper: Box<Keeper<Failing>>) -> Result<Gone, Wrong> {
 }
 
 fn open(alloc: Global, disk: Failing) -> Result<Gone, Wrong> {
-    match Keeper::open(alloc, disk) {
-        Ok(keeper) => Ok(Gone::On(Box::new(alloc, keeper)?, 0)),
+    match stores::open(alloc, disk) {
+        Ok(keeper) => Ok(Gone::On(keeper, 0)),
         Err((Refusal::Device, disk)) => Ok(Gone::NotOpened(disk)),
         Err((refusal, _)) => Err(Wrong::from(refusal)),
     }

@@ -2,9 +2,10 @@
 
 use crate::wrong::{Wrong, found};
 use std::alloc::Global;
-use um_keeper::{Keeper, create};
+use um_keeper::{Keeper, Receipt, create};
 use um_model::Layout;
 use um_sector::{Disk, MemDisk};
+use um_state::Input;
 use um_wire::{Refusal, spell};
 
 /// So many sectors a disk has: slots of 64, a log of 512.
@@ -38,12 +39,25 @@ pub fn made(alloc: Global) -> Result<MemDisk, Wrong> {
     Ok(disk)
 }
 
-/// The keeper that is opened over a disk. It is boxed, since it is large.
+/// Opens the store that a disk holds. The keeper is boxed, since it is large; where that finds no memory, the opening has found none.
+pub fn open<D: Disk>(alloc: Global, disk: D) -> Result<Box<Keeper<D>>, (Refusal, D)> {
+    match Box::new(alloc, Keeper::open(alloc, disk)?) {
+        Ok(keeper) => Ok(keeper),
+        Err(failed) => Err((Refusal::NoMemory, failed.value.into_disk())),
+    }
+}
+
+/// The keeper that is opened over a disk, where no opening may be refused.
 pub fn opened<D: Disk + Drop>(alloc: Global, disk: D) -> Result<Box<Keeper<D>>, Wrong> {
-    match Keeper::open(alloc, disk) {
-        Ok(keeper) => Ok(Box::new(alloc, keeper)?),
+    match open(alloc, disk) {
+        Ok(keeper) => Ok(keeper),
         Err((refusal, _)) => Err(Wrong::from(refusal)),
     }
+}
+
+/// Submits an input.
+pub fn submit<D: Disk>(keeper: &mut Keeper<D>, input: Input) -> Result<Receipt, Refusal> {
+    keeper.submit(input)
 }
 
 /// The canonical bytes of the state of a keeper.

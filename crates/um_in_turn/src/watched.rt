@@ -2,6 +2,7 @@
 
 use crate::alone::{Alone, Order};
 use crate::faulty_children::FaultyChildren;
+use crate::managers;
 use crate::rows::{Coming, Row};
 use crate::sessions::{frame, sent, silence};
 use crate::wrong::{Wrong, found};
@@ -261,7 +262,7 @@ impl Watched {
         } else {
             sent(alloc, 0, &[text])?
         };
-        self.manager.turn(Moment::FIRST, &pieces)?;
+        managers::turn(self.manager.as_mut(), &pieces)?;
         let output = self.manager.output(connection);
         let orders = self.due(alloc, row, output.bytes.as_slice())?;
         self.look(alloc, orders.as_slice(), false)
