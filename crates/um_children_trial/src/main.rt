@@ -8,20 +8,27 @@ mod rows;
 use anyhow::bail;
 use std::env;
 use std::process::ExitCode;
-use um_runner::{Folder, RunnerLine};
+use um_runner::{Folder, FolderFault, RunnerLine};
+
+/// A runner.
+fn run(rt: &HostRuntime, line: &RunnerLine<'_>) -> Result<(), FolderFault> {
+    let mut folder = Folder::of(rt, rt.alloc(), line.folder, line.number);
+    um_runner::run(&mut folder, &line.job)
+}
+
+/// The runner that these words ask for.
+fn run_words(rt: &HostRuntime, words: &[String]) -> anyhow::Result<()> {
+    match RunnerLine::of(words) {
+        Some(line) => Ok(run(rt, &line)?),
+        None => bail!("no words of a runner"),
+    }
+}
 
 /// The rows, or, behind the word `run`, a runner.
 fn trial(rt: &HostRuntime) -> anyhow::Result<()> {
     let words: Vec<String> = env::args(rt)?.collect(rt.alloc())?;
     match words.as_slice() {
-        [_, role, words @ ..] if role.as_str() == "run" => {
-            let Some(line) = RunnerLine::of(words) else {
-                bail!("no words of a runner");
-            };
-            let mut folder = Folder::of(rt, rt.alloc(), line.folder, line.number);
-            um_runner::run(&mut folder, &line.job)?;
-            Ok(())
-        }
+        [_, role, words @ ..] if role.as_str() == "run" => run_words(rt, words),
         _ => rows::rows(rt, rt.alloc()),
     }
 }

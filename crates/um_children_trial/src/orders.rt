@@ -5,8 +5,9 @@ use std::alloc::Global;
 use um_keeper::{Handed, Keeper, Receipt, SpawnOrder, create};
 use um_model::{JobMode, Layout, Moment, UnitVerb};
 use um_name::UnitName;
-use um_sector::MemDisk;
+use um_sector::{Disk, MemDisk};
 use um_state::{Command, Event, Input};
+use um_wire::Refusal;
 
 /// A keeper over a new store in memory, whose orders have the numbers from 1 on.
 #[derive(Drop)]
@@ -17,10 +18,9 @@ pub struct Orders {
     count: u64,
 }
 
-/// What came of a command: its order, if any.
-fn order_of(keeper: &mut Keeper<MemDisk>, command: Command) -> anyhow::Result<Option<SpawnOrder>> {
-    let input = Input::new(Moment::FIRST, Event::Commanded(command));
-    let mut receipt = keeper.submit(input)?;
+/// The order of a receipt, if it has one. The receipt is spent.
+fn order_in(receipt: Receipt) -> Option<SpawnOrder> {
+    let mut receipt = receipt;
     let mut order = None;
     while let Some(handed) = receipt.next_action() {
         if let Handed::Spawn(spawn) = handed {
@@ -28,18 +28,58 @@ fn order_of(keeper: &mut Keeper<MemDisk>, command: Command) -> anyhow::Result<Op
         }
     }
     receipt.finish();
-    Ok(order)
+    order
+}
+
+/// What came of a command: its order, if any.
+fn order_of<D: Disk>(
+    keeper: &mut Keeper<D>,
+    command: Command,
+) -> Result<Option<SpawnOrder>, Refusal> {
+    let input = Input::new(Moment::FIRST, Event::Commanded(command));
+    Ok(order_in(keeper.submit(input)?))
+}
+
+/// Puts the file of a service with these lines, and loads it.
+fn load<D: Disk>(
+    alloc: Global,
+    keeper: &mut Keeper<D>,
+    name: &str,
+    lines: &str,
+) -> Result<(), Refusal> {
+    let path = format!(in alloc; "lib/{name}")?;
+    let text = format!(in alloc; "[Service]\n{lines}\n")?;
+    order_of(keeper, Command::PutFile { path, text })?;
+    order_of(keeper, Command::DaemonReload)?;
+    Ok(())
+}
+
+/// Starts a service.
+fn start<D: Disk>(
+    alloc: Global,
+    keeper: &mut Keeper<D>,
+    name: &str,
+) -> Result<Option<SpawnOrder>, Refusal> {
+    let unit = UnitName::parse(alloc, name)?;
+    let verb = UnitVerb::Start;
+    let mode = JobMode::Replace;
+    order_of(keeper, Command::ForUnit { verb, unit, mode })
+}
+
+/// A new store in memory.
+fn made(alloc: Global) -> anyhow::Result<MemDisk> {
+    let mut disk = MemDisk::new(alloc, 641)?;
+    let Some(layout) = Layout::new(64, 512) else {
+        bail!("no layout");
+    };
+    create(alloc, &mut disk, layout)?;
+    Ok(disk)
 }
 
 impl Orders {
     /// A keeper that gave no order yet.
     pub fn new(alloc: Global) -> anyhow::Result<Orders> {
-        let mut disk = MemDisk::new(alloc, 641)?;
-        let Some(layout) = Layout::new(64, 512) else {
-            bail!("no layout");
-        };
-        create(alloc, &mut disk, layout)?;
-        match Keeper::open(alloc, disk) {
+        match Keeper::open(alloc, made(alloc)?) {
             Ok(keeper) => Ok(Orders {
                 alloc,
                 keeper: Box::new(alloc, keeper).ok().context("no memory")?,
@@ -49,19 +89,14 @@ impl Orders {
         }
     }
 
-    /// The order that starts a new service with these lines.
-    pub fn order(&mut self, lines: &str) -> anyhow::Result<SpawnOrder> {
+    /// The order that starts a new service with these lines, boxed.
+    pub fn order(&mut self, lines: &str) -> anyhow::Result<Box<SpawnOrder>> {
         let alloc = self.alloc;
         self.count = self.count.wrapping_add(1);
         let name = format!(in alloc; "a{}.service", self.count)?;
-        let path = format!(in alloc; "lib/{name}")?;
-        let text = format!(in alloc; "[Service]\n{lines}\n")?;
-        let unit = UnitName::parse(alloc, name.as_str())?;
         let keeper = self.keeper.as_mut();
-        order_of(keeper, Command::PutFile { path, text })?;
-        order_of(keeper, Command::DaemonReload)?;
-        let verb = UnitVerb::Start;
-        let mode = JobMode::Replace;
-        order_of(keeper, Command::ForUnit { verb, unit, mode })?.context("no order")
+        load(alloc, keeper, name.as_str(), lines)?;
+        let order = start(alloc, keeper, name.as_str())?.context("no order")?;
+        Box::new(alloc, order).ok().context("no memory")
     }
 }

@@ -63,11 +63,33 @@ fn fate_of(
 }
 
 /// When a process is signalled.
-#[derive(Drop)]
+#[derive(Clone, Copy)]
 enum Signalled {
     Never,
     BeforeItStarts,
     WhileItRuns,
+}
+
+/// A name, the lines of a service, and when it is signalled.
+type Service = (&'static str, &'static str, Signalled);
+
+/// Carries out an order, and signals its process.
+fn spawn(
+    rt: &HostRuntime,
+    children: &mut Dir<'_>,
+    order: Box<SpawnOrder>,
+    signalled: Signalled,
+) -> anyhow::Result<()> {
+    let number = order.as_ref().number();
+    if let Signalled::BeforeItStarts = signalled {
+        children.signal(number, Signal::Term)?;
+    }
+    children.spawn(Box::into_inner(order))?;
+    if let Signalled::WhileItRuns = signalled {
+        fate_of(rt, children, number, false)?;
+        children.signal(number, Signal::Term)?;
+    }
+    Ok(())
 }
 
 /// Runs a service with these lines to its end, and tells it under the name.
@@ -75,19 +97,12 @@ fn row(
     rt: &HostRuntime,
     orders: &mut Orders,
     children: &mut Dir<'_>,
-    service: &(&str, &str, Signalled),
+    service: Service,
 ) -> anyhow::Result<()> {
     let (name, lines, signalled) = service;
     let order = orders.order(lines)?;
-    let number = order.number();
-    if let Signalled::BeforeItStarts = signalled {
-        children.signal(number, Signal::Term)?;
-    }
-    children.spawn(order)?;
-    if let Signalled::WhileItRuns = signalled {
-        fate_of(rt, children, number, false)?;
-        children.signal(number, Signal::Term)?;
-    }
+    let number = order.as_ref().number();
+    spawn(rt, children, order, signalled)?;
     let fate = fate_of(rt, children, number, true)?;
     println!(rt; "{name}: {fate:?}")?;
     Ok(())
@@ -117,21 +132,42 @@ const ENVIRONMENT: &str =
 
 const SLEEP: &str = "ExecStart=/bin/sleep 9";
 
+/// Processes 1 and 2.
+const FIRST: &[Service] = &[
+    ("exit 3", EXIT, Signalled::Never),
+    ("not there", NOT_THERE, Signalled::Never),
+];
+
+/// Processes 3 to 5.
+const OTHERS: &[Service] = &[
+    ("environment", ENVIRONMENT, Signalled::Never),
+    ("signalled", SLEEP, Signalled::WhileItRuns),
+    (
+        "signalled before it started",
+        SLEEP,
+        Signalled::BeforeItStarts,
+    ),
+];
+
+/// Runs services, one after another.
+fn each(
+    rt: &HostRuntime,
+    orders: &mut Orders,
+    children: &mut Dir<'_>,
+    services: &[Service],
+) -> anyhow::Result<()> {
+    for service in services {
+        row(rt, orders, children, *service)?;
+    }
+    Ok(())
+}
+
 /// Processes 1 to 5 end and tell: the fourth is signalled while it runs, the fifth before it is started.
 fn ends(rt: &HostRuntime, orders: &mut Orders, children: &mut Dir<'_>) -> anyhow::Result<()> {
-    let exit = ("exit 3", EXIT, Signalled::Never);
-    row(rt, orders, children, &exit)?;
-    let not_there = ("not there", NOT_THERE, Signalled::Never);
-    row(rt, orders, children, &not_there)?;
+    each(rt, orders, children, FIRST)?;
     let pid = is_there(rt, "processes/2.pid");
     println!(rt; "its pid file: {pid}")?;
-    let environment = ("environment", ENVIRONMENT, Signalled::Never);
-    row(rt, orders, children, &environment)?;
-    let late = ("signalled", SLEEP, Signalled::WhileItRuns);
-    row(rt, orders, children, &late)?;
-    let name = "signalled before it started";
-    let early = (name, SLEEP, Signalled::BeforeItStarts);
-    row(rt, orders, children, &early)
+    each(rt, orders, children, OTHERS)
 }
 
 /// Waits until there is news, or, where the fate of a number is asked each time, until there is none, and tells whether there is any.
@@ -172,53 +208,45 @@ fn is_news(
 /// A process is news from its start until it runs, and once it has ended.
 fn news(rt: &HostRuntime, alloc: Global) -> anyhow::Result<()> {
     let order = Orders::new(alloc)?.order("ExecStart=/bin/sleep 1")?;
-    let number = order.number();
+    let number = order.as_ref().number();
     let mut children = open(rt, SEEN)?;
-    children.spawn(order)?;
+    children.spawn(Box::into_inner(order))?;
     is_news(rt, children.as_mut(), number)
 }
 
-/// Two orders of one number, one of each store; tells whether it is one.
-fn twice(
-    orders: &mut Orders,
-    others: &mut Orders,
-    lines: &str,
-) -> anyhow::Result<(SpawnOrder, SpawnOrder, bool)> {
-    let first = orders.order(lines)?;
-    let second = others.order(lines)?;
-    let same = first.number() == second.number();
-    Ok((first, second, same))
-}
-
-/// Whether a runner starts something that comes to a claim of the manager, and one that comes after the number was forgotten.
+/// Whether something stands at the path `late`, or comes there, behind the start of this order.
 fn starts_late(
     rt: &HostRuntime,
     children: &mut Dir<'_>,
-    first: SpawnOrder,
-    second: SpawnOrder,
-) -> anyhow::Result<(bool, Fate)> {
-    let number = first.number();
-    children.spawn(first)?;
-    let started = comes(rt, "late");
-    let later = children.fate(number, true)?;
-    children.forget(number)?;
-    children.spawn(second)?;
-    Ok((started || comes(rt, "late"), later))
+    order: Box<SpawnOrder>,
+) -> anyhow::Result<bool> {
+    children.spawn(Box::into_inner(order))?;
+    Ok(comes(rt, "late"))
 }
 
-/// A number that the manager has claimed.
+const LATE: &str = "ExecStart=/bin/sh -c 'echo x >>late'";
+
+/// A number that the manager has claimed: a runner that comes to it starts nothing, nor does one that comes once it was forgotten.
 fn claimed(
     rt: &HostRuntime,
     orders: &mut Orders,
     others: &mut Orders,
     children: &mut Dir<'_>,
 ) -> anyhow::Result<()> {
-    let (first, second, same) = twice(orders, others, "ExecStart=/bin/sh -c 'echo x >>late'")?;
-    let fate = children.fate(first.number(), true)?;
-    let (started, later) = starts_late(rt, children, first, second)?;
+    let first = orders.order(LATE)?;
+    let number = first.as_ref().number();
+    let fate = children.fate(number, true)?;
+    let started = starts_late(rt, children, first)?;
+    let later = children.fate(number, true)?;
+    children.forget(number)?;
+    let second = others.order(LATE)?;
+    let same = number == second.as_ref().number();
+    let started = starts_late(rt, children, second)? || started;
     println!(rt; "claimed: {fate:?}, then {later:?}; the same number: {same}; started: {started}")?;
     Ok(())
 }
+
+const TWO: &str = "ExecStart=/bin/sh -c 'echo x >>two; sleep 1'";
 
 /// A number that two runners claim.
 fn claimed_twice(
@@ -227,11 +255,12 @@ fn claimed_twice(
     others: &mut Orders,
     children: &mut Dir<'_>,
 ) -> anyhow::Result<()> {
-    let lines = "ExecStart=/bin/sh -c 'echo x >>two; sleep 1'";
-    let (first, second, same) = twice(orders, others, lines)?;
-    let number = first.number();
-    children.spawn(first)?;
-    children.spawn(second)?;
+    let first = orders.order(TWO)?;
+    let number = first.as_ref().number();
+    let second = others.order(TWO)?;
+    let same = number == second.as_ref().number();
+    children.spawn(Box::into_inner(first))?;
+    children.spawn(Box::into_inner(second))?;
     let fate = fate_of(rt, children, number, true)?;
     let size = fs::metadata(rt, "two")?.len();
     println!(rt; "two runners: {fate:?}; the same number: {same}; bytes written: {size}")?;
@@ -265,10 +294,10 @@ fn claims(rt: &HostRuntime, alloc: Global) -> anyhow::Result<()> {
 fn starts_none(
     rt: &HostRuntime,
     children: &mut Dir<'_>,
-    order: SpawnOrder,
+    order: Box<SpawnOrder>,
 ) -> anyhow::Result<()> {
-    let number = order.number();
-    let spawned = children.spawn(order);
+    let number = order.as_ref().number();
+    let spawned = children.spawn(Box::into_inner(order));
     let fate = children.fate(number, true)?;
     let failures = children.failures();
     println!(rt; "no runner: {spawned:?}, then {fate:?}; failures: {failures}")?;
