@@ -91,25 +91,42 @@ fn unread<R: Eprint>(rt: &R, alloc: Global, path: &str, fault: &FileFault) -> u8
     DEVICE
 }
 
-/// Looks at a store. Nothing is written.
-pub fn check<R>(rt: &R, alloc: Global, line: &CheckLine<'_>) -> Result<u8, Fault>
-where
-    R: Files<File = File> + Print + Eprint + Clock,
-{
-    let mut disk = match open_read_only(rt, line.file) {
-        Ok(disk) => disk,
-        Err(fault) => return Ok(unread(rt, alloc, line.file, &fault)),
-    };
-    let text = if line.units {
+/// What is told of the store that a disk holds, for these words.
+fn text_of<D: Disk + Drop>(
+    alloc: Global,
+    disk: D,
+    line: &CheckLine<'_>,
+) -> Result<String, Refusal> {
+    let mut disk = disk;
+    if line.units {
         units_text(alloc, &mut disk)
     } else {
         summary_text(alloc, &mut disk)
-    };
+    }
+}
+
+/// Puts out what is told, or says why the store can't be opened.
+fn tell<R: Print + Eprint>(
+    rt: &R,
+    alloc: Global,
+    text: &Result<String, Refusal>,
+) -> Result<u8, Fault> {
     match text {
         Ok(text) => match print!(rt; "{text}") {
             Ok(()) => Ok(0),
             Err(e) => Err(Fault::Write(e)),
         },
-        Err(refusal) => Ok(refuses(rt, alloc, &refusal)),
+        Err(refusal) => Ok(refuses(rt, alloc, refusal)),
+    }
+}
+
+/// Looks at a store. Nothing is written.
+pub fn check<R>(rt: &R, alloc: Global, line: &CheckLine<'_>) -> Result<u8, Fault>
+where
+    R: Files<File = File> + Print + Eprint + Clock,
+{
+    match open_read_only(rt, line.file) {
+        Ok(disk) => tell(rt, alloc, &text_of(alloc, disk, line)),
+        Err(fault) => Ok(unread(rt, alloc, line.file, &fault)),
     }
 }

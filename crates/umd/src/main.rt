@@ -38,14 +38,23 @@ fn serve_memory<R: Input + Print>(rt: &R, alloc: Global) -> Result<u8, Fault> {
     }
 }
 
+/// Runs a command, and notes in a folder what becomes of it.
+fn run_in_folder<R: Files + Processes + Clock>(
+    rt: &R,
+    alloc: Global,
+    line: &RunnerLine<'_>,
+) -> Result<(), FolderFault> {
+    let mut folder = Folder::of(rt, alloc, line.folder, line.number);
+    um_runner::run(&mut folder, &line.job)
+}
+
 /// Runs a command for the manager.
 fn run_runner<R: Files + Processes + Clock + Eprint>(
     rt: &R,
     alloc: Global,
     line: &RunnerLine<'_>,
 ) -> Result<u8, Fault> {
-    let mut folder = Folder::of(rt, alloc, line.folder, line.number);
-    match um_runner::run(&mut folder, &line.job) {
+    match run_in_folder(rt, alloc, line) {
         Ok(()) => Ok(0),
         Err(FolderFault::NoMemory) => Err(Fault::NoMemory),
         Err(FolderFault::System(e)) => {
@@ -106,29 +115,39 @@ fn ctl<R: Net + Input + Print + Eprint>(
 /// Puts out what the refusal of this number means.
 fn explain<R: Print>(rt: &R, alloc: Global, number: u32) -> Result<u8, Fault> {
     match meaning_line(alloc, u64::from(number))? {
-        Some(line) => match print!(rt; "{line}") {
-            Ok(()) => Ok(0),
-            Err(e) => Err(Fault::Write(e)),
-        },
+        Some(line) => put_text(rt, line.as_str()),
         None => Ok(USAGE),
     }
 }
 
-/// What the words ask for. What is told of wrong words is told of them as they are shown, without control characters.
-fn read<'a>(alloc: Global, words: &'a [String]) -> Result<Line<'a>, AllocError> {
+/// What is told of wrong words, as they are shown.
+fn wrong_text(alloc: Global, words: &[String]) -> Result<String, AllocError> {
     match read_line(alloc, words)? {
-        Line::Wrong(_) => {}
-        asked => return Ok(asked),
+        Line::Wrong(text) => Ok(text),
+        asked => {
+            drop(asked);
+            String::from_str(alloc, "error: a word holds a control character\n")
+        }
     }
+}
+
+/// What is told of wrong words, without their control characters.
+fn shown_text(alloc: Global, words: &[String]) -> Result<String, AllocError> {
     let mut others = Vec::new(alloc);
     for word in words {
         others.push(shown(alloc, word.as_str())?)?;
     }
-    let text = match read_line(alloc, others.as_slice())? {
-        Line::Wrong(text) => text,
-        _ => String::from_str(alloc, "error: a word holds a control character\n")?,
-    };
-    Ok(Line::Wrong(text))
+    wrong_text(alloc, others.as_slice())
+}
+
+/// What the words ask for. What is told of wrong words is told of them as they are shown, without control characters.
+fn read<'a>(alloc: Global, words: &'a [String]) -> Result<Line<'a>, AllocError> {
+    let line = read_line(alloc, words)?;
+    if !matches!(line, Line::Wrong(_)) {
+        return Ok(line);
+    }
+    drop(line);
+    Ok(Line::Wrong(shown_text(alloc, words)?))
 }
 
 /// Holds the descriptors of standard input, output and error where the program was started without them: else the next file that is opened, the
@@ -139,6 +158,26 @@ fn hold_standard<R: Files<File = File>>(rt: &R) -> [Option<File>; 3] {
 
 fn null<R: Files<File = File>>(rt: &R) -> Option<File> {
     File::open(rt, "/dev/null").ok()
+}
+
+/// Puts out a text.
+fn put_text<R: Print>(rt: &R, text: &str) -> Result<u8, Fault> {
+    match print!(rt; "{text}") {
+        Ok(()) => Ok(0),
+        Err(e) => Err(Fault::Write(e)),
+    }
+}
+
+/// Says what is wrong with the words. Where standard error fails too, the exit status alone tells it.
+fn put_usage<R: Eprint>(rt: &R, text: &str) -> u8 {
+    let _unheard = eprint!(rt; "{text}");
+    USAGE
+}
+
+/// Says that the id of the boot is too long.
+fn put_refusal<R: Eprint>(rt: &R) -> u8 {
+    let _unheard = eprintln!(rt; "E1 BadRequest");
+    REFUSED
 }
 
 fn run_line<R>(rt: &R, alloc: Global, line: &Line<'_>) -> Result<u8, Fault>
@@ -153,20 +192,19 @@ where
         Line::Ctl(line) => ctl(rt, alloc, line),
         Line::Serve(line) => Ok(serve_store(rt, alloc, line)),
         Line::Help(number) => explain(rt, alloc, *number),
-        Line::LongBoot => {
-            let _unheard = eprintln!(rt; "E1 BadRequest");
-            Ok(REFUSED)
-        }
-        Line::Told(text) => match print!(rt; "{text}") {
-            Ok(()) => Ok(0),
-            Err(e) => Err(Fault::Write(e)),
-        },
-        Line::Wrong(text) => {
-            // Where standard error fails too, the exit status alone tells it.
-            let _unheard = eprint!(rt; "{text}");
-            Ok(USAGE)
-        }
+        Line::LongBoot => Ok(put_refusal(rt)),
+        Line::Told(text) => put_text(rt, text.as_str()),
+        Line::Wrong(text) => Ok(put_usage(rt, text.as_str())),
     }
+}
+
+/// Reads the words, and does what they ask for.
+fn run_words<R>(rt: &R, alloc: Global, words: &[String]) -> Result<u8, Fault>
+where
+    R: Input + Print + Eprint + Files<File = File> + Net + Processes + Clock,
+{
+    let line = read(alloc, words)?;
+    run_line(rt, alloc, &line)
 }
 
 /// Runs the program, and gives its exit status.
@@ -179,15 +217,11 @@ where
     match env::args(rt) {
         Ok(args) => {
             let words: Vec<String> = args.collect(alloc)?;
-            let line = read(alloc, words.as_slice())?;
-            run_line(rt, alloc, &line)
+            run_words(rt, alloc, words.as_slice())
         }
         Err(e) => match e.kind() {
             ErrorKind::OutOfMemory => Err(Fault::NoMemory),
-            _ => {
-                let text = String::from_str(alloc, "error: a word isn't UTF-8\n")?;
-                run_line(rt, alloc, &Line::Wrong(text))
-            }
+            _ => Ok(put_usage(rt, "error: a word isn't UTF-8\n")),
         },
     }
 }

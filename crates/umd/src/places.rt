@@ -142,6 +142,33 @@ fn lock_folder<R: Files<File = File> + Clock, E: Eprint>(
     }
 }
 
+/// Sees that the socket is free, and takes the folder and its lock.
+fn take_folder<'a, R, E>(
+    rt: &'a R,
+    lines: &E,
+    alloc: Global,
+    line: &ServeLine<'a>,
+) -> Result<(RunnerDir<'a, R>, DirectoryLock), u8>
+where
+    R: Files<File = File> + Net + Processes + Clock,
+    E: Eprint,
+{
+    if let Err(fault) = look_at_socket(rt, line.socket) {
+        return Err(lacks(lines, line.socket, &fault));
+    }
+    let children = match RunnerDir::open(rt, alloc, line.runner, line.dir) {
+        Ok(children) => children,
+        Err(fault) => return Err(lacks(lines, line.dir, &fault)),
+    };
+    match lock_folder(rt, lines, line.dir) {
+        Ok(lock) => Ok((children, lock)),
+        Err(status) => {
+            drop(children);
+            Err(status)
+        }
+    }
+}
+
 /// Takes the store's file and the folder, and sees that the socket is free. Where one of them isn't to be had it has said so, and gives the exit
 /// status; nothing of the store, or of the files in the folder, was read or changed.
 pub fn take_places<'a, R, E>(
@@ -159,17 +186,15 @@ where
         Ok(disk) => disk,
         Err(fault) => return Err(lacks(lines, line.file, &fault)),
     };
-    if let Err(fault) = look_at_socket(rt, line.socket) {
-        return Err(lacks(lines, line.socket, &fault));
+    match take_folder(rt, lines, alloc, line) {
+        Ok((children, lock)) => Ok(Taken {
+            disk,
+            children,
+            lock,
+        }),
+        Err(status) => {
+            drop(disk);
+            Err(status)
+        }
     }
-    let children = match RunnerDir::open(rt, alloc, line.runner, line.dir) {
-        Ok(children) => children,
-        Err(fault) => return Err(lacks(lines, line.dir, &fault)),
-    };
-    let lock = lock_folder(rt, lines, line.dir)?;
-    Ok(Taken {
-        disk,
-        children,
-        lock,
-    })
 }

@@ -208,7 +208,11 @@ where
     let children = Telling::new(children, lines, tally);
     match Manager::open(alloc, disk, children, boot, system_moment(system)) {
         Ok(manager) => Ok(manager),
-        Err((refusal, _, _)) => Err(ends(lines, refusal)),
+        Err((refusal, disk, children)) => {
+            drop(disk);
+            drop(children);
+            Err(ends(lines, refusal))
+        }
     }
 }
 
