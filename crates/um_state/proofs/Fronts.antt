@@ -1,5 +1,5 @@
 -- What a pattern takes off the front of a list, and what it leaves; and what stands in front of bytes to which more is put.
-use Rattle.std.proofs.Common.{◌≡◌, ℕ, ◌≤◌, ◌-◌, List, [], ◌∷◌, ◌++◌, length, take, drop, slice_index, Result, Ok, Err, OnErr, arith, append_assoc, refl, sym, ap, ◌∙◌}
+use Rattle.std.proofs.Common.{◌≡◌, ℕ, ◌≤◌, ◌-◌, List, [], ◌∷◌, ◌++◌, length, take, drop, slice_index, arith, append_assoc, refl, sym, ap, ◌∙◌}
 use Rattle.std.proofs.lemmas.List.{take_all}
 use Rattle.um_model.specs.Bytes.{IsInFront}
 
@@ -29,11 +29,6 @@ behind_two (a ∷ []) h = absurd (omega (arith, h))
 behind_two (a ∷ b ∷ rest) h =
     let low : length rest ≤ length (a ∷ b ∷ rest) - 2 = omega arith in
     take_all (length (a ∷ b ∷ rest) - 2) rest low
-
--- what holds anyway holds where something is refused
-pub on_any_err : {T E P : Type 0} (r : Result T E) → P → OnErr r P
-on_any_err (Ok a) p = tt
-on_any_err (Err e) p = p
 
 -- two lists, put one behind the other
 pub both_put : (old a b one both : List ℕ) → one ≡ old ++ a → both ≡ one ++ b → both ≡ old ++ (a ++ b)

@@ -17,6 +17,7 @@ pub mod OverlayLaws
 pub mod PickLaws
 pub mod PutLaws
 pub mod RenumberLaws
+pub mod Results
 pub mod SameLaws
 pub mod SameRows
 pub mod SetLaws

@@ -97,8 +97,7 @@ impl State {
         self.clock.put(out)?;
         self.next.put(out)?;
         self.units.put(out)?;
-        self.pending.put(out)?;
-        Ok(())
+        self.pending.put(out)
     }
 }
 

@@ -151,15 +151,13 @@ impl Units {
     pub fn processes(&self) -> Result<Vec<ProcessNumber>, AllocError>
         ensures { IfOk result (λ numbers. numbers.items ≡ numbers_in self.now.held) }
     {
-        let numbers = processes_of(self.alloc, self.rows())?;
-        Ok(numbers)
+        processes_of(self.alloc, self.rows())
     }
 
     /// The numbers of the live processes.
     pub(crate) fn live_numbers(&self) -> Result<Vec<u64>, AllocError>
         ensures { IfOk result (λ numbers. numbers.items ≡ numbers_in self.now.held) }
     {
-        let numbers = numbers_of(self.alloc, self.rows())?;
-        Ok(numbers)
+        numbers_of(self.alloc, self.rows())
     }
 }
