@@ -129,8 +129,7 @@ impl Canon for Pending {
         // The proof reads here that no unit is held without a job.
         let _ = self.numbers();
         let jobs = self.shown()?;
-        jobs.put(out)?;
-        Ok(())
+        jobs.put(out)
     }
 
     fn get(alloc: Global, bytes: &[u8]) -> Result<Option<(Pending, usize)>, AllocError> {

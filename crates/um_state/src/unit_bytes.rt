@@ -42,8 +42,7 @@ impl Canon for Units {
 
     fn put(&self, out: &mut Vec<u8>) -> Result<(), AllocError> {
         let entries = self.to_map()?;
-        entries.put(out)?;
-        Ok(())
+        entries.put(out)
     }
 
     fn get(alloc: Global, bytes: &[u8]) -> Result<Option<(Units, usize)>, AllocError> {

@@ -142,8 +142,7 @@ impl Units {
         ensures map { IfOk result (λ m. maps.from_entries {R = slice_cmp nat_cmp} m.entries ≡ self.now.held) }
         ensures tidy { AreTidyUnits self.now.held }
     {
-        let entries = unit_map_of(self.alloc, &self.names, &self.states)?;
-        Ok(entries)
+        unit_map_of(self.alloc, &self.names, &self.states)
     }
 
     /// The same by other names, where each unit has one of which it holds anything.
@@ -383,8 +382,7 @@ impl Pending {
         ensures map { IfOk result (λ m. maps.from_entries {R = slice_cmp nat_cmp} m.entries ≡ self.now.held) }
         ensures tidy { AreTidyJobs self.now.held }
     {
-        let entries = job_map_of(self.alloc, &self.names, &self.jobs)?;
-        Ok(entries)
+        job_map_of(self.alloc, &self.names, &self.jobs)
     }
 
     /// The same by other names, where each unit has one of which a job is pending.

@@ -1,6 +1,5 @@
-use Rattle.std.proofs.Common.{rules, ◌≡◌, Some, drop}
+use Rattle.std.proofs.Common.{rules}
 use Rattle.um_model.proofs.BytesLaws.{at_none, at_some}
-use Rattle.um_model.specs.Spellings.{moment_at}
 use Rattle.um_state.proofs.InputArms.{timed_here, timed_none}
 use Rattle.um_state.specs.View.{event_of}
 use Rattle.um_state.proofs.input_bytes.input_in.Goals as goal

@@ -1,4 +1,4 @@
-use Rattle.std.proofs.Common.{◌≡◌, Bool, Some, drop, map, sym, ap, ◌∙◌}
+use Rattle.std.proofs.Common.{Some, drop, map, sym, ap, ◌∙◌}
 use Rattle.um_model.proofs.BytesLaws.{at_some}
 use Rattle.um_model.specs.StateSpellings.{jobs_ascend}
 use Rattle.um_state.proofs.JobsRead.{jobs_here, jobs_unordered}

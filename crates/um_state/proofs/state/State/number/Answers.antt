@@ -1,4 +1,4 @@
-use Rattle.std.proofs.Common.{◌≡◌, ◌∙◌, ℕ, List, ap, sym, subst, inl, inr}
+use Rattle.std.proofs.Common.{◌∙◌, ℕ, List, ap, sym, subst, inl, inr}
 use Rattle.um_model.specs.Jobs.{no_jobs}
 use Rattle.um_model.specs.Machine.{IsHeld, State}
 use Rattle.um_model.specs.Service.{dead_unit}

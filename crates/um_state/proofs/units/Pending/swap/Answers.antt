@@ -1,4 +1,4 @@
-use Rattle.std.proofs.Common.{◌∙◌, ◌≡◌, ap, sym, arith, vec_len}
+use Rattle.std.proofs.Common.{sym, arith}
 use Rattle.um_model.specs.Jobs.{no_jobs, with_jobs}
 use Rattle.um_state.proofs.PutLaws.{jobs_put_well}
 use Rattle.um_state.proofs.TableLaws.{swap_held, swap_back, swap_past}

@@ -1,4 +1,4 @@
-use Rattle.std.proofs.Common.{◌∙◌, ◌≡◌, ap, sym, refl, arith}
+use Rattle.std.proofs.Common.{◌∙◌, ap, sym, refl, arith}
 use Rattle.um_model.specs.Service.{dead_unit, with_unit}
 use Rattle.um_state.specs.Tables.{unit_put, units_by}
 use Rattle.um_state.proofs.PutLaws.{units_put}
