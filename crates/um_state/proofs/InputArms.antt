@@ -1,8 +1,9 @@
 -- An input is read by the tag of its fields, behind its moment.
 use Rattle.std.proofs.Common.{◌≡◌, ℕ, zero, suc, ◌-◌, nat_lt, Bool, true, false, List, [], ◌∷◌, ◌++◌, length, map as each, Option, Some, None, refl, sym, ap, ◌∙◌}
-use Rattle.std.proofs.Common.{◌<◌, ◌≤◌, ◌+◌, drop, slice_index, arith}
+use Rattle.std.proofs.Common.{◌<◌, ◌≤◌, ◌+◌, take, drop, slice_index, arith}
 use Rattle.std.specs.Prelude.{⊤}
 use Rattle.std.proofs.lemmas.Bool.{ltb-true, ltb-false}
+use Rattle.std.proofs.lemmas.List.{drop-drop, take_rest}
 use Rattle.um_model.specs.Bytes.{Decoder, ◌>>=◌, arm_in, as_at, pair_at, none_at, number_at, option_at, text_at, table_at}
 use Rattle.um_model.specs.InputSpellings.{comes_at, for_unit_at, input_arms, input_at, install_at, nothing_at, texts_at, modes}
 use Rattle.um_model.specs.Machine.{PutFile, PutLink, Remove, DaemonReload, ForUnit, Cancel, ResetFailed, Install, ProcessEnded, ProcessExecuted, Tick, Booted, Event, Commanded, Happened, Input}
@@ -168,3 +169,20 @@ input_here bytes long one =
     let rest = drop 2 bytes in
     ap input_at (two_first bytes long ∙ ap (λ b. b ∷ tag ∷ rest) one)
     ∙ (same_arm input_arms event_arms all_same tag rest ∙ timed_same (arm_in event_arms tag) (event_at tag) (event_here tag) rest)
+
+-- what comes in is read behind its moment
+pub timed_here : (tag : ℕ) (bytes : List ℕ) (moment n : ℕ) (event : Event) (m : ℕ) → moment_at bytes ≡ Some (moment, drop n bytes)
+    → event_at tag (take (length bytes - n) (drop n bytes)) ≡ Some (event, drop m (take (length bytes - n) (drop n bytes)))
+    → timed_at tag bytes ≡ Some (record { moment = moment; event = event }, drop (n + m) bytes)
+timed_here tag bytes moment n event m first second =
+    let rest = take_rest bytes n in
+    let there = rw rest at second in
+    rw (first, there) (ap (λ l. Some (record { moment = moment; event = event }, l)) (drop-drop m n bytes))
+
+-- and there is none where it isn't there
+pub timed_none : (tag : ℕ) (bytes : List ℕ) (moment n : ℕ) → moment_at bytes ≡ Some (moment, drop n bytes) → event_at tag (take (length bytes - n) (drop n bytes)) ≡ None
+    → timed_at tag bytes ≡ None
+timed_none tag bytes moment n first second =
+    let rest = take_rest bytes n in
+    let there = rw rest at second in
+    rw (first, there) refl

@@ -1,6 +1,7 @@
 pub mod AwaitingLaws
 pub mod BackLaws
 pub mod DeltaLaws
+pub mod Differing
 pub mod DueLaws
 pub mod Distinct
 pub mod EntryLaws
@@ -9,11 +10,14 @@ pub mod Fronts
 pub mod HeldLaws
 pub mod InputArms
 pub mod JobLists
+pub mod JobsRead
 pub mod NameLists
+pub mod NumberLists
 pub mod OverlayLaws
 pub mod PickLaws
 pub mod PutLaws
 pub mod RenumberLaws
+pub mod Results
 pub mod SameLaws
 pub mod SameRows
 pub mod SetLaws

@@ -286,8 +286,7 @@ impl Canon for Input {
         out.push(INPUT_VERSION)?;
         out.push(self.event.tag())?;
         self.moment.put(out)?;
-        self.event.put_fields(out)?;
-        Ok(())
+        self.event.put_fields(out)
     }
 
     fn get(alloc: Global, bytes: &[u8]) -> Result<Option<(Input, usize)>, AllocError> {

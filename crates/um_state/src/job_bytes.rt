@@ -37,8 +37,7 @@ impl Canon for JobShown {
     fn put(&self, out: &mut Vec<u8>) -> Result<(), AllocError> {
         self.unit.put(out)?;
         self.kind.put(out)?;
-        self.state.put(out)?;
-        Ok(())
+        self.state.put(out)
     }
 
     fn get(alloc: Global, bytes: &[u8]) -> Result<Option<(JobShown, usize)>, AllocError> {
@@ -112,8 +111,7 @@ fn pending_of(alloc: Global, jobs: Vec<JobShown>) -> Result<Pending, AllocError>
     ensures { IfOk result (λ pending. pending.held ≡ pending_of (map job_of jobs.items)) }
 {
     let entries = map_of(alloc, jobs)?;
-    let pending = Pending::of_map(alloc, &entries)?;
-    Ok(pending)
+    Pending::of_map(alloc, &entries)
 }
 
 impl Canon for Pending {
@@ -131,8 +129,7 @@ impl Canon for Pending {
         // The proof reads here that no unit is held without a job.
         let _ = self.numbers();
         let jobs = self.shown()?;
-        jobs.put(out)?;
-        Ok(())
+        jobs.put(out)
     }
 
     fn get(alloc: Global, bytes: &[u8]) -> Result<Option<(Pending, usize)>, AllocError> {

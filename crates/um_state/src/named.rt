@@ -26,6 +26,5 @@ pub(crate) fn names_with(alloc: Global, names: &Names, unit: &UnitName) -> Resul
 {
     let mut listed = listed(alloc, names)?;
     listed.push(unit.copy()?)?;
-    let more = Names::of(alloc, &listed)?;
-    Ok(more)
+    Names::of(alloc, &listed)
 }

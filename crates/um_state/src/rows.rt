@@ -103,6 +103,17 @@ pub(crate) fn unit_rows_in(
     Ok(rows)
 }
 
+/// The pending jobs of the unit with this number.
+fn jobs_numbered(names: &Names, i: usize, entries: &BTreeMap<UnitName, UnitJobs>) -> UnitJobs
+    requires { i < length names.now }
+    ensures { result ≡ jobs_of_unit (maps.from_entries {R = slice_cmp nat_cmp} entries.now.entries) (name_at names.now i) }
+{
+    match names.name(i) {
+        Some(name) => jobs_in(entries, name),
+        None => unreachable!(),
+    }
+}
+
 /// The pending jobs of the unit of each name.
 pub(crate) fn job_rows_in(
     alloc: Global,
@@ -116,10 +127,7 @@ pub(crate) fn job_rows_in(
 {
     let mut rows = Vec::new(alloc);
     for i in 0..names.len() {
-        match names.name(i) {
-            Some(name) => rows.push(jobs_in(entries, name))?,
-            None => unreachable!(),
-        }
+        rows.push(jobs_numbered(names, i, entries))?;
     }
     Ok(rows)
 }

@@ -275,13 +275,13 @@ impl State {
         ensures { IfOk result (λ s. state_of s ≡ state_of self.now) }
     {
         Ok(State {
+            boot: self.boot.copy()?,
             tree: self.tree.copy()?,
             loaded: self.loaded.copy()?,
-            boot: self.boot.copy()?,
             clock: self.clock,
             next: self.next,
-            units: self.units.copy()?,
             pending: self.pending.copy()?,
+            units: self.units.copy()?,
             is_common: self.is_common,
         })
     }
@@ -292,9 +292,9 @@ impl State {
         ensures state { OnOk result (((x : List ℕ) → IsApart names.now x → ¬ IsHeld (state_of self.old) x) → state_of self.new ≡ state_of self.old) }
         ensures err { OnErr result (self.new ≡ self.old) }
     {
-        let units = self.units.renumbered(names)?;
-        self.pending = self.pending.renumbered(names)?;
-        self.units = units;
+        let pending = self.pending.renumbered(names)?;
+        self.units = self.units.renumbered(names)?;
+        self.pending = pending;
         self.is_common = true;
         Ok(())
     }

@@ -1,9 +1,10 @@
 //! The canonical bytes of the state: its version and its fields in order.
-ghost use Rattle.std.specs.Prelude.{◌≡◌, ◌++◌, true, nat_lt, IfOk, OnOk, OnErr};
+ghost use Rattle.std.specs.Prelude.{◌≡◌, ◌++◌, true, nat_lt, IfOk, OnOk, OnErr, Some, None, if◌then◌else◌};
 ghost use Rattle.std.specs.List.{list_all};
+ghost use Rattle.std.specs.Option.{option_map};
 ghost use Rattle.um_model.specs.Bytes.{IsInFront};
 ghost use Rattle.um_model.specs.Machine as model;
-ghost use Rattle.um_model.specs.StateSpellings.{FitState, is_sound, state_at, state_spelling};
+ghost use Rattle.um_model.specs.StateSpellings.{FitState, is_sound, state_at, state_of as of_fields, state_spelling};
 ghost use Rattle.um_model.proofs.StateSpellingsLaws.{canonical_state};
 ghost use Rattle.um_state.specs.View.{state_of};
 
@@ -48,6 +49,40 @@ fn is_sound(alloc: Global, state: &State) -> Result<bool, AllocError>
     are_distinct(alloc, numbers.as_slice())
 }
 
+/// The state of these fields.
+fn state_with(fields: Fields) -> State
+    ensures { state_of result ≡ of_fields (fields.0, (fields.1.0, (fields.1.1.0, (fields.1.1.1.0, (fields.1.1.1.1.0, (fields.1.1.1.1.1.0.held, fields.1.1.1.1.1.1.held)))))) }
+{
+    let (tree, (loaded, (boot, (clock, (next, (units, pending)))))) = fields;
+    State {
+        tree,
+        loaded,
+        boot,
+        clock,
+        next,
+        units,
+        pending,
+        is_common: false,
+    }
+}
+
+/// The state, where it is sound.
+fn if_sound(alloc: Global, state: State) -> Result<Option<State>, AllocError>
+    ensures { IfOk result (λ found. option_map state_of found ≡ (if is_sound (state_of state) then Some (state_of state) else None)) }
+{
+    match is_sound(alloc, &state) {
+        Ok(true) => Ok(Some(state)),
+        Ok(false) => {
+            drop(state);
+            Ok(None)
+        }
+        Err(error) => {
+            drop(state);
+            Err(error)
+        }
+    }
+}
+
 impl State {
     /// Puts the version and the fields, sound or not.
     fn put_fields(&self, out: &mut Vec<u8>) -> Result<(), AllocError>
@@ -62,8 +97,7 @@ impl State {
         self.clock.put(out)?;
         self.next.put(out)?;
         self.units.put(out)?;
-        self.pending.put(out)?;
-        Ok(())
+        self.pending.put(out)
     }
 }
 
@@ -94,21 +128,10 @@ impl Canon for State {
         let Some((fields, n)) = Fields::get(alloc, rest)? else {
             return Ok(None);
         };
-        let (tree, (loaded, (boot, (clock, (next, (units, pending)))))) = fields;
-        let state = State {
-            tree,
-            loaded,
-            boot,
-            clock,
-            next,
-            units,
-            pending,
-            is_common: false,
-        };
-        if !is_sound(alloc, &state)? {
-            return Ok(None);
+        match if_sound(alloc, state_with(fields))? {
+            Some(state) => Ok(Some((state, n + 1))),
+            None => Ok(None),
         }
-        Ok(Some((state, n + 1)))
     }
 
     ghost canonical = { canonical_state };

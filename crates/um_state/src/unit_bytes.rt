@@ -42,8 +42,7 @@ impl Canon for Units {
 
     fn put(&self, out: &mut Vec<u8>) -> Result<(), AllocError> {
         let entries = self.to_map()?;
-        entries.put(out)?;
-        Ok(())
+        entries.put(out)
     }
 
     fn get(alloc: Global, bytes: &[u8]) -> Result<Option<(Units, usize)>, AllocError> {
@@ -151,15 +150,13 @@ impl Units {
     pub fn processes(&self) -> Result<Vec<ProcessNumber>, AllocError>
         ensures { IfOk result (λ numbers. numbers.items ≡ numbers_in self.now.held) }
     {
-        let numbers = processes_of(self.alloc, self.rows())?;
-        Ok(numbers)
+        processes_of(self.alloc, self.rows())
     }
 
     /// The numbers of the live processes.
     pub(crate) fn live_numbers(&self) -> Result<Vec<u64>, AllocError>
         ensures { IfOk result (λ numbers. numbers.items ≡ numbers_in self.now.held) }
     {
-        let numbers = numbers_of(self.alloc, self.rows())?;
-        Ok(numbers)
+        numbers_of(self.alloc, self.rows())
     }
 }

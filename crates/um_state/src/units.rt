@@ -134,8 +134,7 @@ impl Units {
         let mut keys = Vec::new(alloc);
         push_keys(&mut keys, entries)?;
         let names = Names::of(alloc, &keys)?;
-        let units = Units::over(alloc, names, entries)?;
-        Ok(units)
+        Units::over(alloc, names, entries)
     }
 
     /// The units by name, of which it holds anything.
@@ -143,8 +142,7 @@ impl Units {
         ensures map { IfOk result (λ m. maps.from_entries {R = slice_cmp nat_cmp} m.entries ≡ self.now.held) }
         ensures tidy { AreTidyUnits self.now.held }
     {
-        let entries = unit_map_of(self.alloc, &self.names, &self.states)?;
-        Ok(entries)
+        unit_map_of(self.alloc, &self.names, &self.states)
     }
 
     /// The same by other names, where each unit has one of which it holds anything.
@@ -154,8 +152,7 @@ impl Units {
     {
         let entries = self.to_map()?;
         let names = names.copy()?;
-        let units = Units::over(self.alloc, names, &entries)?;
-        Ok(units)
+        Units::over(self.alloc, names, &entries)
     }
 
     /// The names with their numbers.
@@ -223,8 +220,7 @@ impl Units {
     pub(crate) fn push_names(&self, names: &mut Vec<UnitName>) -> Result<(), AllocError>
         ensures { OnOk result (names.new.items ≡ names.old.items ++ maps.keys self.now.held) }
     {
-        push_held_units(names, &self.names, &self.states)?;
-        Ok(())
+        push_held_units(names, &self.names, &self.states)
     }
 
     /// The units of which it holds anything, by name.
@@ -243,8 +239,7 @@ impl Units {
         let mut entries = self.to_map()?;
         hold(&mut entries, unit, state)?;
         let names = names_with(self.alloc, &self.names, unit)?;
-        let units = Units::over(self.alloc, names, &entries)?;
-        Ok(units)
+        Units::over(self.alloc, names, &entries)
     }
 
     /// Sets how the unit stands; a dead one of which nothing is known isn't held. Where memory is refused, all is as before.
@@ -291,8 +286,7 @@ impl Units {
     pub fn deadlines(&self) -> Result<Timers, AllocError>
         ensures { IfOk result (λ timers. AreDeadlines self.now.held timers) }
     {
-        let timers = deadlines_of(self.alloc, &self.names, &self.states)?;
-        Ok(timers)
+        deadlines_of(self.alloc, &self.names, &self.states)
     }
 
     /// Whether the other holds the same of each unit. It takes no memory.
@@ -380,8 +374,7 @@ impl Pending {
         let mut keys = Vec::new(alloc);
         push_keys(&mut keys, entries)?;
         let names = Names::of(alloc, &keys)?;
-        let pending = Pending::over(alloc, names, entries)?;
-        Ok(pending)
+        Pending::over(alloc, names, entries)
     }
 
     /// The jobs by name, of the units of which one is pending.
@@ -389,8 +382,7 @@ impl Pending {
         ensures map { IfOk result (λ m. maps.from_entries {R = slice_cmp nat_cmp} m.entries ≡ self.now.held) }
         ensures tidy { AreTidyJobs self.now.held }
     {
-        let entries = job_map_of(self.alloc, &self.names, &self.jobs)?;
-        Ok(entries)
+        job_map_of(self.alloc, &self.names, &self.jobs)
     }
 
     /// The same by other names, where each unit has one of which a job is pending.
@@ -400,8 +392,7 @@ impl Pending {
     {
         let entries = self.to_map()?;
         let names = names.copy()?;
-        let pending = Pending::over(self.alloc, names, &entries)?;
-        Ok(pending)
+        Pending::over(self.alloc, names, &entries)
     }
 
     /// The names with their numbers.
@@ -455,8 +446,7 @@ impl Pending {
     pub(crate) fn push_names(&self, names: &mut Vec<UnitName>) -> Result<(), AllocError>
         ensures { OnOk result (names.new.items ≡ names.old.items ++ maps.keys self.now.held) }
     {
-        push_held_jobs(names, &self.names, &self.jobs)?;
-        Ok(())
+        push_held_jobs(names, &self.names, &self.jobs)
     }
 
     /// The same with the jobs of a unit that has no number, with all numbers anew.
@@ -466,8 +456,7 @@ impl Pending {
         let mut entries = self.to_map()?;
         hold_jobs(&mut entries, unit, jobs)?;
         let names = names_with(self.alloc, &self.names, unit)?;
-        let pending = Pending::over(self.alloc, names, &entries)?;
-        Ok(pending)
+        Pending::over(self.alloc, names, &entries)
     }
 
     /// Sets the pending jobs of the unit. Where memory is refused, all is as before.
@@ -487,8 +476,7 @@ impl Pending {
     pub fn shown(&self) -> Result<Vec<JobShown>, AllocError>
         ensures { IfOk result (λ shown. map job_of shown.items ≡ jobs_shown self.now.held) }
     {
-        let shown = shown_of(self.alloc, &self.names, &self.jobs)?;
-        Ok(shown)
+        shown_of(self.alloc, &self.names, &self.jobs)
     }
 
     /// Whether the other holds the same jobs. It takes no memory.

@@ -187,7 +187,6 @@ impl<'s> Work<'s> {
         ensures after { IfOk result (λ rows. (clock next : ℕ) → rows_after rows.items (timed clock next self.now.base) ≡ timed clock next self.now.now) }
         ensures count { IfOk result (λ rows. CountsDiffering (state_of self.now.base) (state_of self.now.now) (vec_len rows)) }
     {
-        let rows = changed_rows(alloc, &self.units, self.was.jobs, &self.jobs)?;
-        Ok(rows)
+        changed_rows(alloc, &self.units, self.was.jobs, &self.jobs)
     }
 }

@@ -2,11 +2,12 @@ use Rattle.std.proofs.Common.{◌∙◌, ◌++◌, ap}
 use Rattle.std.specs.FinMap as map
 use Rattle.um_laws.proofs.NameMaps.{seen}
 use Rattle.um_model.specs.Jobs.{no_jobs}
+use Rattle.um_state.proofs.Results.{if_ok_more}
 use Rattle.um_state.proofs.SameLaws.{unheld}
 use Rattle.um_state.proofs.units.Pending.of_map.Goals as goal
 
 pub returns : goal.returns
-returns c tidy =
+returns c =
     let m = seen c.args.entries.now in
     let are = c.deref.ensures.value ∙ (c.in_ok-push_keys.ensures ∙ ap (λ ns. ns ++ map.keys m) c.new-keys.ensures.items) in
-    c.in_ok-pending.ensures.held tidy (unheld no_jobs m c.in_ok-names.names c.deref.result.now c.in_ok-names.ensures.whole are)
+    if_ok_more c.over.result (λ made held tidy. held tidy (unheld no_jobs m c.in_ok-names.names c.deref.result.now c.in_ok-names.ensures.whole are)) c.over.ensures.held

@@ -1,0 +1,12 @@
+use Rattle.std.proofs.Common.{◌≡◌, ◌∙◌, ap}
+use Rattle.um_model.specs.Machine.{State}
+use Rattle.um_state.specs.View.{state_of}
+use Rattle.um_state.proofs.state.State.load_tree.Goals as goal
+
+pub returns-clause-ok : goal.returns-clause-ok
+returns-clause-ok c =
+    let s = c.self.inside in
+    let tree = c.args.tree in
+    let loaded : c.in_ok-self-inside.field-0 ≡ tree = c.in_ok-self-inside.ensures in
+    ◌∙◌ {A = State} (λ j. record { tree = tree; loaded = loaded j; boot = s.boot; clock = s.clock; next = s.next; units = s.units.held; pending = s.pending.held })
+    (ap (λ s. record (state_of s) { tree = tree; loaded = tree }) c.self.view_is)
