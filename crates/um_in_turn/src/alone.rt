@@ -33,14 +33,17 @@ impl Answer {
     }
 }
 
-fn text_of(alloc: Global, reply: &Reply) -> Result<Vec<u8>, Wrong> {
-    Ok(write_reply(alloc, reply)?.bytes)
+/// The text of a reply, which is let go.
+fn text_of(alloc: Global, reply: Reply) -> Result<Vec<u8>, Wrong> {
+    let written = write_reply(alloc, &reply);
+    drop(reply);
+    Ok(written?.bytes)
 }
 
 /// The answer that is a refusal.
 pub fn refused(alloc: Global, refusal: Refusal) -> Result<Answer, Wrong> {
     Ok(Answer {
-        reply: text_of(alloc, &Reply::Refused(refusal))?,
+        reply: text_of(alloc, Reply::Refused(refusal))?,
         orders: Vec::new(alloc),
     })
 }
@@ -62,14 +65,11 @@ pub fn spent(alloc: Global, mut receipt: Receipt) -> Result<Answer, Wrong> {
         };
         is_short |= orders.push(order).is_err();
     }
-    let reply = receipt.finish();
+    let reply = text_of(alloc, receipt.finish())?;
     if is_short {
         return Err(Wrong::NoMemory);
     }
-    Ok(Answer {
-        reply: text_of(alloc, &reply)?,
-        orders,
-    })
+    Ok(Answer { reply, orders })
 }
 
 fn orders_of(alloc: Global, actions: &[Action]) -> Result<Vec<Order>, Wrong> {
@@ -124,7 +124,7 @@ impl Alone {
         };
         let (reply, actions, _) = self.engine.commit(next);
         Ok(Answer {
-            reply: text_of(self.alloc, &reply)?,
+            reply: text_of(self.alloc, reply)?,
             orders: orders_of(self.alloc, actions.as_slice())?,
         })
     }

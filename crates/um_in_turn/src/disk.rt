@@ -69,6 +69,18 @@ fn records(alloc: Global, from: u64, count: u64, bytes: usize) -> Result<Vec<Row
     Ok(rows)
 }
 
+/// Submits each of so many records of a file of so many bytes.
+fn each_record(
+    alloc: Global,
+    script: &mut Script,
+    from: u64,
+    count: u64,
+    bytes: usize,
+) -> Result<(), Wrong> {
+    let rows = records(alloc, from, count, bytes)?;
+    script.each(rows.as_slice())
+}
+
 /// Records that fill a log of 512 sectors but for eight: 25 of 20 sectors and one of four. Few and long, so that a case is short.
 fn almost_filled(alloc: Global) -> Result<Vec<Row>, Wrong> {
     let mut rows = records(alloc, 1, 25, LONG)?;
@@ -79,9 +91,10 @@ fn almost_filled(alloc: Global) -> Result<Vec<Row>, Wrong> {
 /// A log of 512 sectors is filled to its end, and the next record begins a generation; the store is opened again behind another one.
 pub fn filled(alloc: Global) -> Result<Script, Wrong> {
     let mut script = Script::new(alloc);
-    script.each(almost_filled(alloc)?.as_slice())?;
-    script.each(records(alloc, 200, 1, SHORT)?.as_slice())?;
-    script.each(records(alloc, 300, 6, 8)?.as_slice())?;
+    each_record(alloc, &mut script, 1, 25, LONG)?;
+    each_record(alloc, &mut script, 100, 1, SHORT)?;
+    each_record(alloc, &mut script, 200, 1, SHORT)?;
+    each_record(alloc, &mut script, 300, 6, 8)?;
     script.deed(Deed::Open)?;
     Ok(script)
 }
@@ -99,10 +112,12 @@ pub fn lists(alloc: Global) -> Result<Script, Wrong> {
 }
 
 fn is_closed(told: Result<(), Refusal>) -> Result<(), Wrong> {
-    match told {
-        Err(Refusal::Reopen) => Ok(()),
-        _ => Err(found("a keeper that failed takes more")),
+    let is_closed = matches!(told, Err(Refusal::Reopen));
+    drop(told);
+    if is_closed {
+        return Ok(());
     }
+    Err(found("a keeper that failed takes more"))
 }
 
 /// Asserts that a keeper that failed takes nothing more (E17).

@@ -7,12 +7,19 @@ use std::process::{Command, Processes, Stdio};
 /// Becomes its words, with 64 MiB of memory at most.
 const LIMITED: &str = "ulimit -v 65536 && exec \"$@\"";
 
+/// Adds these words.
+fn add_words(command: &mut Command, words: &[&str]) -> Result<(), AllocError> {
+    for word in words {
+        command.arg(*word)?;
+    }
+    Ok(())
+}
+
 /// The command that plays the life of this number.
 fn command(alloc: Global, program: &str, number: &str) -> Result<Command, AllocError> {
     let mut command = Command::new(alloc, "sh")?;
-    for word in ["-c", LIMITED, "sh", program, "scarce", number] {
-        command.arg(word)?;
-    }
+    let words = ["-c", LIMITED, "sh", program, "scarce", number];
+    add_words(&mut command, &words)?;
     command.stdin(Stdio::null()).stdout(Stdio::null());
     Ok(command)
 }

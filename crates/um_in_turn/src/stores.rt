@@ -85,13 +85,21 @@ pub fn newest(alloc: Global, disk: &MemDisk) -> Result<MemDisk, Wrong> {
     Ok(disk.crash(alloc, picks.as_slice())?)
 }
 
+/// What an opening comes to that is refused: there is no store, where that is why.
+fn no_store(refusal: Refusal) -> Result<Option<Vec<u8>>, Wrong> {
+    match refusal {
+        Refusal::NotFormatted => Ok(None),
+        refusal => Err(Wrong::from(refusal)),
+    }
+}
+
 /// The state of the store that a disk holds, as bytes; None where there is no store.
 pub fn state_on(alloc: Global, disk: MemDisk) -> Result<Option<Vec<u8>>, Wrong> {
-    match opened(alloc, disk) {
+    match open(alloc, disk) {
         Ok(keeper) => Ok(Some(bytes_of(alloc, keeper.as_ref())?)),
-        Err(Wrong::Refused {
-            refusal: Refusal::NotFormatted,
-        }) => Ok(None),
-        Err(wrong) => Err(wrong),
+        Err((refusal, disk)) => {
+            drop(disk);
+            no_store(refusal)
+        }
     }
 }

@@ -190,18 +190,18 @@ fn open_loop<'a, R: Files + Net + Clock, E: Eprint>(
 }
 
 /// The manager of a store in a file, whose children run under runners, and tell.
-type Served<'a, R> = Manager<FileDisk<'a, R>, Telling<'a, RunnerDir<'a, R>, Lines<'a, R>>>;
+type Served<'a, 'b, R> = Manager<FileDisk<'b, R>, Telling<'a, RunnerDir<'b, R>, Lines<'b, R>>>;
 
 /// Opens the manager over what was taken.
-fn open_manager<'a, R>(
-    system: &'a R,
+fn open_manager<'a, 'b, R>(
+    system: &'b R,
     alloc: Global,
-    lines: &'a Lines<'a, R>,
+    lines: &'a Lines<'b, R>,
     tally: &'a Tally,
     boot: BootId,
-    disk: FileDisk<'a, R>,
-    children: RunnerDir<'a, R>,
-) -> Result<Served<'a, R>, End>
+    disk: FileDisk<'b, R>,
+    children: RunnerDir<'b, R>,
+) -> Result<Served<'a, 'b, R>, End>
 where
     R: Files<File = File> + Net + Processes + Clock + Eprint,
 {
@@ -236,20 +236,14 @@ fn serve_rounds<R: Clock, D: Disk, C: Children + News>(
 }
 
 /// Serves a manager that was opened over a socket, until it fails.
-fn serve_opened<'a, R>(
-    system: &'a R,
+fn serve_opened<R: Files + Net + Clock, E: Eprint, D: Disk, C: Children + News>(
+    system: &R,
     alloc: Global,
-    lines: &Lines<'a, R>,
+    lines: &E,
     tally: &Tally,
     line: &ServeLine<'_>,
-    manager: &mut Served<'a, R>,
-) -> Result<u8, End>
-where
-    R: Files<File = File> + Net + Processes + Clock + Eprint,
-{
-    if manager.children().is_foreign() {
-        return Err(End { status: REFUSED });
-    }
+    manager: &mut Manager<D, C>,
+) -> Result<u8, End> {
     tell_adopted(lines, manager, tally.absent());
     let mut state = open_loop(system, alloc, lines, line, manager.state().clock())?;
     match serve_rounds(&mut state, manager, tally) {
@@ -279,7 +273,11 @@ where
         Err(status) => return Err(End { status }),
     };
     let mut manager = open_manager(system, alloc, &lines, &tally, boot, disk, children)?;
-    let ended = serve_opened(system, alloc, &lines, &tally, line, &mut manager);
+    let ended = if manager.children().is_foreign() {
+        Err(End { status: REFUSED })
+    } else {
+        serve_opened(system, alloc, &lines, &tally, line, &mut manager)
+    };
     drop(manager);
     ended
 }
