@@ -253,7 +253,7 @@ fn serve_opened<R: Files + Net + Clock, E: Eprint, D: Disk, C: Children + News>(
 }
 
 /// Opens the manager and serves it, until it fails.
-fn serve_over<R>(system: &R, alloc: Global, line: &ServeLine<'_>) -> Result<u8, End>
+fn serve_over<'x, R>(system: &'x R, alloc: Global, line: &ServeLine<'x>) -> Result<u8, End>
 where
     R: Files<File = File> + Net + Processes + Clock + Eprint,
 {
