@@ -1,7 +1,7 @@
 //! Answers as values that can be compared and shown.
 use std::process::Abort;
 use um_model::{JobState, Moment, UnitJobs};
-use um_state::Action;
+use um_state::{Action, Start};
 
 /// The moment of so many microseconds.
 pub fn at(rt: &impl Abort, micros: u64) -> Moment {
@@ -14,25 +14,35 @@ pub const WAITS_TO_START: UnitJobs = UnitJobs {
     start: Some(JobState::Waiting),
 };
 
-/// What the actions ask for, in their order: to start a process under a number, with its words and its environment, or to send a
-/// signal to the process of a number.
+/// The words of what is to be started, and its environment.
+fn started(rt: &(impl AllocGlobal + Abort), start: &Start) -> String {
+    let words = start.words(rt.alloc()).expect(rt, "no memory");
+    let environment = start.environment(rt.alloc()).expect(rt, "no memory");
+    format!(in rt.alloc(); "{words:?} {environment:?}").expect(rt, "no memory")
+}
+
+/// What the action asks for: to start a process under a number, with its words and its environment, or to send a signal to the
+/// process of a number.
+fn asked(rt: &(impl AllocGlobal + Abort), action: &Action) -> String {
+    let asked = match action {
+        Action::Spawn { number, start } => {
+            let (number, started) = (number.get(), started(rt, start));
+            format!(in rt.alloc(); "spawn {number} {started};")
+        }
+        Action::Signal { number, signal } => {
+            let number = number.get();
+            format!(in rt.alloc(); "signal {number} {signal:?};")
+        }
+    };
+    asked.expect(rt, "no memory")
+}
+
+/// What the actions ask for, in their order.
 pub fn told(rt: &(impl AllocGlobal + Abort), actions: &[Action]) -> String {
     let mut told = String::new(rt.alloc());
     for action in actions {
-        let asked = match action {
-            Action::Spawn { number, start } => {
-                let number = number.get();
-                let words = start.words(rt.alloc()).expect(rt, "no memory");
-                let environment = start.environment(rt.alloc()).expect(rt, "no memory");
-                format!(in rt.alloc(); "spawn {number} {words:?} {environment:?};")
-            }
-            Action::Signal { number, signal } => {
-                let number = number.get();
-                format!(in rt.alloc(); "signal {number} {signal:?};")
-            }
-        };
-        let asked = asked.expect(rt, "no memory");
-        told.push_str(asked.as_str()).expect(rt, "no memory");
+        told.push_str(asked(rt, action).as_str())
+            .expect(rt, "no memory");
     }
     told
 }

@@ -1,13 +1,11 @@
 //! Of how many units a step changes what is held, and that the way back leads to what was held before.
-use crate::answers::{at, told};
+use crate::answers::told;
 use crate::asserts::{same, same_at, text, unit};
+use crate::steps::{SIZE, committed, empty, engine_of, happened, obeyed, planned, standing};
 use std::process::Abort;
-use um_engine::{Back, Engine, Next};
+use um_engine::{Back, Engine};
 use um_model::{End, JobMode, SubState, UnitVerb};
-use um_state::{Action, Command, Event, Happening, Input, Query, Reply, State};
-
-/// The size of a store, in bytes.
-const SIZE: u64 = 8_388_096;
+use um_state::{Command, Happening, Input};
 
 const SLEEPS: &str = "[Service]\nExecStart=/bin/sleep 9\n";
 
@@ -29,47 +27,29 @@ const ALL_DEAD: [SubState; 3] = [SubState::Dead; 3];
 
 const SECOND_ENDED: [SubState; 3] = [SubState::Running, SubState::Dead, SubState::Running];
 
-/// The command at so many microseconds.
-fn obeyed(rt: &impl Abort, micros: u64, command: Command) -> Input {
-    Input::new(at(rt, micros), Event::Commanded(command))
-}
-
 /// A file is put.
-fn put(rt: &(impl AllocGlobal + Abort), path: &str, content: &str) -> Input {
+fn put(rt: &(impl AllocGlobal + Abort), path: &str, content: &str) -> Box<Input> {
     let path = text(rt, path);
     let text = text(rt, content);
     obeyed(rt, 5, Command::PutFile { path, text })
 }
 
 /// The tree is loaded.
-fn reload(rt: &impl Abort) -> Input {
+fn reload(rt: &(impl AllocGlobal + Abort)) -> Box<Input> {
     obeyed(rt, 5, Command::DaemonReload)
 }
 
 /// A command for a unit.
-fn asked(rt: &(impl AllocGlobal + Abort), verb: UnitVerb, name: &str) -> Input {
+fn asked(rt: &(impl AllocGlobal + Abort), verb: UnitVerb, name: &str) -> Box<Input> {
     let unit = unit(rt, name);
     let mode = JobMode::Replace;
     obeyed(rt, 9, Command::ForUnit { verb, unit, mode })
 }
 
 /// The process of this number ends with code 0.
-fn ended(rt: &impl Abort, number: u64) -> Input {
+fn ended(rt: &(impl AllocGlobal + Abort), number: u64) -> Box<Input> {
     let end = End::Code(0);
-    let ends = Happening::ProcessEnded { number, end };
-    Input::new(at(rt, 9), Event::Happened(ends))
-}
-
-/// An engine in this state.
-fn engine_in(rt: &(impl AllocGlobal + Abort), state: State) -> Engine {
-    let engine = Engine::of(rt.alloc(), state, SIZE).expect(rt, "no memory");
-    engine.expect(rt, "not served")
-}
-
-/// Takes the step: what it asks for, and the way back.
-fn committed(engine: &mut Engine, next: Next) -> (Vec<Action>, Back) {
-    let (_, actions, back) = engine.commit(next);
-    (actions, back)
+    happened(rt, 9, Happening::ProcessEnded { number, end })
 }
 
 /// Takes the step that the input is, which tells so many rows: what is asked of processes, and the way back.
@@ -79,10 +59,10 @@ fn take(
     input: &Input,
     rows: Option<usize>,
     shows: &str,
-) -> (String, Back) {
-    let next = engine.plan(input).expect(rt, "a step is refused");
-    same_at(rt, next.rows(), rows, shows);
-    let (actions, back) = committed(engine, next);
+) -> (String, Box<Back>) {
+    let next = planned(rt, engine, input);
+    same_at(rt, next.as_ref().rows(), rows, shows);
+    let (actions, back) = committed(rt, engine, next);
     (told(rt, actions.as_slice()), back)
 }
 
@@ -90,11 +70,11 @@ fn take(
 fn leave(
     rt: &(impl AllocGlobal + Abort),
     engine: &mut Engine,
-    input: Input,
+    input: Box<Input>,
     rows: Option<usize>,
     shows: &str,
-) -> Back {
-    let (_, back) = take(rt, engine, &input, rows, shows);
+) -> Box<Back> {
+    let (_, back) = take(rt, engine, input.as_ref(), rows, shows);
     back
 }
 
@@ -102,22 +82,23 @@ fn leave(
 fn step(
     rt: &(impl AllocGlobal + Abort),
     engine: &mut Engine,
-    input: Input,
+    input: Box<Input>,
     rows: Option<usize>,
     shows: &str,
 ) {
-    let _taken = take(rt, engine, &input, rows, shows);
+    let _taken = take(rt, engine, input.as_ref(), rows, shows);
 }
 
 /// Takes a step that changes so many rows and asks this of processes: the way back.
 fn ask(
     rt: &(impl AllocGlobal + Abort),
     engine: &mut Engine,
-    input: Input,
+    input: Box<Input>,
     rows: usize,
     wanted: &str,
-) -> Back {
-    let (asked, back) = take(rt, engine, &input, Some(rows), "rows of what is asked");
+) -> Box<Back> {
+    let shows = "rows of what is asked";
+    let (asked, back) = take(rt, engine, input.as_ref(), Some(rows), shows);
     same(rt, asked.as_str(), wanted);
     back
 }
@@ -132,86 +113,90 @@ fn load(rt: &(impl AllocGlobal + Abort), engine: &mut Engine) {
     step(rt, engine, reload(rt), None, "units get known");
 }
 
-/// An engine with the three services, of which the first pulls in the others, as a reload has loaded them at the moment 5.
-fn three(rt: &(impl AllocGlobal + Abort)) -> Engine {
-    let mut engine = engine_in(rt, State::empty(rt.alloc()));
-    add(rt, &mut engine, "lib/a.service", PULLS_IN_TWO);
-    add(rt, &mut engine, "lib/b.service", SLEEPS);
-    add(rt, &mut engine, "lib/c.service", SLEEPS);
-    load(rt, &mut engine);
+/// An engine in the state of a new store.
+fn new_engine(rt: &(impl AllocGlobal + Abort)) -> Box<Engine> {
+    engine_of(rt, empty(rt), SIZE)
+}
+
+/// The three services get known, of which the first pulls in the others, at the moment 5.
+fn add_three(rt: &(impl AllocGlobal + Abort), engine: &mut Engine) {
+    add(rt, engine, "lib/a.service", PULLS_IN_TWO);
+    add(rt, engine, "lib/b.service", SLEEPS);
+    add(rt, engine, "lib/c.service", SLEEPS);
+    load(rt, engine);
+}
+
+/// An engine with the three services, as a reload has loaded them at the moment 5.
+fn three(rt: &(impl AllocGlobal + Abort)) -> Box<Engine> {
+    let mut engine = new_engine(rt);
+    add_three(rt, engine.as_mut());
     engine
 }
 
 /// The three start at the moment 9: the way back.
-fn start_three(rt: &(impl AllocGlobal + Abort), engine: &mut Engine) -> Back {
-    ask(
-        rt,
-        engine,
-        asked(rt, UnitVerb::Start, "a.service"),
-        3,
-        SPAWNS,
-    )
-}
-
-/// How far the unit has come.
-fn sub_of(rt: &(impl AllocGlobal + Abort), engine: &Engine, name: &str) -> SubState {
-    let unit = unit(rt, name);
-    let reply = engine.query(&Query::Show { unit });
-    match &reply.expect(rt, "no memory") {
-        Reply::Shown(shown) => shown.state.sub,
-        _ => panic!(rt; "the unit is not shown"),
-    }
+fn start_three(rt: &(impl AllocGlobal + Abort), engine: &mut Engine) -> Box<Back> {
+    let start = asked(rt, UnitVerb::Start, "a.service");
+    ask(rt, engine, start, 3, SPAWNS)
 }
 
 /// How far the three have come.
 fn subs(rt: &(impl AllocGlobal + Abort), engine: &Engine) -> [SubState; 3] {
     [
-        sub_of(rt, engine, "a.service"),
-        sub_of(rt, engine, "b.service"),
-        sub_of(rt, engine, "c.service"),
+        standing(rt, engine, "a.service").sub,
+        standing(rt, engine, "b.service").sub,
+        standing(rt, engine, "c.service").sub,
     ]
+}
+
+/// Steps that change no row, three and one.
+fn change_rows(rt: &(impl AllocGlobal + Abort), engine: &mut Engine) {
+    let idle = asked(rt, UnitVerb::TryRestart, "b.service");
+    step(rt, engine, idle, Some(0), "no effect on units");
+    let _back = start_three(rt, engine);
+    step(rt, engine, ended(rt, 2), Some(1), "an end");
+    step(rt, engine, ended(rt, 2), Some(0), "an end of nothing");
 }
 
 #[test]
 fn a_step_tells_how_many_rows_it_changes(rt: HostRuntime) {
     let mut engine = three(&rt);
-    let idle = asked(&rt, UnitVerb::TryRestart, "b.service");
-    step(&rt, &mut engine, idle, Some(0), "no effect on units");
-    let _back = start_three(&rt, &mut engine);
-    step(&rt, &mut engine, ended(&rt, 2), Some(1), "an end");
-    step(
-        &rt,
-        &mut engine,
-        ended(&rt, 2),
-        Some(0),
-        "an end of nothing",
-    );
+    change_rows(&rt, engine.as_mut());
+}
+
+/// Steps to what stands already, and a removal.
+fn change_nothing(rt: &(impl AllocGlobal + Abort), engine: &mut Engine) {
+    let again = put(rt, "lib/b.service", SLEEPS);
+    step(rt, engine, again, Some(0), "the text stands there");
+    step(rt, engine, reload(rt), Some(0), "it is loaded");
+    let path = text(rt, "lib/c.service");
+    let removal = obeyed(rt, 5, Command::Remove { path });
+    step(rt, engine, removal, None, "a file is removed");
 }
 
 #[test]
 fn what_stands_already_changes_no_row(rt: HostRuntime) {
     let mut engine = three(&rt);
-    let again = put(&rt, "lib/b.service", SLEEPS);
-    step(&rt, &mut engine, again, Some(0), "the text stands there");
-    step(&rt, &mut engine, reload(&rt), Some(0), "it is loaded");
-    let path = text(&rt, "lib/c.service");
-    let removal = obeyed(&rt, 5, Command::Remove { path });
-    step(&rt, &mut engine, removal, None, "a file is removed");
+    change_nothing(&rt, engine.as_mut());
+}
+
+/// One service runs once and another waits until it is done.
+fn wait_for_one(rt: &(impl AllocGlobal + Abort), engine: &mut Engine) {
+    add(rt, engine, "lib/f.service", RUNS_ONCE);
+    add(rt, engine, "lib/g.service", COMES_LAST);
+    load(rt, engine);
+    let start = asked(rt, UnitVerb::Start, "g.service");
+    step(rt, engine, start, Some(2), "one runs and one waits");
 }
 
 /// An engine in which one service runs once and another waits until it is done.
-fn one_waits(rt: &(impl AllocGlobal + Abort)) -> Engine {
-    let mut engine = engine_in(rt, State::empty(rt.alloc()));
-    add(rt, &mut engine, "lib/f.service", RUNS_ONCE);
-    add(rt, &mut engine, "lib/g.service", COMES_LAST);
-    load(rt, &mut engine);
-    let start = asked(rt, UnitVerb::Start, "g.service");
-    step(rt, &mut engine, start, Some(2), "one runs and one waits");
+fn one_waits(rt: &(impl AllocGlobal + Abort)) -> Box<Engine> {
+    let mut engine = new_engine(rt);
+    wait_for_one(rt, engine.as_mut());
     engine
 }
 
 /// The jobs of the unit that wait are dropped.
-fn cancel(rt: &(impl AllocGlobal + Abort), name: &str) -> Input {
+fn cancel(rt: &(impl AllocGlobal + Abort), name: &str) -> Box<Input> {
     let unit = unit(rt, name);
     obeyed(rt, 9, Command::Cancel { unit })
 }
@@ -220,26 +205,32 @@ fn cancel(rt: &(impl AllocGlobal + Abort), name: &str) -> Input {
 fn cancel_and_go_back(rt: &(impl AllocGlobal + Abort), engine: &mut Engine, name: &str) {
     let dropped = cancel(rt, name);
     let back = leave(rt, engine, dropped, Some(1), "its job is dropped");
-    engine.back(back);
+    engine.back(Box::into_inner(back));
 }
 
 #[test]
 fn a_job_that_waits_is_a_row_that_changes(rt: HostRuntime) {
     let mut engine = one_waits(&rt);
-    cancel_and_go_back(&rt, &mut engine, "g.service");
-    step(&rt, &mut engine, ended(&rt, 1), Some(2), "the next begins");
+    cancel_and_go_back(&rt, engine.as_mut(), "g.service");
+    let end = ended(&rt, 1);
+    step(&rt, engine.as_mut(), end, Some(2), "the next begins");
+}
+
+/// A unit gets known, a job is dropped, and the unit starts.
+fn get_known(rt: &(impl AllocGlobal + Abort), engine: &mut Engine) {
+    add(rt, engine, "lib/Z.service", SLEEPS);
+    load(rt, engine);
+    let dropped = cancel(rt, "g.service");
+    // what is known was found while something was held of it
+    step(rt, engine, dropped, Some(1), "its job is dropped");
+    let start = asked(rt, UnitVerb::Start, "Z.service");
+    step(rt, engine, start, Some(1), "the same units are known");
 }
 
 #[test]
 fn units_that_are_known_anew_are_told_by_rows(rt: HostRuntime) {
     let mut engine = one_waits(&rt);
-    add(&rt, &mut engine, "lib/Z.service", SLEEPS);
-    load(&rt, &mut engine);
-    let dropped = cancel(&rt, "g.service");
-    // what is known was found while something was held of it
-    step(&rt, &mut engine, dropped, Some(1), "its job is dropped");
-    let start = asked(&rt, UnitVerb::Start, "Z.service");
-    step(&rt, &mut engine, start, Some(1), "the same units are known");
+    get_known(&rt, engine.as_mut());
 }
 
 /// Asserts how far the three have come, and the moment.
@@ -252,7 +243,7 @@ fn stands(rt: &(impl AllocGlobal + Abort), engine: &Engine, wanted: [SubState; 3
 fn start_and_go_back(rt: &(impl AllocGlobal + Abort), engine: &mut Engine) {
     let back = start_three(rt, engine);
     stands(rt, engine, [SubState::Running; 3], 9);
-    engine.back(back);
+    engine.back(Box::into_inner(back));
     stands(rt, engine, ALL_DEAD, 5);
 }
 
@@ -260,7 +251,7 @@ fn start_and_go_back(rt: &(impl AllocGlobal + Abort), engine: &mut Engine) {
 fn the_way_back_leads_to_the_rows_that_were(rt: HostRuntime) {
     let mut engine = three(&rt);
     for _ in 0..2 {
-        start_and_go_back(&rt, &mut engine);
+        start_and_go_back(&rt, engine.as_mut());
     }
 }
 
@@ -269,22 +260,27 @@ fn end_and_go_back(rt: &(impl AllocGlobal + Abort), engine: &mut Engine) {
     let loaded = leave(rt, engine, reload(rt), None, "a unit gets known");
     let back = leave(rt, engine, ended(rt, 2), Some(1), "an end");
     same(rt, subs(rt, engine), SECOND_ENDED);
-    engine.back(back);
-    engine.back(loaded);
+    engine.back(Box::into_inner(back));
+    engine.back(Box::into_inner(loaded));
     same(rt, subs(rt, engine), [SubState::Running; 3]);
+}
+
+/// Twice there and back, and there once more.
+fn end_behind_a_reload(rt: &(impl AllocGlobal + Abort), engine: &mut Engine) {
+    for _ in 0..2 {
+        end_and_go_back(rt, engine);
+    }
+    step(rt, engine, ended(rt, 2), Some(1), "an end");
+    same(rt, subs(rt, engine), SECOND_ENDED);
 }
 
 #[test]
 fn rows_have_other_numbers_behind_a_reload(rt: HostRuntime) {
     let mut engine = three(&rt);
-    let _back = start_three(&rt, &mut engine);
+    let _back = start_three(&rt, engine.as_mut());
     // by its name it stands before the others
-    add(&rt, &mut engine, "lib/Z.service", SLEEPS);
-    for _ in 0..2 {
-        end_and_go_back(&rt, &mut engine);
-    }
-    step(&rt, &mut engine, ended(&rt, 2), Some(1), "an end");
-    same(&rt, subs(&rt, &engine), SECOND_ENDED);
+    add(&rt, engine.as_mut(), "lib/Z.service", SLEEPS);
+    end_behind_a_reload(&rt, engine.as_mut());
 }
 
 /// The file of a service of a chain: each but the first comes after the one before it and requires it.
@@ -293,44 +289,53 @@ fn link(rt: &(impl AllocGlobal + Abort), number: usize) -> String {
         return text(rt, "[Service]\nExecStart=/bin/c1\n");
     }
     let next = number - 1;
-    let needs = format!(in rt.alloc(); "[Unit]\nAfter=c{next}.service\nRequires=c{next}.service\n");
-    let mut file = needs.expect(rt, "no memory");
-    let runs = format!(in rt.alloc(); "[Service]\nExecStart=/bin/c{number}\n");
-    file.push_str(runs.expect(rt, "no memory").as_str())
-        .expect(rt, "no memory");
-    file
+    let link: Result<_, _> = format!(in rt.alloc();
+        "[Unit]\nAfter=c{next}.service\nRequires=c{next}.service\n[Service]\nExecStart=/bin/c{number}\n"
+    );
+    link.expect(rt, "no memory")
 }
 
 /// An engine in which a chain of 1,000 services is loaded.
-fn chain(rt: &(impl AllocGlobal + Abort)) -> Engine {
-    let mut state = State::empty(rt.alloc());
+fn chain(rt: &(impl AllocGlobal + Abort)) -> Box<Engine> {
+    let mut state = empty(rt);
     for number in 1..1001 {
         let path = format!(in rt.alloc(); "lib/c{number}.service").expect(rt, "no memory");
         let content = link(rt, number);
-        let put: Result<_, _> = state.put_file(path.as_str(), content.as_str());
+        let put: Result<_, _> = state.as_mut().put_file(path.as_str(), content.as_str());
         put.expect(rt, "not put");
     }
-    let mut engine = engine_in(rt, state);
-    load(rt, &mut engine);
+    let mut engine = engine_of(rt, state, SIZE);
+    load(rt, engine.as_mut());
     engine
+}
+
+/// What the start of the service of this number in the chain asks for.
+fn start_of(rt: &(impl AllocGlobal + Abort), number: usize) -> String {
+    let start = format!(in rt.alloc(); "spawn {number} [\"/bin/c{number}\"] [];");
+    start.expect(rt, "no memory")
 }
 
 /// The starts of the chain, from the far end.
 fn starts(rt: &(impl AllocGlobal + Abort)) -> String {
     let mut starts = String::new(rt.alloc());
     for number in 1..1001 {
-        let start = format!(in rt.alloc(); "spawn {number} [\"/bin/c{number}\"] [];");
-        let start = start.expect(rt, "no memory");
-        starts.push_str(start.as_str()).expect(rt, "no memory");
+        starts
+            .push_str(start_of(rt, number).as_str())
+            .expect(rt, "no memory");
     }
     starts
+}
+
+/// All services of the chain start.
+fn start_chain(rt: &(impl AllocGlobal + Abort), engine: &mut Engine) {
+    let start = asked(rt, UnitVerb::Start, "c1000.service");
+    let wanted = starts(rt);
+    let _started = ask(rt, engine, start, 1000, wanted.as_str());
 }
 
 #[test]
 fn an_end_in_a_chain_of_1000_changes_one_row(rt: HostRuntime) {
     let mut engine = chain(&rt);
-    let start = asked(&rt, UnitVerb::Start, "c1000.service");
-    let wanted = starts(&rt);
-    let _started = ask(&rt, &mut engine, start, 1000, wanted.as_str());
-    let _ended = ask(&rt, &mut engine, ended(&rt, 1), 1, "");
+    start_chain(&rt, engine.as_mut());
+    let _ended = ask(&rt, engine.as_mut(), ended(&rt, 1), 1, "");
 }

@@ -1,13 +1,12 @@
 //! Steps of the machine, taken, taken back and refused.
-use crate::answers::{at, told};
+use crate::answers::told;
 use crate::asserts::{same, same_at, text, unit};
+use crate::steps::{SIZE, committed, empty, engine_of, happened, obeyed, planned, standing};
 use std::process::Abort;
-use um_engine::Engine;
+use um_engine::{Engine, Next};
 use um_model::{End, JobMode, SubState, UnitState, UnitVerb};
-use um_state::{BootId, Command, Event, Happening, Input, Query, Reply, State};
-
-/// The size of a store, in bytes.
-const SIZE: u64 = 8_388_096;
+use um_state::{BootId, Command, Happening, Input};
+use um_wire::Refusal;
 
 /// What comes in: at the moment 5, but at 7 a boot, and an end at its own.
 #[derive(Drop)]
@@ -24,12 +23,14 @@ enum Comes {
     Booted(&'static str),
 }
 
-/// What comes in turn into a state of so many files, each with its answer and how far `a.service` has come then; None: it stands as
-/// before. At the end its main process has this number.
+/// What comes in, its answer, and how far `a.service` has come then; None: it stands as before.
+type Step = (Comes, &'static str, Option<SubState>);
+
+/// What comes in turn into a state of so many files. At the end the main process of `a.service` has this number.
 struct Script {
     shows: &'static str,
     entries: usize,
-    steps: &'static [(Comes, &'static str, Option<SubState>)],
+    steps: &'static [Step],
     main: Option<u64>,
 }
 
@@ -70,7 +71,8 @@ const RUNNING: Option<SubState> = Some(SubState::Running);
 
 const STOPPING: Option<SubState> = Some(SubState::StopSigterm);
 
-const SCRIPTS: &[Script] = &[
+/// What is refused or has no effect.
+const REFUSALS: &[Script] = &[
     Script {
         shows: "a start of nothing is refused",
         entries: 0,
@@ -109,6 +111,10 @@ const SCRIPTS: &[Script] = &[
         ],
         main: Some(1),
     },
+];
+
+/// Restarts.
+const RESTARTS: &[Script] = &[
     Script {
         shows: "a restart stops a running service and starts it again",
         entries: 0,
@@ -145,6 +151,10 @@ const SCRIPTS: &[Script] = &[
         ],
         main: Some(1),
     },
+];
+
+/// Modes of commands while jobs are pending.
+const MODES: &[Script] = &[
     Script {
         shows: "mode fail refuses a stop that drops a waiting start",
         entries: 0,
@@ -173,6 +183,10 @@ const SCRIPTS: &[Script] = &[
         ],
         main: None,
     },
+];
+
+/// Boots.
+const BOOTS: &[Script] = &[
     Script {
         shows: "after a boot all are dead and process numbers go on",
         entries: 0,
@@ -212,94 +226,143 @@ const SCRIPTS: &[Script] = &[
     },
 ];
 
+/// A file of this text is put.
+fn put(rt: &(impl AllocGlobal + Abort), path: &str, content: &str) -> Box<Input> {
+    let path = text(rt, path);
+    let text = text(rt, content);
+    obeyed(rt, 5, Command::PutFile { path, text })
+}
+
+/// A command for `a.service`.
+fn asked(rt: &(impl AllocGlobal + Abort), verb: UnitVerb, mode: JobMode) -> Box<Input> {
+    let unit = unit(rt, "a.service");
+    obeyed(rt, 5, Command::ForUnit { verb, unit, mode })
+}
+
+/// The machine is booted, with this id.
+fn booted(rt: &(impl AllocGlobal + Abort), id: &str) -> Box<Input> {
+    let boot = BootId::new(text(rt, id)).expect(rt, "no boot");
+    happened(rt, 7, Happening::Booted { boot })
+}
+
 /// The input.
-fn input_of(rt: &(impl AllocGlobal + Abort), comes: &Comes) -> Input {
-    let (micros, event) = match comes {
-        Comes::Put(path, content) => {
-            let path = text(rt, path);
-            let text = text(rt, content);
-            (5, Event::Commanded(Command::PutFile { path, text }))
-        }
-        Comes::Reload => (5, Event::Commanded(Command::DaemonReload)),
-        Comes::Asked(verb, mode) => {
-            let (verb, unit, mode) = (*verb, unit(rt, "a.service"), *mode);
-            (5, Event::Commanded(Command::ForUnit { verb, unit, mode }))
-        }
+fn input_of(rt: &(impl AllocGlobal + Abort), comes: &Comes) -> Box<Input> {
+    match comes {
+        Comes::Put(path, content) => put(rt, path, content),
+        Comes::Reload => obeyed(rt, 5, Command::DaemonReload),
+        Comes::Asked(verb, mode) => asked(rt, *verb, *mode),
         Comes::Ended(micros, number, end) => {
             let (number, end) = (*number, *end);
-            let ended = Happening::ProcessEnded { number, end };
-            (*micros, Event::Happened(ended))
+            happened(rt, *micros, Happening::ProcessEnded { number, end })
         }
-        Comes::Booted(id) => {
-            let boot = BootId::new(text(rt, id)).expect(rt, "no boot");
-            (7, Event::Happened(Happening::Booted { boot }))
-        }
-    };
-    Input::new(at(rt, micros), event)
+        Comes::Booted(id) => booted(rt, id),
+    }
 }
 
 /// An engine in a state with so many files.
-fn engine_with(rt: &(impl AllocGlobal + Abort), entries: usize) -> Engine {
-    let mut state = State::empty(rt.alloc());
+fn engine_with(rt: &(impl AllocGlobal + Abort), entries: usize) -> Box<Engine> {
+    let mut state = empty(rt);
     for number in 0..entries {
         let path = format!(in rt.alloc(); "lib/u{number}.service").expect(rt, "no memory");
-        let put: Result<_, _> = state.put_file(path.as_str(), "#");
+        let put: Result<_, _> = state.as_mut().put_file(path.as_str(), "#");
         put.expect(rt, "not put");
     }
-    let engine = Engine::of(rt.alloc(), state, SIZE).expect(rt, "no memory");
-    engine.expect(rt, "not served")
+    engine_of(rt, state, SIZE)
+}
+
+/// What comes of a step that is taken: it has no effect, or asks for this.
+fn taken(rt: &(impl AllocGlobal + Abort), engine: &mut Engine, next: Box<Next>) -> String {
+    let effect = if next.as_ref().has_effect() {
+        ""
+    } else {
+        NO_EFFECT
+    };
+    let (actions, _) = committed(rt, engine, next);
+    let asked = told(rt, actions.as_slice());
+    format!(in rt.alloc(); "{effect}{asked}").expect(rt, "no memory")
+}
+
+/// What the refusal prints as.
+fn refused(rt: &(impl AllocGlobal + Abort), refusal: &Refusal) -> String {
+    refusal.to_string(rt.alloc()).expect(rt, "no memory")
 }
 
 /// What comes of the input: its refusal; or it is taken, and has no effect or asks for this.
 fn answer_to(rt: &(impl AllocGlobal + Abort), engine: &mut Engine, input: &Input) -> String {
     match engine.plan(input) {
-        Ok(next) => {
-            let has_effect = next.has_effect();
-            let (_, actions, _) = engine.commit(next);
-            let asked = told(rt, actions.as_slice());
-            let effect = if has_effect { "" } else { NO_EFFECT };
-            format!(in rt.alloc(); "{effect}{asked}").expect(rt, "no memory")
+        Ok(next) => taken(
+            rt,
+            engine,
+            Box::new(rt.alloc(), next).expect(rt, "no memory"),
+        ),
+        Err(refusal) => {
+            let text = refused(rt, &refusal);
+            drop(refusal);
+            text
         }
-        Err(refusal) => refusal.to_string(rt.alloc()).expect(rt, "no memory"),
     }
 }
 
-/// How `a.service` stands.
-fn standing(rt: &(impl AllocGlobal + Abort), engine: &Engine) -> UnitState {
-    let unit = unit(rt, "a.service");
-    let reply = engine.query(&Query::Show { unit });
-    match &reply.expect(rt, "no memory") {
-        Reply::Shown(shown) => shown.state,
-        _ => panic!(rt; "the unit is not shown"),
-    }
+/// Asserts that the unit stands as before, in this row.
+fn is_as_before(rt: &impl Abort, now: &UnitState, before: &UnitState, row: (&str, usize)) {
+    assert_eq!(rt; *now, *before, "at {row:?}");
 }
 
-/// Asserts that each step has its answer, and that `a.service` stands then as it is told.
-fn play(rt: &(impl AllocGlobal + Abort), script: &Script) {
-    let mut engine = engine_with(rt, script.entries);
-    let mut stands = standing(rt, &engine);
+/// Asserts that the step has its answer, and that `a.service` stands then as it is told: how it stands.
+fn takes(
+    rt: &(impl AllocGlobal + Abort),
+    engine: &mut Engine,
+    step: &Step,
+    stands: &UnitState,
+    row: (&str, usize),
+) -> UnitState {
+    let (comes, wanted, sub) = step;
+    let input = input_of(rt, comes);
+    let answer = answer_to(rt, engine, input.as_ref());
+    same_at(rt, answer.as_str(), *wanted, row);
+    let now = standing(rt, engine, "a.service");
+    match sub {
+        Some(sub) => same_at(rt, now.sub, *sub, row),
+        None => is_as_before(rt, &now, stands, row),
+    }
+    now
+}
+
+/// Asserts that each step of the script has its answer, and that `a.service` stands then as it is told.
+fn plays(rt: &(impl AllocGlobal + Abort), engine: &mut Engine, script: &Script) {
+    let mut stands = standing(rt, engine, "a.service");
     same_at(rt, stands, UnitState::DEAD, script.shows);
-    for (at, (comes, wanted, sub)) in script.steps.iter().enumerate() {
-        let input = input_of(rt, comes);
-        let row = (script.shows, at + 1);
-        let answer = answer_to(rt, &mut engine, &input);
-        same_at(rt, answer.as_str(), *wanted, row);
-        let now = standing(rt, &engine);
-        match sub {
-            Some(sub) => same_at(rt, now.sub, *sub, row),
-            None => assert_eq!(rt; now, stands, "at {row:?}"),
-        }
-        stands = now;
+    for (at, step) in script.steps.iter().enumerate() {
+        stands = takes(rt, engine, step, &stands, (script.shows, at + 1));
     }
     let main = stands.main.map(|main| main.get());
     same_at(rt, main, script.main, script.shows);
 }
 
+/// Plays the script in a state of so many files as it tells.
+fn play(rt: &(impl AllocGlobal + Abort), script: &Script) {
+    let mut engine = engine_with(rt, script.entries);
+    plays(rt, engine.as_mut(), script);
+}
+
+/// Plays the scripts.
+fn play_all(rt: &(impl AllocGlobal + Abort), scripts: &[Script]) {
+    for script in scripts {
+        play(rt, script);
+    }
+}
+
 #[test]
 fn steps_are_taken_or_refused(rt: HostRuntime) {
-    for script in SCRIPTS {
-        play(&rt, script);
-    }
+    play_all(&rt, REFUSALS);
+    play_all(&rt, RESTARTS);
+    play_all(&rt, MODES);
+    play_all(&rt, BOOTS);
+}
+
+/// Asserts that `a.service` stands so.
+fn stands_so(rt: &(impl AllocGlobal + Abort), engine: &Engine, wanted: &UnitState) {
+    assert_eq!(rt; standing(rt, engine, "a.service"), *wanted);
 }
 
 /// Asserts that the step is taken to the clock of so many microseconds and that the way back leads to the other; `a.service` stands
@@ -311,26 +374,33 @@ fn is_taken_back(
     clock: u64,
     clock_before: u64,
 ) {
-    let stands = standing(rt, engine);
-    let next = engine.plan(&input_of(rt, comes));
-    let (_, actions, back) = engine.commit(next.expect(rt, "a step is refused"));
+    let stands = standing(rt, engine, "a.service");
+    let input = input_of(rt, comes);
+    let next = planned(rt, engine, input.as_ref());
+    let (actions, back) = committed(rt, engine, next);
     let taken = (actions.len(), engine.clock().micros());
     same(rt, taken, (0, clock));
-    assert_eq!(rt; standing(rt, engine), stands);
-    engine.back(back);
+    stands_so(rt, engine, &stands);
+    engine.back(Box::into_inner(back));
     same(rt, engine.clock().micros(), clock_before);
-    assert_eq!(rt; standing(rt, engine), stands);
+    stands_so(rt, engine, &stands);
 }
 
 /// What leads to a running service.
 const RUNS: &[Comes] = &[PUT, Comes::Reload, START];
 
+/// The service runs.
+fn run(rt: &(impl AllocGlobal + Abort), engine: &mut Engine) {
+    for comes in RUNS {
+        let input = input_of(rt, comes);
+        let _taken = answer_to(rt, engine, input.as_ref());
+    }
+}
+
 #[test]
 fn a_step_is_taken_back_and_one_without_effect_changes_nothing(rt: HostRuntime) {
     let mut engine = engine_with(&rt, 0);
-    is_taken_back(&rt, &mut engine, &PUT, 5, 0);
-    for comes in RUNS {
-        let _taken = answer_to(&rt, &mut engine, &input_of(&rt, comes));
-    }
-    is_taken_back(&rt, &mut engine, &LATE, 5, 5);
+    is_taken_back(&rt, engine.as_mut(), &PUT, 5, 0);
+    run(&rt, engine.as_mut());
+    is_taken_back(&rt, engine.as_mut(), &LATE, 5, 5);
 }

@@ -73,15 +73,26 @@ const CUTS: &[(usize, usize, Ending)] = &[
     (55, 15, Ending::Inside),
 ];
 
+/// Asserts that the bytes have these replies, and end so.
+fn is_served(
+    rt: &(impl AllocGlobal + Abort),
+    bytes: &[u8],
+    replies: &[u8],
+    wanted: Ending,
+    cut: usize,
+) {
+    let (output, ending) = served(rt.alloc(), bytes).expect(rt, "not served");
+    same_at(rt, ending, wanted, cut);
+    same_at(rt, output.as_slice(), replies, cut);
+}
+
 #[test]
 fn a_frame_that_is_cut_has_no_reply(rt: HostRuntime) {
     let input = frames(rt.alloc(), &[RELOAD, RELOAD]).expect(&rt, "no memory");
     let one = frames(rt.alloc(), &[DONE]).expect(&rt, "no memory");
     for (cut, count, wanted) in CUTS {
-        let served = served(rt.alloc(), front(input.as_slice(), *cut));
-        let (output, ending) = served.expect(&rt, "not served");
-        same_at(&rt, ending, *wanted, cut);
+        let bytes = front(input.as_slice(), *cut);
         let replies = front(one.as_slice(), *count);
-        same_at(&rt, output.as_slice(), replies, cut);
+        is_served(&rt, bytes, replies, *wanted, *cut);
     }
 }

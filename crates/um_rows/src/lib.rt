@@ -52,6 +52,8 @@ mod session;
 #[cfg(test)]
 mod state;
 #[cfg(test)]
+mod steps;
+#[cfg(test)]
 mod texts;
 #[cfg(test)]
 mod unit_files;

@@ -1,17 +1,15 @@
 //! The limits of a store's room and of known units.
-use crate::answers::{WAITS_TO_START, at};
+use crate::answers::WAITS_TO_START;
 use crate::asserts::{is_refused, same, same_at, text, unit};
 use crate::script::play;
+use crate::steps::{SIZE as LARGE_SIZE, empty, engine_of, obeyed};
 use crate::texts::{DONE, RELOAD, START_B, TOO_MANY_UNITS};
 use std::process::Abort;
 use um_engine::Engine;
-use um_state::{Command, Event, Input, State};
+use um_state::{Command, Input, State};
 
-/// The size of a store, in bytes.
+/// The size of a store, in bytes; `LARGE_SIZE` has room for as many units as may be known.
 const SIZE: u64 = 32_256;
-
-/// The size of one that has room for as many units as may be known.
-const LARGE_SIZE: u64 = 8_388_096;
 
 /// A state, by what the tree in hand holds.
 #[derive(Debug, Drop)]
@@ -43,51 +41,55 @@ fn names(rt: &(impl AllocGlobal + Abort), count: usize) -> String {
 }
 
 /// A state whose tree in hand has `lib/a.service` with this text.
-fn with_file(rt: &(impl AllocGlobal + Abort), text: &str) -> State {
-    let mut state = State::empty(rt.alloc());
-    let put: Result<_, _> = state.put_file("lib/a.service", text);
+fn with_file(rt: &(impl AllocGlobal + Abort), text: &str) -> Box<State> {
+    let mut state = empty(rt);
+    let put: Result<_, _> = state.as_mut().put_file("lib/a.service", text);
     put.expect(rt, "a file is refused");
     state
 }
 
 /// A state with `lib/a.service` loaded, which wants so many units that aren't there.
-fn with_wanted(rt: &(impl AllocGlobal + Abort), count: usize) -> State {
+fn with_wanted(rt: &(impl AllocGlobal + Abort), count: usize) -> Box<State> {
     let names = names(rt, count);
     let unit = format!(in rt.alloc(); "[Service]\nExecStart=/bin/sleep 9\n[Unit]\nWants={names}");
     let mut state = with_file(rt, unit.expect(rt, "no memory").as_str());
-    state.reload().expect(rt, "no memory");
+    state.as_mut().reload().expect(rt, "no memory");
     state
 }
 
 /// The same where an entry under `run/` masks `a.service`.
-fn with_hidden(rt: &(impl AllocGlobal + Abort), count: usize) -> State {
+fn with_hidden(rt: &(impl AllocGlobal + Abort), count: usize) -> Box<State> {
     let mut state = with_wanted(rt, count);
-    let link: Result<_, _> = state.put_link("run/a.service", "/dev/null");
+    let link: Result<_, _> = state.as_mut().put_link("run/a.service", "/dev/null");
     link.expect(rt, "a link is refused");
-    state.reload().expect(rt, "no memory");
+    state.as_mut().reload().expect(rt, "no memory");
     state
 }
 
 /// A service that starts after `a.service`.
 const AFTER_A: &str = "[Service]\nExecStart=/bin/sleep 9\n[Unit]\nAfter=a.service\n";
 
+/// The unit waits to start.
+fn wait_to_start(rt: &(impl AllocGlobal + Abort), state: &mut State, name: &str) {
+    let set: Result<_, _> = state.set_jobs(&unit(rt, name), WAITS_TO_START);
+    set.expect(rt, "no memory");
+}
+
 /// A state in which `a.service`, of this text, and `b.service` wait to start.
-fn with_starts(rt: &(impl AllocGlobal + Abort), text: &str) -> State {
+fn with_starts(rt: &(impl AllocGlobal + Abort), text: &str) -> Box<State> {
     let mut state = with_file(rt, text);
-    let put: Result<_, _> = state.put_file("lib/b.service", AFTER_A);
+    let put: Result<_, _> = state.as_mut().put_file("lib/b.service", AFTER_A);
     put.expect(rt, "a file is refused");
-    state.reload().expect(rt, "no memory");
-    for name in ["a.service", "b.service"] {
-        let set: Result<_, _> = state.set_jobs(&unit(rt, name), WAITS_TO_START);
-        set.expect(rt, "no memory");
-    }
+    state.as_mut().reload().expect(rt, "no memory");
+    wait_to_start(rt, state.as_mut(), "a.service");
+    wait_to_start(rt, state.as_mut(), "b.service");
     state
 }
 
 /// The state that holds this.
-fn state_of(rt: &(impl AllocGlobal + Abort), held: &Held) -> State {
+fn state_of(rt: &(impl AllocGlobal + Abort), held: &Held) -> Box<State> {
     match held {
-        Held::Nothing => State::empty(rt.alloc()),
+        Held::Nothing => empty(rt),
         Held::Text(length) => with_file(rt, long(rt, *length).as_str()),
         Held::Wanting(count) => with_wanted(rt, *count),
         Held::Hidden(count) => with_hidden(rt, *count),
@@ -119,38 +121,49 @@ const STATES: &[(Held, u64, bool)] = &[
     ),
 ];
 
+/// Whether a store of that size may hold the state.
+fn is_held(rt: &(impl AllocGlobal + Abort), held: &Held, size: u64) -> bool {
+    let state = Box::into_inner(state_of(rt, held));
+    let engine = Engine::of(rt.alloc(), state, size).expect(rt, "no memory");
+    let is_held = engine.is_some();
+    drop(engine);
+    is_held
+}
+
 #[test]
 fn a_store_holds_a_state_up_to_its_limits(rt: HostRuntime) {
     for (held, size, wanted) in STATES {
-        let engine = Engine::of(rt.alloc(), state_of(&rt, held), *size);
-        let engine = engine.expect(&rt, "no memory");
-        same_at(&rt, engine.is_some(), *wanted, (held, size));
+        same_at(&rt, is_held(&rt, held, *size), *wanted, (held, size));
     }
 }
 
 /// An engine over a store of that size.
-fn engine_in(rt: &(impl AllocGlobal + Abort), held: &Held) -> Engine {
-    let engine = Engine::of(rt.alloc(), state_of(rt, held), SIZE).expect(rt, "no memory");
-    engine.expect(rt, "not served")
+fn engine_in(rt: &(impl AllocGlobal + Abort), held: &Held) -> Box<Engine> {
+    engine_of(rt, state_of(rt, held), SIZE)
 }
 
 #[test]
 fn an_engine_shows_the_state_that_it_was_made_from(rt: HostRuntime) {
     let engine = engine_in(&rt, &Held::Text(9));
-    same(&rt, engine.state().tree().weight(), 54);
-    same(&rt, engine.state().loaded().weight(), 0);
+    let state = engine.as_ref().state();
+    same(&rt, state.tree().weight(), 54);
+    same(&rt, state.loaded().weight(), 0);
+}
+
+/// At the moment 0 `lib/a.service` is put with a text of so many bytes.
+fn put_long(rt: &(impl AllocGlobal + Abort), length: usize) -> Box<Input> {
+    let path = text(rt, "lib/a.service");
+    let text = long(rt, length);
+    obeyed(rt, 0, Command::PutFile { path, text })
 }
 
 #[test]
 fn a_state_has_room_up_to_the_size_of_its_store(rt: HostRuntime) {
     let engine = engine_in(&rt, &Held::Nothing);
     for (length, wanted) in [(31_955, None), (31_956, Some("E14 NoRoom"))] {
-        let command = Command::PutFile {
-            path: text(&rt, "lib/a.service"),
-            text: long(&rt, length),
-        };
-        let input = Input::new(at(&rt, 0), Event::Commanded(command));
-        is_refused(&rt, engine.plan(&input), wanted, length);
+        let input = put_long(&rt, length);
+        let planned = engine.as_ref().plan(input.as_ref());
+        is_refused(&rt, planned, wanted, length);
     }
 }
 

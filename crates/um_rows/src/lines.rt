@@ -111,10 +111,12 @@ const OTHERS: &[Row] = &[
 /// Asserts that the words of the text ask for that, and that what is told has this part.
 fn asks(rt: &(impl AllocGlobal + Abort), text: &str, wanted: &str, part: &str) {
     let words = words_of(rt, text);
-    let line = read_line(rt.alloc(), words.as_slice()).expect(rt, "no memory");
-    let (kind, told) = asked(&line);
+    let read = read_line(rt.alloc(), words.as_slice());
+    let line = read.as_ref().expect(rt, "no memory");
+    let (kind, told) = asked(line);
     let got = (kind, told.contains(part));
-    same_at(rt, got, (wanted, true), (text, part, &line));
+    same_at(rt, got, (wanted, true), (text, part, line));
+    drop(read);
 }
 
 #[test]
@@ -131,20 +133,24 @@ fn a_runner_s_words_are_run_under_its_number(rt: HostRuntime) {
     // the law that this shows
     a_runner_s_words_are_run();
     let words = words_of(&rt, "umd run --dir d --number 7 --env 1 -- A=b x --help");
-    let Line::Run(line) = read_line(rt.alloc(), words.as_slice()).expect(&rt, "no memory") else {
+    let read = read_line(rt.alloc(), words.as_slice());
+    let Line::Run(line) = read.as_ref().expect(&rt, "no memory") else {
         rt.abort()
     };
     same(&rt, (line.folder, line.number.get()), ("d", 7));
+    drop(read);
 }
 
 /// Asserts that the words ask for a look at the file `f`, and for its units or not.
 fn looks(rt: &(impl AllocGlobal + Abort), text: &str, units: bool) {
     let words = words_of(rt, text);
-    let Line::Check(line) = read_line(rt.alloc(), words.as_slice()).expect(rt, "no memory") else {
+    let read = read_line(rt.alloc(), words.as_slice());
+    let Line::Check(line) = read.as_ref().expect(rt, "no memory") else {
         rt.abort()
     };
     same(rt, line.units, units);
     same(rt, line.file, "f");
+    drop(read);
 }
 
 #[test]

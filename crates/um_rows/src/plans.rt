@@ -5,6 +5,7 @@ use crate::texts::{
     JOBS, NOTHING, PUT_A, RELOAD, RESTART_A, SHOW_B, SPAWNED_FIRST, SPAWNED_SECOND, START_A,
     START_B, START_C, START_S, STOP_A, UNITS,
 };
+use std::process::Abort;
 
 const START_T: &str = r#"{"verb":"start","unit":"t.target"}"#;
 
@@ -329,29 +330,46 @@ const AN_INSTANCE_THAT_NO_ENTRY_NAMES_IS_PULLED_IN: Script = Script {
     ],
 };
 
-#[test]
-fn scripts_have_their_replies(rt: HostRuntime) {
+/// Scripts of orders in a circle.
+fn orders_in_a_circle(rt: &(impl AllocGlobal + Abort)) {
+    play_script(rt, &UNITS_THAT_ARE_WANTED_IN_A_CIRCLE_OF_ORDERS_ARE_REFUSED);
+    play_script(rt, &A_UNIT_OF_THE_CIRCLE_THAT_IS_STOPPED_BREAKS_IT);
     play_script(
-        &rt,
-        &UNITS_THAT_ARE_WANTED_IN_A_CIRCLE_OF_ORDERS_ARE_REFUSED,
-    );
-    play_script(&rt, &A_UNIT_OF_THE_CIRCLE_THAT_IS_STOPPED_BREAKS_IT);
-    play_script(
-        &rt,
+        rt,
         &A_TREE_BY_WHICH_PENDING_JOBS_WAIT_IN_A_CIRCLE_IS_NOT_LOADED,
     );
-    play_script(&rt, &A_START_WAITS_FOR_THE_STOP_OF_WHAT_IS_IN_CONFLICT);
+}
+
+/// Scripts of units in conflict.
+fn units_in_conflict(rt: &(impl AllocGlobal + Abort)) {
+    play_script(rt, &A_START_WAITS_FOR_THE_STOP_OF_WHAT_IS_IN_CONFLICT);
     play_script(
-        &rt,
+        rt,
         &A_PLAN_THAT_DROPS_A_JOB_OF_ANOTHER_UNIT_IS_REFUSED_IN_MODE_FAIL,
     );
-    play_script(&rt, &WHAT_IS_REQUIRED_AND_IN_CONFLICT_CLASHES);
-    play_script(&rt, &A_FAILED_START_TAKES_ALONG_WHAT_NEEDS_IT);
+    play_script(rt, &WHAT_IS_REQUIRED_AND_IN_CONFLICT_CLASHES);
+}
+
+/// Scripts of what a job takes along.
+fn jobs_along(rt: &(impl AllocGlobal + Abort)) {
+    play_script(rt, &A_FAILED_START_TAKES_ALONG_WHAT_NEEDS_IT);
     play_script(
-        &rt,
+        rt,
         &A_STOP_AND_A_RESTART_COME_OVER_TO_WHAT_LEANS_ON_THE_UNIT,
     );
-    play_script(&rt, &WHAT_IS_WANTED_AND_CANNOT_START_IS_LEFT);
-    play_script(&rt, &KNOWN_UNITS_ARE_LISTED_BY_NAME);
-    play_script(&rt, &AN_INSTANCE_THAT_NO_ENTRY_NAMES_IS_PULLED_IN);
+}
+
+/// Scripts of what is pulled in, left or listed.
+fn units_pulled_in(rt: &(impl AllocGlobal + Abort)) {
+    play_script(rt, &WHAT_IS_WANTED_AND_CANNOT_START_IS_LEFT);
+    play_script(rt, &KNOWN_UNITS_ARE_LISTED_BY_NAME);
+    play_script(rt, &AN_INSTANCE_THAT_NO_ENTRY_NAMES_IS_PULLED_IN);
+}
+
+#[test]
+fn scripts_have_their_replies(rt: HostRuntime) {
+    orders_in_a_circle(&rt);
+    units_in_conflict(&rt);
+    jobs_along(&rt);
+    units_pulled_in(&rt);
 }

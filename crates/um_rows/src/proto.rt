@@ -6,8 +6,9 @@ use um_resolve::UnitFile;
 use um_state::{Command, Event, Reply};
 
 /// Asserts that this is the whole text of the reply.
-fn is_told(rt: &(impl AllocGlobal + Abort), reply: &Reply, wanted: &str) {
-    let told = write_reply(rt.alloc(), reply).expect(rt, "no memory");
+fn is_told(rt: &(impl AllocGlobal + Abort), reply: Reply, wanted: &str) {
+    let told = write_reply(rt.alloc(), &reply).expect(rt, "no memory");
+    drop(reply);
     let text = String::from_utf8_lossy(rt.alloc(), told.bytes.as_slice()).expect(rt, "no memory");
     same(rt, (text.as_str(), told.is_whole), (wanted, true));
 }
@@ -89,8 +90,9 @@ fn link_in(request: &Request) -> Option<(&str, &str)> {
 fn a_link_is_put_from_its_path_to_its_target(rt: HostRuntime) {
     let text = "{\"target\":\"a.service\",\"verb\":\"put-link\",\"path\":\"etc/b.service\"}";
     let read = read_request(rt.alloc(), text.as_bytes(), Mode::Service);
-    let request = read.expect(&rt, "not read");
-    same(&rt, link_in(&request), Some(("etc/b.service", "a.service")));
+    let request = read.as_ref().expect(&rt, "not read");
+    same(&rt, link_in(request), Some(("etc/b.service", "a.service")));
+    drop(read);
 }
 
 /// A file of this text.
@@ -107,9 +109,9 @@ const FILES: &str =
 
 #[test]
 fn a_taken_command_is_told_shortly_and_files_as_paths_and_texts(rt: HostRuntime) {
-    is_told(&rt, &Reply::Done, "{\"ok\":true}");
+    is_told(&rt, Reply::Done, "{\"ok\":true}");
     let own = file(&rt, "lib/a.service", "[Unit]\nDescription=\"a\"\n");
     let drop_in = file(&rt, "etc/a.service.d/b.conf", "");
     let files = vec![in rt.alloc(); own, drop_in].expect(&rt, "no memory");
-    is_told(&rt, &Reply::Files(files), FILES);
+    is_told(&rt, Reply::Files(files), FILES);
 }

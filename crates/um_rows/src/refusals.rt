@@ -63,35 +63,44 @@ fn put_of(rt: &(impl AllocGlobal + Abort), size: usize) -> String {
     request.expect(rt, "no memory")
 }
 
+/// Arrays in one another, so many.
+fn deep(rt: &(impl AllocGlobal + Abort), count: usize) -> String {
+    let open = "[".repeat(rt.alloc(), count).expect(rt, "no memory");
+    let close = "]".repeat(rt.alloc(), count).expect(rt, "no memory");
+    format!(in rt.alloc(); "{open}{close}").expect(rt, "no memory")
+}
+
+/// The reply to a text that is too long.
+const TOO_LONG: &str = r#"{"detail":["text"],"error":13,"ok":false}"#;
+
 #[test]
 fn what_is_too_deep_or_too_long_is_refused(rt: HostRuntime) {
-    let open = "[".repeat(rt.alloc(), 200).expect(&rt, "no memory");
-    let close = "]".repeat(rt.alloc(), 200).expect(&rt, "no memory");
-    let deep = format!(in rt.alloc(); "{open}{close}").expect(&rt, "no memory");
+    let deep = deep(&rt, 200);
     let longest = put_of(&rt, TEXT_LIMIT);
     let longer = put_of(&rt, TEXT_LIMIT + 1);
     let steps = [
         (deep.as_str(), BAD_REQUEST),
         (longest.as_str(), DONE),
-        (
-            longer.as_str(),
-            r#"{"detail":["text"],"error":13,"ok":false}"#,
-        ),
+        (longer.as_str(), TOO_LONG),
     ];
     play(&rt, "limits", &steps);
 }
 
+/// Asserts that a removal at this path is refused, and the path is told.
+fn is_no_path(rt: &(impl AllocGlobal + Abort), path: &str) {
+    let request = format!(in rt.alloc(); r#"{{"verb":"remove","path":"{path}"}}"#);
+    let request = request.expect(rt, "no memory");
+    let refusal = format!(in rt.alloc(); r#"{{"detail":["{path}"],"error":12,"ok":false}}"#);
+    let refusal = refusal.expect(rt, "no memory");
+    play(rt, "a removal", &[(request.as_str(), refusal.as_str())]);
+}
+
 #[test]
 fn a_removal_at_a_path_longer_than_a_name_is_refused_with_the_path(rt: HostRuntime) {
-    let alloc = rt.alloc();
     // names of 252 bytes, which a unit may have, of 256 and of far more
     for size in [244, 248, 60_000] {
-        let name = "x".repeat(alloc, size).expect(&rt, "no memory");
-        let path = format!(in alloc; "lib/{name}.service").expect(&rt, "no memory");
-        let request = format!(in alloc; r#"{{"verb":"remove","path":"{path}"}}"#);
-        let request = request.expect(&rt, "no memory");
-        let refusal = format!(in alloc; r#"{{"detail":["{path}"],"error":12,"ok":false}}"#);
-        let refusal = refusal.expect(&rt, "no memory");
-        play(&rt, "a removal", &[(request.as_str(), refusal.as_str())]);
+        let name = "x".repeat(rt.alloc(), size).expect(&rt, "no memory");
+        let path = format!(in rt.alloc(); "lib/{name}.service").expect(&rt, "no memory");
+        is_no_path(&rt, path.as_str());
     }
 }

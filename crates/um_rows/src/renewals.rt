@@ -2,7 +2,7 @@
 use crate::asserts::same;
 use crate::script::{push_frame, served};
 use crate::texts::{ACTIONS, DONE, RELOAD, SHOW_A, START_A};
-use std::alloc::{AllocError, Global};
+use std::process::Abort;
 use um_memory::Ending;
 
 /// A service that may be started any number of times.
@@ -20,46 +20,50 @@ struct Script {
     wanted: Vec<u8>,
 }
 
-impl Script {
-    /// Adds a request with its reply.
-    fn push(&mut self, request: &str, reply: &str) -> Result<(), AllocError> {
-        push_frame(&mut self.input, request)?;
-        push_frame(&mut self.wanted, reply)
-    }
-
-    /// Adds a start, the actions since, and the end of the process with this number.
-    fn push_life(&mut self, alloc: Global, number: usize) -> Result<(), AllocError> {
-        self.push(START_A, DONE)?;
-        let spawned = format!(in alloc;
-            r#"{{"ok":true,"value":[["spawn",{number},["/bin/sleep","9"]]]}}"#
-        )?;
-        self.push(ACTIONS, spawned.as_str())?;
-        let end = format!(in alloc; r#"{{"verb":"end","number":{number},"code":0}}"#)?;
-        self.push(end.as_str(), DONE)
-    }
+/// Adds a request with its reply.
+fn push(rt: &impl Abort, script: &mut Script, request: &str, reply: &str) {
+    push_frame(&mut script.input, request).expect(rt, "no memory");
+    push_frame(&mut script.wanted, reply).expect(rt, "no memory");
 }
 
-/// A service is started and ends so many times, and then it is started once more.
-fn lives(alloc: Global, count: usize) -> Result<Script, AllocError> {
-    let mut script = Script {
-        input: Vec::new(alloc),
-        wanted: Vec::new(alloc),
-    };
-    script.push(PUT, DONE)?;
-    script.push(RELOAD, DONE)?;
+/// Adds a start, the actions since, and the end of the process with this number.
+fn push_life(rt: &(impl AllocGlobal + Abort), script: &mut Script, number: usize) {
+    push(rt, script, START_A, DONE);
+    let spawned: Result<_, _> = format!(in rt.alloc();
+        r#"{{"ok":true,"value":[["spawn",{number},["/bin/sleep","9"]]]}}"#
+    );
+    let spawned = spawned.expect(rt, "no memory");
+    push(rt, script, ACTIONS, spawned.as_str());
+    let end = format!(in rt.alloc(); r#"{{"verb":"end","number":{number},"code":0}}"#);
+    let end = end.expect(rt, "no memory");
+    push(rt, script, end.as_str(), DONE);
+}
+
+/// Adds that a service is started and ends so many times, and then is started once more.
+fn push_lives(rt: &(impl AllocGlobal + Abort), script: &mut Script, count: usize) {
+    push(rt, script, PUT, DONE);
+    push(rt, script, RELOAD, DONE);
     for number in 1..=count {
-        script.push_life(alloc, number)?;
+        push_life(rt, script, number);
     }
-    script.push(START_A, DONE)?;
-    script.push(SHOW_A, RUNS)?;
-    Ok(script)
+    push(rt, script, START_A, DONE);
+    push(rt, script, SHOW_A, RUNS);
+}
+
+/// Asserts that the requests have the replies that are wanted, and end behind the last.
+fn is_served(rt: &(impl AllocGlobal + Abort), script: &Script) {
+    let (output, ending) = served(rt.alloc(), script.input.as_slice()).expect(rt, "not served");
+    same(rt, output.as_slice(), script.wanted.as_slice());
+    same(rt, ending, Ending::Between);
 }
 
 #[test]
 fn replies_go_on_behind_a_renewal_of_the_store(rt: HostRuntime) {
+    let mut script = Script {
+        input: Vec::new(rt.alloc()),
+        wanted: Vec::new(rt.alloc()),
+    };
     // two inputs each, and a renewal behind each 512th
-    let Script { input, wanted } = lives(rt.alloc(), 600).expect(&rt, "no memory");
-    let (output, ending) = served(rt.alloc(), input.as_slice()).expect(&rt, "not served");
-    same(&rt, output.as_slice(), wanted.as_slice());
-    same(&rt, ending, Ending::Between);
+    push_lives(&rt, &mut script, 600);
+    is_served(&rt, &script);
 }

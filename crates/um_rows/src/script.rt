@@ -72,13 +72,6 @@ pub fn play(rt: &(impl AllocGlobal + Abort), shows: &str, steps: &[(&str, &str)]
     same_at(rt, ending, Ending::Between, shows);
 }
 
-/// Plays the scripts, each on a store of its own.
-pub fn play_all(rt: &(impl AllocGlobal + Abort), scripts: &[Script]) {
-    for script in scripts {
-        play(rt, script.shows, script.steps);
-    }
-}
-
 /// Plays the script on a store of its own.
 pub fn play_script(rt: &(impl AllocGlobal + Abort), script: &Script) {
     play(rt, script.shows, script.steps);

@@ -132,11 +132,20 @@ fn sleeps(rt: &(impl AllocGlobal + Abort), kind: UnitKind) -> Rc<ServiceSettings
     Rc::new(rt.alloc(), settings).expect(rt, "no memory")
 }
 
+/// Asserts that the unit stands as it does behind this step.
+fn stands(rt: &impl Abort, unit: &Service, step: &Step) {
+    let now = unit.unit();
+    let main = now.main.map(|main| main.get());
+    let deadline = now.deadline.map(|deadline| deadline.micros());
+    let stands = (now.sub, now.result, main, deadline);
+    same_at(rt, stands, step.stands, step.event);
+}
+
 /// Asserts that this follows for the unit, which is loadable and no stop job of which waits, where this is the next process number;
 /// the next one is 2 then.
 fn follows(
     rt: &(impl AllocGlobal + Abort),
-    kind: UnitKind,
+    settings: &Rc<ServiceSettings>,
     unit: &mut Service,
     next: u64,
     step: &Step,
@@ -147,17 +156,13 @@ fn follows(
         loadable: true,
         stop_waits: false,
     };
-    let after = unit.on(rt.alloc(), step.event, &sleeps(rt, kind), around);
+    let after = unit.on(rt.alloc(), step.event, settings, around);
     let after = after.expect(rt, "no memory");
     let asked = told(rt, after.actions.as_slice());
     same_at(rt, asked.as_str(), step.asked, step.event);
     let jobs = (after.start, after.stop_ends, after.next.get());
     same_at(rt, jobs, (step.start, step.stop_ends, 2), step.event);
-    let now = unit.unit();
-    let main = now.main.map(|main| main.get());
-    let deadline = now.deadline.map(|deadline| deadline.micros());
-    let stands = (now.sub, now.result, main, deadline);
-    same_at(rt, stands, step.stands, step.event);
+    stands(rt, unit, step);
 }
 
 /// Asserts that this follows from the steps for a service of this kind, whose first process gets the number 1.
@@ -165,7 +170,7 @@ fn lives(rt: &(impl AllocGlobal + Abort), kind: UnitKind, steps: &[Step]) {
     let mut unit = Service::of(UnitState::DEAD);
     let mut next = 1;
     for step in steps {
-        follows(rt, kind, &mut unit, next, step);
+        follows(rt, &sleeps(rt, kind), &mut unit, next, step);
         next = 2;
     }
     same(rt, unit.copy().unit(), unit.unit());

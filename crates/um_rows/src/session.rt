@@ -5,6 +5,7 @@ use std::process::Abort;
 use um_proto::{Asked, Request};
 use um_session::Session;
 use um_state::{Command, Event};
+use um_wire::Refusal;
 
 /// `{"verb":"daemon-reload"}` in its frame: 28 bytes.
 const RELOAD: &[u8] = b"\0\0\0\x18{\"verb\":\"daemon-reload\"}";
@@ -20,13 +21,26 @@ fn word(request: &Request) -> &'static str {
     }
 }
 
-/// What is read next: `reload`, the refusal, or nothing.
-fn next(rt: &(impl AllocGlobal + Abort), session: &mut Session) -> String {
-    match session.next_request() {
+/// What is read: `reload`, the refusal, or nothing.
+fn told(rt: &(impl AllocGlobal + Abort), read: &Option<Result<Request, Refusal>>) -> String {
+    match read {
         None => text(rt, ""),
-        Some(Ok(request)) => text(rt, word(&request)),
+        Some(Ok(request)) => text(rt, word(request)),
         Some(Err(refusal)) => refusal.to_string(rt.alloc()).expect(rt, "no memory"),
     }
+}
+
+/// What is read next.
+fn next(rt: &(impl AllocGlobal + Abort), session: &mut Session) -> String {
+    let read = session.next_request();
+    let told = told(rt, &read);
+    drop(read);
+    told
+}
+
+/// A new session.
+fn session(rt: &(impl AllocGlobal + Abort)) -> Box<Session> {
+    Box::new(rt.alloc(), Session::new(rt.alloc())).expect(rt, "no memory")
 }
 
 /// Feeds the bytes, and asserts that this is read then, in this row.
@@ -48,12 +62,12 @@ fn reads(
 /// Asserts that the frame of a request, cut in these two places, is read as that request alone.
 fn is_one_request(rt: &(impl AllocGlobal + Abort), first: usize, second: usize) {
     let row = (first, second);
-    let mut session = Session::new(rt.alloc());
-    reads(rt, &mut session, front(RELOAD, first), &[], row);
+    let mut session = session(rt);
+    reads(rt, session.as_mut(), front(RELOAD, first), &[], row);
     let middle = rest(front(RELOAD, second), first);
-    reads(rt, &mut session, middle, &[], row);
+    reads(rt, session.as_mut(), middle, &[], row);
     let last = rest(RELOAD, second);
-    reads(rt, &mut session, last, &["reload", ""], row);
+    reads(rt, session.as_mut(), last, &["reload", ""], row);
 }
 
 #[test]
@@ -90,27 +104,40 @@ const REFUSED: &[Refused] = &[
     },
 ];
 
+/// Asserts that the frame of this row is refused, and what is read behind it.
+fn is_refused(
+    rt: &(impl AllocGlobal + Abort),
+    session: &mut Session,
+    refused: &Refused,
+    row: usize,
+) {
+    reads(rt, session, refused.frame, refused.reads, (row, 0));
+    same_at(rt, session.failed(), refused.failed, row);
+    reads(rt, session, RELOAD, refused.behind, (row, 1));
+    same_at(rt, session.failed(), refused.failed, row);
+}
+
 #[test]
 fn a_frame_is_refused_and_the_stream_goes_on_or_ends(rt: HostRuntime) {
     for (row, refused) in REFUSED.iter().enumerate() {
-        let mut session = Session::new(rt.alloc());
-        reads(&rt, &mut session, refused.frame, refused.reads, (row, 0));
-        same_at(&rt, session.failed(), refused.failed, row);
-        reads(&rt, &mut session, RELOAD, refused.behind, (row, 1));
-        same_at(&rt, session.failed(), refused.failed, row);
+        is_refused(&rt, session(&rt).as_mut(), refused, row);
     }
 }
 
 /// What is put out after two replies, and then.
 const OUTPUTS: &[&[u8]] = &[b"\0\0\0\x02{}\0\0\0\x03[1]", b""];
 
-#[test]
-fn replies_are_put_out_as_frames_in_their_order(rt: HostRuntime) {
-    let mut session = Session::new(rt.alloc());
-    session.push_reply(b"{}").expect(&rt, "no memory");
-    session.push_reply(b"[1]").expect(&rt, "no memory");
+/// Asserts that the replies are put out as frames, once.
+fn puts_out(rt: &(impl AllocGlobal + Abort), session: &mut Session) {
+    session.push_reply(b"{}").expect(rt, "no memory");
+    session.push_reply(b"[1]").expect(rt, "no memory");
     for wanted in OUTPUTS {
         let output = session.take_output();
-        same(&rt, output.as_slice(), *wanted);
+        same(rt, output.as_slice(), *wanted);
     }
+}
+
+#[test]
+fn replies_are_put_out_as_frames_in_their_order(rt: HostRuntime) {
+    puts_out(&rt, session(&rt).as_mut());
 }

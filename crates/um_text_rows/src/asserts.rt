@@ -26,21 +26,17 @@ pub fn is_refused<T: Drop, R: Debug + Drop>(
     wanted: Option<&str>,
     row: R,
 ) {
-    match answer {
-        Ok(_) => same_at(rt, None, wanted, row),
-        Err(refusal) => prints(rt, &refusal, wanted, row),
-    }
+    let printed = printed(rt, &answer);
+    drop(answer);
+    same_at(rt, printed.as_deref(), wanted, row);
 }
 
-/// Asserts that the refusal is wanted, and prints as this text: its number, name and details.
-fn prints<R: Debug + Drop>(
-    rt: &(impl AllocGlobal + Abort),
-    refusal: &Refusal,
-    wanted: Option<&str>,
-    row: R,
-) {
-    let printed = refusal.to_string(rt.alloc()).expect(rt, "no memory");
-    same_at(rt, Some(printed.as_str()), wanted, row);
+/// The text that the refusal prints as: its number, name and details. None where the answer is no refusal.
+fn printed<T>(rt: &(impl AllocGlobal + Abort), answer: &Result<T, Refusal>) -> Option<String> {
+    match answer {
+        Ok(_) => None,
+        Err(refusal) => Some(refusal.to_string(rt.alloc()).expect(rt, "no memory")),
+    }
 }
 
 /// A text of its own.

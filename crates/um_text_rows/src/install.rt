@@ -3,6 +3,7 @@ use crate::answers::{list, tree_of};
 use crate::asserts::{same_at, unit};
 use std::process::Abort;
 use um_install::{Installed, disable, enable, mask, unmask};
+use um_name::UnitName;
 use um_tree::{Entry, Tree};
 use um_wire::Refusal;
 
@@ -16,28 +17,72 @@ const WANT: &str = "etc/multi-user.target.wants/a.service";
 
 const MASK: &str = "etc/a.service";
 
-/// The tree after the verb, which made links at these paths and removed those at the other ones.
-fn made_and_removed(
-    rt: &(impl AllocGlobal + Abort),
-    installed: Result<Installed, Refusal>,
-    made: &[&str],
-    removed: &[&str],
+/// A verb, and the paths at which it makes links and removes them.
+struct Row {
+    verb: &'static str,
+    made: &'static [&'static str],
+    removed: &'static [&'static str],
+}
+
+/// Verbs, each of which has the tree that the one before left.
+const ROWS: &[Row] = &[
+    Row {
+        verb: "enable",
+        made: &[WANT],
+        removed: &[],
+    },
+    Row {
+        verb: "disable",
+        made: &[],
+        removed: &[WANT],
+    },
+    Row {
+        verb: "mask",
+        made: &[MASK],
+        removed: &[],
+    },
+    Row {
+        verb: "unmask",
+        made: &[],
+        removed: &[MASK],
+    },
+];
+
+/// What the verb makes of the tree.
+fn install(
+    rt: &impl AllocGlobal,
     verb: &str,
-) -> Tree {
+    tree: &Tree,
+    unit: &UnitName,
+) -> Result<Installed, Refusal> {
+    match verb {
+        "enable" => enable(rt.alloc(), tree, unit),
+        "disable" => disable(rt.alloc(), tree, unit),
+        "mask" => mask(rt.alloc(), tree, unit),
+        _ => unmask(rt.alloc(), tree, unit),
+    }
+}
+
+/// Asserts that the verb of the row made these links and removed those.
+fn made_and_removed(rt: &(impl AllocGlobal + Abort), installed: &Installed, row: &Row) {
+    same_at(rt, &installed.made, &list(rt, row.made), row.verb);
+    same_at(rt, &installed.removed, &list(rt, row.removed), row.verb);
+}
+
+/// The tree behind the verb of the row, which makes and removes those links.
+fn installed(rt: &(impl AllocGlobal + Abort), tree: &Tree, row: &Row) -> Box<Tree> {
+    let installed = install(rt, row.verb, tree, &unit(rt, "a.service"));
     let installed = installed.expect(rt, "refused");
-    same_at(rt, &installed.made, &list(rt, made), verb);
-    same_at(rt, &installed.removed, &list(rt, removed), verb);
-    installed.tree
+    made_and_removed(rt, &installed, row);
+    Box::new(rt.alloc(), installed.tree).expect(rt, "no memory")
 }
 
 #[test]
 fn each_verb_makes_and_removes_its_links(rt: HostRuntime) {
-    let alloc = rt.alloc();
-    let a = unit(&rt, "a.service");
-    let tree = tree_of(&rt, TREE);
-    let enabled = made_and_removed(&rt, enable(alloc, &tree, &a), &[WANT], &[], "enable");
-    let disabled = made_and_removed(&rt, disable(alloc, &enabled, &a), &[], &[WANT], "disable");
-    let masked = made_and_removed(&rt, mask(alloc, &disabled, &a), &[MASK], &[], "mask");
-    let unmasked = made_and_removed(&rt, unmask(alloc, &masked, &a), &[], &[MASK], "unmask");
-    same_at(&rt, unmasked.get(MASK).is_none(), true, "unmask");
+    let mut tree = Box::new(rt.alloc(), tree_of(&rt, TREE)).expect(&rt, "no memory");
+    for row in ROWS {
+        tree = installed(&rt, tree.as_ref(), row);
+    }
+    let unmasked = tree.as_ref().get(MASK).is_none();
+    same_at(&rt, unmasked, true, "unmask");
 }

@@ -228,14 +228,18 @@ fn an_instance_leaves_a_name_of_255_bytes_at_most(rt: HostRuntime) {
     }
 }
 
+/// Asserts that the copy is a copy of the name.
+fn is_copy(rt: &impl Abort, copy: &UnitName, name: &UnitName) {
+    same(rt, copy, name);
+    let told = (copy.as_str(), copy.suffix());
+    same(rt, told, ("b@x.service", Suffix::Service));
+}
+
 #[test]
 fn names_are_copied_and_shown(rt: HostRuntime) {
     let name = unit(&rt, "b@x.service");
     let copied: Result<_, _> = name.copy();
-    let copy = copied.expect(&rt, "no memory");
-    same(&rt, &copy, &name);
-    let told = (copy.as_str(), copy.suffix());
-    same(&rt, told, ("b@x.service", Suffix::Service));
+    is_copy(&rt, copied.as_ref().expect(&rt, "no memory"), &name);
     let shown = format!(in rt.alloc(); "{name} {name:?}").expect(&rt, "no memory");
     same(&rt, shown.as_str(), r#"b@x.service "b@x.service""#);
 }

@@ -3,7 +3,7 @@ use crate::answers::{list, tree_of};
 use crate::asserts::{same_at, text, unit};
 use std::process::Abort;
 use um_resolve::{Files, UnitFile, files_of};
-use um_tree::Entry;
+use um_tree::{Entry, Tree};
 
 /// A tree of templates, links and masks.
 const TEMPLATES: &[(&str, Entry<'static>)] = &[
@@ -47,104 +47,100 @@ const DROP_INS: &[(&str, Entry<'static>)] = &[
 /// Where a name leads in a tree: to a unit that is read from the files at these paths, to the unit of that name, which is masked, or
 /// nowhere.
 struct Row {
-    tree: &'static [(&'static str, Entry<'static>)],
     name: &'static str,
     files: Option<&'static [&'static str]>,
     masked: Option<&'static str>,
 }
 
-const ROWS: &[Row] = &[
-    // a name leads to its file
+/// Names that lead to a file.
+const FOUND: &[Row] = &[
     Row {
-        tree: TEMPLATES,
         name: "app@x.service",
         files: Some(&["lib/app@.service"]),
         masked: None,
     },
     Row {
-        tree: TEMPLATES,
         name: "web@x.service",
         files: Some(&["lib/app@.service"]),
         masked: None,
     },
     Row {
-        tree: TEMPLATES,
         name: "web@.service",
         files: Some(&["lib/app@.service"]),
         masked: None,
     },
     Row {
-        tree: TEMPLATES,
         name: "app@y.service",
         files: Some(&["lib/app@.service"]),
         masked: None,
     },
     Row {
-        tree: TEMPLATES,
         name: "web@y.service",
         files: Some(&["lib/app@.service"]),
         masked: None,
     },
     Row {
-        tree: TEMPLATES,
         name: "shutdown.target",
         files: Some(&["etc/shutdown.target.d/a.conf"]),
         masked: None,
     },
-    // a name leads to a mask
+];
+
+/// Names that lead to a mask.
+const MASKED: &[Row] = &[
     Row {
-        tree: TEMPLATES,
         name: "app@z.service",
         files: None,
         masked: Some("app@z.service"),
     },
     Row {
-        tree: TEMPLATES,
         name: "web@z.service",
         files: None,
         masked: Some("app@z.service"),
     },
     Row {
-        tree: TEMPLATES,
         name: "other.service",
         files: None,
         masked: Some("empty.service"),
     },
-    // a name leads nowhere
+];
+
+/// Names that lead nowhere.
+const LOST: &[Row] = &[
     Row {
-        tree: TEMPLATES,
         name: "plug.socket",
         files: None,
         masked: None,
     },
     Row {
-        tree: TEMPLATES,
         name: "kind.service",
         files: None,
         masked: None,
     },
     Row {
-        tree: TEMPLATES,
         name: "none.service",
         files: None,
         masked: None,
     },
-    // eight hops are found, and nine are not
+];
+
+/// Eight hops are found, and nine are not.
+const HOPPING: &[Row] = &[
     Row {
-        tree: HOPS,
         name: "h8.service",
         files: Some(&["etc/h0.service"]),
         masked: None,
     },
     Row {
-        tree: HOPS,
         name: "h9.service",
         files: None,
         masked: None,
     },
-    // drop-ins stand by the names of their files
+];
+
+/// Drop-ins stand by the names of their files.
+const DROPPED_IN: &[Row] = &[
     Row {
-        tree: DROP_INS,
         name: "app@x.service",
         files: Some(&[
             "lib/app@.service",
@@ -155,7 +151,6 @@ const ROWS: &[Row] = &[
         masked: None,
     },
     Row {
-        tree: DROP_INS,
         name: "app@.service",
         files: Some(&[
             "lib/app@.service",
@@ -176,16 +171,25 @@ fn paths(rt: &(impl AllocGlobal + Abort), files: &[UnitFile]) -> Vec<String> {
     paths
 }
 
-/// The files that the row's name leads to, and the unit that is masked.
-fn follow(rt: &(impl AllocGlobal + Abort), row: &Row) -> (Option<Vec<String>>, Option<String>) {
-    let tree = tree_of(rt, row.tree);
-    let name = unit(rt, row.name);
-    let files = files_of(rt.alloc(), &tree, &name).expect(rt, "no memory");
-    match &files {
+/// The paths of the files that a name leads to, and the unit that is masked.
+type Led = (Option<Vec<String>>, Option<String>);
+
+/// Where these files lead.
+fn led(rt: &(impl AllocGlobal + Abort), files: &Files) -> Led {
+    match files {
         Files::Found(files) => (Some(paths(rt, files)), None),
         Files::Masked { unit } => (None, Some(text(rt, unit.as_str()))),
         Files::NotFound => (None, None),
     }
+}
+
+/// Where the name leads in the tree.
+fn follow(rt: &(impl AllocGlobal + Abort), tree: &Tree, name: &str) -> Led {
+    let name = unit(rt, name);
+    let files = files_of(rt.alloc(), tree, &name).expect(rt, "no memory");
+    let led = led(rt, &files);
+    drop(files);
+    led
 }
 
 /// The files that are wanted.
@@ -196,11 +200,31 @@ fn wanted(rt: &(impl AllocGlobal + Abort), row: &Row) -> Option<Vec<String>> {
     }
 }
 
+/// Asserts that the row's name leads in the tree where it is wanted.
+fn leads(rt: &(impl AllocGlobal + Abort), tree: &Tree, row: &Row) {
+    let (files, masked) = follow(rt, tree, row.name);
+    same_at(rt, files, wanted(rt, row), row.name);
+    same_at(rt, masked.as_deref(), row.masked, row.name);
+}
+
+/// Asserts that the names of the rows lead in the tree where it is wanted.
+fn all_lead(rt: &(impl AllocGlobal + Abort), tree: &Tree, rows: &[Row]) {
+    for row in rows {
+        leads(rt, tree, row);
+    }
+}
+
+/// Asserts that names lead to templates, links and masks where it is wanted.
+fn templates_lead(rt: &(impl AllocGlobal + Abort)) {
+    let tree = tree_of(rt, TEMPLATES);
+    all_lead(rt, &tree, FOUND);
+    all_lead(rt, &tree, MASKED);
+    all_lead(rt, &tree, LOST);
+}
+
 #[test]
 fn a_name_leads_to_files_or_to_a_mask_or_nowhere(rt: HostRuntime) {
-    for row in ROWS {
-        let (files, masked) = follow(&rt, row);
-        same_at(&rt, files, wanted(&rt, row), row.name);
-        same_at(&rt, masked.as_deref(), row.masked, row.name);
-    }
+    templates_lead(&rt);
+    all_lead(&rt, &tree_of(&rt, HOPS), HOPPING);
+    all_lead(&rt, &tree_of(&rt, DROP_INS), DROPPED_IN);
 }

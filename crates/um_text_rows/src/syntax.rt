@@ -59,8 +59,8 @@ struct Row {
     says: &'static [Said<'static>],
 }
 
-const ROWS: &[Row] = &[
-    // a continuation keeps the space for its backslash
+/// A continuation keeps the space for its backslash.
+const CONTINUATIONS: &[Row] = &[
     Row {
         text: "[Unit]\nDescription=a\\\n# c\n   b\n",
         says: &[
@@ -99,7 +99,10 @@ const ROWS: &[Row] = &[
             Said::Joined(3, "Descr  iption", "x"),
         ],
     },
-    // an odd number of backslashes joins
+];
+
+/// An odd number of backslashes joins.
+const BACKSLASHES: &[Row] = &[
     Row {
         text: "[Unit]\nk=a\\\\\nl=d\n",
         says: &[
@@ -112,7 +115,10 @@ const ROWS: &[Row] = &[
         text: "[Unit]\nk=a\\\\\\\nd\n",
         says: &[Said::Head(1, "Unit"), Said::Joined(2, "k", "a\\\\ d")],
     },
-    // a head stands in brackets
+];
+
+/// A head stands in brackets.
+const HEADS: &[Row] = &[
     Row {
         text: "",
         says: &[],
@@ -141,7 +147,10 @@ const ROWS: &[Row] = &[
         text: "[Unit ]\n=x\n",
         says: &[Said::Head(1, "Unit "), Said::Pair(2, "", "x", 9, 10)],
     },
-    // a line is cut at its first equals sign
+];
+
+/// A line is cut at its first equals sign.
+const PAIRS: &[Row] = &[
     Row {
         text: "[a]\r\nkey \t=\t b = c \r\n",
         says: &[Said::Head(1, "a"), Said::Pair(2, "key", "b = c", 13, 18)],
@@ -165,7 +174,10 @@ const ROWS: &[Row] = &[
             Said::Pair(2, "\u{e9}", "\u{a0}\u{17e} # x", 9, 17),
         ],
     },
-    // a line without effect is a warning in its section
+];
+
+/// A line without effect is a warning in its section.
+const WITHOUT_EFFECT: &[Row] = &[
     Row {
         text: "a=b\nc\n[Unit]\nd\ne=f\n[Install]\ng",
         says: &[
@@ -188,11 +200,20 @@ const ROWS: &[Row] = &[
     },
 ];
 
+/// Asserts that the texts of the rows say this.
+fn all_say(rt: &(impl AllocGlobal + Abort), rows: &[Row]) {
+    for row in rows {
+        says(rt, row.text, row.says);
+    }
+}
+
 #[test]
 fn texts_say_what_their_lines_say(rt: HostRuntime) {
-    for row in ROWS {
-        says(&rt, row.text, row.says);
-    }
+    all_say(&rt, CONTINUATIONS);
+    all_say(&rt, BACKSLASHES);
+    all_say(&rt, HEADS);
+    all_say(&rt, PAIRS);
+    all_say(&rt, WITHOUT_EFFECT);
 }
 
 #[test]

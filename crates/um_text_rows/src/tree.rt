@@ -3,6 +3,7 @@ use crate::answers::{put, repeated, tree_of};
 use crate::asserts::{is_refused, same, same_at};
 use std::process::Abort;
 use um_tree::{Entry, Layer, Place, ServedPath, Tree};
+use um_wire::Refusal;
 
 /// Paths, and whether they are served.
 const PATHS: &[(&str, bool)] = &[
@@ -139,14 +140,20 @@ const ASCENDING: &[&str] = &[
     "lib/b.service",
 ];
 
+/// Asserts that a file is removed.
+fn is_removed(rt: &impl Abort, tree: &mut Tree) {
+    let removed: Result<_, _> = tree.remove("etc/a.service");
+    removed.expect(rt, "not removed");
+    same(rt, (tree.len(), tree.get("etc/a.service")), (3, None));
+}
+
 #[test]
 fn a_removal_leaves_a_copy_as_it_was(rt: HostRuntime) {
     let mut tree = tree_of(&rt, FILLED);
     let copied: Result<_, _> = tree.copy();
-    let copy = copied.expect(&rt, "no memory");
-    tree.remove("etc/a.service").expect(&rt, "not removed");
-    same(&rt, (tree.len(), tree.get("etc/a.service")), (3, None));
-    same(&rt, paths(&rt, &copy).as_slice(), ASCENDING);
+    is_removed(&rt, &mut tree);
+    let copy = copied.as_ref().expect(&rt, "no memory");
+    same(&rt, paths(&rt, copy).as_slice(), ASCENDING);
 }
 
 /// What is put one after another: a file or a link at a path, with a text or a target of so many bytes, and what it is refused by.
@@ -211,17 +218,22 @@ const SIZED: &[Sized] = &[
     },
 ];
 
+/// Puts what the row tells.
+fn put_sized(rt: &(impl AllocGlobal + Abort), tree: &mut Tree, row: &Sized) -> Result<(), Refusal> {
+    let text = repeated(rt, "x", row.size);
+    let entry = if row.is_link {
+        Entry::Link(text.as_str())
+    } else {
+        Entry::File(text.as_str())
+    };
+    put(tree, row.path, entry)
+}
+
 #[test]
 fn texts_and_targets_have_limits(rt: HostRuntime) {
     let mut tree = tree_of(&rt, &[("etc/z.service", Entry::Link("lib/a.service"))]);
     for row in SIZED {
-        let text = repeated(&rt, "x", row.size);
-        let entry = if row.is_link {
-            Entry::Link(text.as_str())
-        } else {
-            Entry::File(text.as_str())
-        };
-        let answer = put(&mut tree, row.path, entry);
+        let answer = put_sized(&rt, &mut tree, row);
         is_refused(&rt, answer, row.wanted, (row.path, row.size));
     }
     same(&rt, tree.len(), 4);
@@ -303,14 +315,19 @@ fn remove_is_refused_where_nothing_stands(rt: HostRuntime) {
     same(&rt, tree.len(), 0);
 }
 
+/// Asserts that a removal at this path in an empty tree is refused, and tells the path.
+fn is_no_path(rt: &(impl AllocGlobal + Abort), path: &str, size: usize) {
+    let wanted = format!(in rt.alloc(); "E12 BadPath {path}").expect(rt, "no memory");
+    let removed = Tree::new(rt.alloc()).remove(path);
+    is_refused(rt, removed, Some(wanted.as_str()), size);
+}
+
 #[test]
 fn a_removal_at_a_longer_path_than_a_name_tells_the_path(rt: HostRuntime) {
     for size in [244, 248, 60_000] {
         let name = repeated(&rt, "x", size);
         let path = format!(in rt.alloc(); "lib/{name}.service").expect(&rt, "no memory");
-        let wanted = format!(in rt.alloc(); "E12 BadPath {path}").expect(&rt, "no memory");
-        let removed = Tree::new(rt.alloc()).remove(path.as_str());
-        is_refused(&rt, removed, Some(wanted.as_str()), size);
+        is_no_path(&rt, path.as_str(), size);
     }
 }
 

@@ -17,19 +17,21 @@ fn tree_with(rt: &(impl AllocGlobal + Abort), files: &[(&str, &str)]) -> Tree {
     tree
 }
 
-/// What becomes of a unit in a tree of these files.
-fn loaded(rt: &(impl AllocGlobal + Abort), name: &str, files: &[(&str, &str)]) -> Loading {
-    load(rt.alloc(), &tree_with(rt, files), &unit(rt, name)).expect(rt, "no memory")
+/// What becomes of a unit in a tree of these files. Boxed, as it is large: the prover takes it apart, field by field, wherever it is
+/// let go.
+fn loaded(rt: &(impl AllocGlobal + Abort), name: &str, files: &[(&str, &str)]) -> Box<Loading> {
+    let loading = load(rt.alloc(), &tree_with(rt, files), &unit(rt, name)).expect(rt, "no memory");
+    Box::new(rt.alloc(), loading).expect(rt, "no memory")
 }
 
 /// What becomes of `a.service` with this text.
-fn service_of(rt: &(impl AllocGlobal + Abort), text: &str) -> Loading {
+fn service_of(rt: &(impl AllocGlobal + Abort), text: &str) -> Box<Loading> {
     loaded(rt, "a.service", &[("etc/a.service", text)])
 }
 
-/// The unit of these files.
-fn found(rt: &(impl AllocGlobal + Abort), name: &str, files: &[(&str, &str)]) -> LoadedUnit {
-    match loaded(rt, name, files) {
+/// The unit that was found.
+fn found<'l>(rt: &impl Abort, loading: &'l Loading) -> &'l LoadedUnit {
+    match loading {
         Loading::Found(unit) => unit,
         _ => panic!(rt; "the unit is not found"),
     }
@@ -138,7 +140,8 @@ fn warns_by_file(rt: &impl Abort, files: &[FileWarnings], row: &Warned) {
 #[test]
 fn each_line_is_warned_of_by_its_kind(rt: HostRuntime) {
     for row in WARNED {
-        let unit = found(&rt, row.name, row.files);
+        let loading = loaded(&rt, row.name, row.files);
+        let unit = found(&rt, loading.as_ref());
         warns_by_file(&rt, unit.warnings.as_slice(), row);
     }
 }
@@ -223,14 +226,16 @@ fn has_commands(rt: &(impl AllocGlobal + Abort), service: &ServiceSettings, row:
 #[test]
 fn the_commands_of_a_service_are_kept(rt: HostRuntime) {
     for row in COMMANDED {
-        let unit = found(&rt, row.name, row.files);
+        let loading = loaded(&rt, row.name, row.files);
+        let unit = found(&rt, loading.as_ref());
         has_commands(&rt, &unit.settings.service, row);
     }
 }
 
 #[test]
 fn the_environment_of_a_service_is_kept(rt: HostRuntime) {
-    let unit = found(&rt, "a.service", &[("etc/a.service", ECHO)]);
+    let loading = service_of(&rt, ECHO);
+    let unit = found(&rt, loading.as_ref());
     let wanted = variables_of(&rt, &[("X", "p  q")]);
     let environment = unit.settings.service.environment.as_slice();
     same_at(&rt, environment, wanted.as_slice(), "a.service");
@@ -342,7 +347,8 @@ fn keeps(rt: &impl Abort, service: &ServiceSettings, row: &Kept) {
 #[test]
 fn the_plain_settings_of_a_service_are_kept(rt: HostRuntime) {
     for row in KEPT {
-        let unit = found(&rt, row.name, row.files);
+        let loading = loaded(&rt, row.name, row.files);
+        let unit = found(&rt, loading.as_ref());
         keeps(&rt, &unit.settings.service, row);
     }
 }
@@ -440,13 +446,15 @@ fn tells(rt: &(impl AllocGlobal + Abort), unit: &LoadedUnit, row: &Told) {
 #[test]
 fn what_a_unit_tells_beside_its_service_is_kept(rt: HostRuntime) {
     for row in TOLD {
-        tells(&rt, &found(&rt, row.name, row.files), row);
+        let loading = loaded(&rt, row.name, row.files);
+        tells(&rt, found(&rt, loading.as_ref()), row);
     }
 }
 
 #[test]
 fn a_target_that_tells_no_truth_value_has_default_dependencies(rt: HostRuntime) {
-    let unit = found(&rt, "w.target", &[("lib/w.target", ILL_TARGET)]);
+    let loading = loaded(&rt, "w.target", &[("lib/w.target", ILL_TARGET)]);
+    let unit = found(&rt, loading.as_ref());
     let defaults = unit.settings.dependencies.default_dependencies;
     let got = (defaults, unit.settings.service.kind);
     same_at(&rt, got, (true, UnitKind::Target), "w.target");
@@ -502,7 +510,7 @@ const REASONS: &[(&str, Option<&str>)] = &[
 fn the_first_reason_counts(rt: HostRuntime) {
     for (text, wanted) in REASONS {
         let loading = service_of(&rt, text);
-        same_at(&rt, reason(&rt, &loading), *wanted, text);
+        same_at(&rt, reason(&rt, loading.as_ref()), *wanted, text);
     }
 }
 
@@ -525,8 +533,8 @@ fn takes_ends(rt: &impl Abort, success: &ExitSet, forces_restart: &ExitSet) {
 
 #[test]
 fn exits_are_read(rt: HostRuntime) {
-    let unit = found(&rt, "a.service", &[("etc/a.service", RESTARTS)]);
-    let service = &unit.settings.service;
+    let loading = service_of(&rt, RESTARTS);
+    let service = &found(&rt, loading.as_ref()).settings.service;
     takes_ends(&rt, &service.success, &service.forces_restart);
 }
 
@@ -541,10 +549,15 @@ fn masked(loading: &Loading) -> Option<&str> {
 #[test]
 fn a_unit_is_masked_by_an_empty_file_and_not_found_without_one(rt: HostRuntime) {
     let empty = service_of(&rt, "");
-    same_at(&rt, masked(&empty), Some("a.service"), "an empty file");
+    same_at(
+        &rt,
+        masked(empty.as_ref()),
+        Some("a.service"),
+        "an empty file",
+    );
     let lost = loaded(&rt, "a.service", &[]);
     assert!(rt;
-        matches!(lost, Loading::NotFound),
+        matches!(lost.as_ref(), Loading::NotFound),
         "a unit is found without a file"
     );
 }

@@ -2,7 +2,9 @@
 use crate::answers::{Wanted, commands_of, list, variables_of};
 use crate::asserts::same_at;
 use std::process::Abort;
-use um_words::{Command, Room, commands, is_executable_word, names, room_after, substitute, words};
+use um_words::{
+    Command, Room, Variable, commands, is_executable_word, names, room_after, substitute, words,
+};
 
 /// A text, and the words or names in it; None where it can't be read.
 struct Parted {
@@ -19,8 +21,8 @@ fn is_parted(rt: &(impl AllocGlobal + Abort), got: Option<Vec<String>>, row: &Pa
     same_at(rt, got, wanted, row.text);
 }
 
-const WORDS: &[Parted] = &[
-    // words are split at whitespace, and quoted
+/// Words are split at whitespace, and quoted.
+const SPLIT: &[Parted] = &[
     Parted {
         text: "",
         wanted: Some(&[]),
@@ -49,7 +51,10 @@ const WORDS: &[Parted] = &[
         text: "\"a b\" c\u{a0}d",
         wanted: Some(&["a b", "c\u{a0}d"]),
     },
-    // escapes are read inside quotes and outside
+];
+
+/// Escapes are read inside quotes and outside.
+const ESCAPED: &[Parted] = &[
     Parted {
         text: "\\a\\b\\f\\n\\r\\t\\v",
         wanted: Some(&["\u{7}\u{8}\u{c}\n\r\t\u{b}"]),
@@ -78,7 +83,10 @@ const WORDS: &[Parted] = &[
         text: "\\x41",
         wanted: Some(&["A"]),
     },
-    // a quote that isn't closed, and escapes that are left out
+];
+
+/// A quote that isn't closed, and escapes that are left out.
+const REFUSED: &[Parted] = &[
     Parted {
         text: "a \"b",
         wanted: None,
@@ -113,12 +121,19 @@ const WORDS: &[Parted] = &[
     },
 ];
 
+/// Asserts that the texts of the rows have the wanted words.
+fn all_are_words(rt: &(impl AllocGlobal + Abort), rows: &[Parted]) {
+    for row in rows {
+        let got: Result<_, _> = words(rt.alloc(), row.text);
+        is_parted(rt, got.expect(rt, "no memory"), row);
+    }
+}
+
 #[test]
 fn words_are_split_quoted_and_escaped(rt: HostRuntime) {
-    for row in WORDS {
-        let got: Result<_, _> = words(rt.alloc(), row.text);
-        is_parted(&rt, got.expect(&rt, "no memory"), row);
-    }
+    all_are_words(&rt, SPLIT);
+    all_are_words(&rt, ESCAPED);
+    all_are_words(&rt, REFUSED);
 }
 
 const NAMES: &[Parted] = &[
@@ -206,14 +221,24 @@ const SUBSTITUTED: &[Parted] = &[
     },
 ];
 
+/// The words of the text.
+fn words_of(rt: &(impl AllocGlobal + Abort), text: &str) -> Vec<String> {
+    let read: Result<_, _> = words(rt.alloc(), text);
+    read.expect(rt, "no memory").expect(rt, "no words")
+}
+
+/// Asserts that the words of the row become in this environment what is wanted.
+fn is_substituted(rt: &(impl AllocGlobal + Abort), environment: &[Variable], row: &Parted) {
+    let words = words_of(rt, row.text);
+    let got: Result<_, _> = substitute(rt.alloc(), &words, environment);
+    is_parted(rt, Some(got.expect(rt, "no memory")), row);
+}
+
 #[test]
 fn variables_stand_for_their_values(rt: HostRuntime) {
     let environment = variables_of(&rt, VARIABLES);
     for row in SUBSTITUTED {
-        let read: Result<_, _> = words(rt.alloc(), row.text);
-        let words = read.expect(&rt, "no memory").expect(&rt, "no words");
-        let got: Result<_, _> = substitute(rt.alloc(), &words, &environment);
-        is_parted(&rt, Some(got.expect(&rt, "no memory")), row);
+        is_substituted(&rt, &environment, row);
     }
 }
 
@@ -274,20 +299,24 @@ const COUNTED: &[Counted] = &[
     },
 ];
 
+/// How many bytes of the row's room are left, with the variables of this environment; None where it is too small.
+fn left(rt: &(impl AllocGlobal + Abort), environment: &[Variable], row: &Counted) -> Option<u32> {
+    let room = Room {
+        total: row.total,
+        longest: row.longest,
+        beside: 1,
+    };
+    let words = words_of(rt, row.text);
+    let left: Result<_, _> = room_after(rt.alloc(), room, &words, environment);
+    let left = left.expect(rt, "no memory");
+    left.map(|left| left.total)
+}
+
 #[test]
 fn the_room_of_words_is_counted_with_their_variables(rt: HostRuntime) {
     let environment = variables_of(&rt, VARIABLES);
     for row in COUNTED {
-        let read: Result<_, _> = words(rt.alloc(), row.text);
-        let words = read.expect(&rt, "no memory").expect(&rt, "no words");
-        let room = Room {
-            total: row.total,
-            longest: row.longest,
-            beside: 1,
-        };
-        let left: Result<_, _> = room_after(rt.alloc(), room, &words, &environment);
-        let left = left.expect(&rt, "no memory");
-        same_at(&rt, left.map(|left| left.total), row.wanted, row.text);
+        same_at(&rt, left(&rt, &environment, row), row.wanted, row.text);
     }
 }
 
