@@ -1,12 +1,14 @@
 //! Managers that are opened behind a crash.
 use crate::asserts::same;
 use crate::managers::{
-    DONE, InMemory, PUT, RELOAD, SHOW, START, boot, frames, has_output, new_store, over, play,
-    started,
+    DONE, InMemory, PUT, RELOAD, SHOW, START, boot, frames, has_output, new_store, over, parts_of,
+    play, started,
 };
+use crate::orders::keeper_over;
 use std::process::Abort;
-use um_children::{Call, Fate};
+use um_children::{Call, Children, Fate};
 use um_keeper::Keeper;
+use um_manager::Manager;
 use um_model::{JobMode, Moment, UnitVerb};
 use um_name::UnitName;
 use um_sector::{Disk, Fuse, MemDisk};
@@ -20,10 +22,11 @@ const LOST: &str =
 const SLEEPS: &str = "[Service]\nExecStart=/bin/sleep 9\n";
 
 /// What came of an event at moment 0: how many actions it asked for. None of them is carried out.
-fn submit(keeper: &mut Keeper<Fuse<MemDisk>>, event: Event) -> Result<usize, Refusal> {
+fn submit<D: Disk>(keeper: &mut Keeper<D>, event: Event) -> Result<usize, Refusal> {
     let mut receipt = keeper.submit(Input::new(Moment::FIRST, event))?;
     let mut count: usize = 0;
-    while let Some(_) = receipt.next_action() {
+    while let Some(handed) = receipt.next_action() {
+        drop(handed);
         count = count.saturating_add(1);
     }
     receipt.finish();
@@ -31,7 +34,7 @@ fn submit(keeper: &mut Keeper<Fuse<MemDisk>>, event: Event) -> Result<usize, Ref
 }
 
 /// Submits an event that is taken, and asserts that it asks for so many actions.
-fn take(rt: &impl Abort, keeper: &mut Keeper<Fuse<MemDisk>>, event: Event, actions: usize) {
+fn take<D: Disk>(rt: &impl Abort, keeper: &mut Keeper<D>, event: Event, actions: usize) {
     same(rt, submit(keeper, event).expect(rt, "not taken"), actions);
 }
 
@@ -44,11 +47,8 @@ fn put(rt: &(impl AllocGlobal + Abort), path: &str, text: &str) -> Event {
 
 /// The keeper in whose boot `a.service` was started, over a disk whose call of that number from now on fails; with 0 none. The order
 /// of its process was taken, and isn't carried out.
-fn with_order(rt: &(impl AllocGlobal + Abort), fails: u64) -> Keeper<Fuse<MemDisk>> {
-    let mut keeper = match Keeper::open(rt.alloc(), Fuse::new(new_store(rt), fails)) {
-        Ok(keeper) => keeper,
-        Err(_) => rt.abort(),
-    };
+fn with_order(rt: &(impl AllocGlobal + Abort), fails: u64) -> Box<Keeper<Fuse<MemDisk>>> {
+    let mut keeper = keeper_over(rt, Fuse::new(new_store(rt), fails));
     let boot = Event::Happened(Happening::Booted { boot: boot(rt) });
     take(rt, &mut keeper, boot, 0);
     take(rt, &mut keeper, put(rt, "lib/a.service", SLEEPS), 0);
@@ -64,15 +64,16 @@ fn with_order(rt: &(impl AllocGlobal + Abort), fails: u64) -> Keeper<Fuse<MemDis
 
 /// What a crash leaves within the record of two sectors behind the start: of each of them the old or the new value.
 fn left(rt: &(impl AllocGlobal + Abort), picks: &[usize]) -> MemDisk {
-    let calls = with_order(rt, 0).into_disk().calls();
+    let calls = Box::into_inner(with_order(rt, 0)).into_disk().calls();
     // the record's sync: two sectors are written before it
     let fails = calls.checked_add(3).expect(rt, "too many");
     let mut keeper = with_order(rt, fails);
     // a text of 450 bytes, whose record takes two sectors
     let text = "#".repeat(rt.alloc(), 450).expect(rt, "no memory");
     let torn = submit(&mut keeper, put(rt, "lib/b.service", text.as_str()));
-    same(rt, matches!(torn, Err(Refusal::Device)), true);
-    let disk = keeper.into_disk().into_inner();
+    same(rt, matches!(&torn, Err(Refusal::Device)), true);
+    drop(torn);
+    let disk = Box::into_inner(keeper).into_disk().into_inner();
     disk.crash(rt.alloc(), picks).expect(rt, "no memory")
 }
 
@@ -97,7 +98,7 @@ fn told_absent(rt: &impl Abort, calls: &[Call]) {
 }
 
 /// The manager that is opened behind the crash.
-fn again(rt: &(impl AllocGlobal + Abort), picks: &[usize]) -> InMemory {
+fn again(rt: &(impl AllocGlobal + Abort), picks: &[usize]) -> Box<InMemory> {
     let manager = over(rt, left(rt, picks));
     same(rt, manager.adopted(), 1);
     manager
@@ -106,30 +107,51 @@ fn again(rt: &(impl AllocGlobal + Abort), picks: &[usize]) -> InMemory {
 /// What a crash leaves of the torn record, and how many files the manager has then: that of the record is absent where the record is.
 const LEFT: &[([usize; 2], usize)] = &[([0, 0], 1), ([1, 0], 1), ([0, 1], 1), ([1, 1], 2)];
 
+/// Asserts that the manager that is opened behind the crash has so many files, and that its children were told of the order.
+fn is_lost(rt: &(impl AllocGlobal + Abort), picks: &[usize], files: usize) {
+    let manager = again(rt, picks);
+    same(rt, manager.state().tree().len(), files);
+    let (_, children) = parts_of(manager);
+    told_absent(rt, children.calls());
+}
+
+/// Asserts that these turns are answered so.
+fn answers<D: Disk, C: Children>(
+    rt: &(impl AllocGlobal + Abort),
+    manager: &mut Manager<D, C>,
+    sent: &[&[u8]],
+    replies: &[&str],
+) {
+    play(rt, manager, sent);
+    has_output(rt, manager, 0, replies);
+}
+
+/// Asserts that the manager that is opened behind the crash starts the next number.
+fn starts_next(rt: &(impl AllocGlobal + Abort), picks: &[usize]) {
+    let mut manager = again(rt, picks);
+    let requests = frames(rt, &[SHOW, START]);
+    let sent = [requests.as_slice(), &[], &[]];
+    answers(rt, &mut manager, &sent, &[LOST, DONE]);
+    same(rt, started(rt, manager).as_slice(), [2].as_slice());
+}
+
 #[test]
 fn a_start_whose_order_was_lost_with_a_crash_is_lost_and_no_number_is_started_twice(
     rt: HostRuntime,
 ) {
     for (picks, files) in LEFT {
-        let manager = again(&rt, picks);
-        same(&rt, manager.state().tree().len(), *files);
-        let (_, children) = manager.into_parts();
-        told_absent(&rt, children.calls());
-        let mut manager = again(&rt, picks);
-        let requests = frames(&rt, &[SHOW, START]);
-        play(&rt, &mut manager, &[requests.as_slice(), &[], &[]]);
-        has_output(&rt, &mut manager, 0, &[LOST, DONE]);
-        same(&rt, started(&rt, manager).as_slice(), [2].as_slice());
+        is_lost(&rt, picks, *files);
+        starts_next(&rt, picks);
     }
 }
 
 #[test]
 fn what_was_adopted_is_there_again_when_the_manager_is_opened_once_more(rt: HostRuntime) {
-    let (disk, _) = again(&rt, &[0, 1]).into_parts();
+    let (disk, _) = parts_of(again(&rt, &[0, 1]));
     let mut manager = over(&rt, disk);
     same(&rt, manager.adopted(), 0);
     let requests = frames(&rt, &[PUT, RELOAD, SHOW]);
-    play(&rt, &mut manager, &[requests.as_slice(), &[], &[], &[]]);
-    has_output(&rt, &mut manager, 0, &[DONE, DONE, LOST]);
+    let sent = [requests.as_slice(), &[], &[], &[]];
+    answers(&rt, &mut manager, &sent, &[DONE, DONE, LOST]);
     same(&rt, started(&rt, manager).is_empty(), true);
 }

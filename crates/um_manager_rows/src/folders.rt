@@ -7,7 +7,7 @@ use std::os::unix::fs::PermissionsExt;
 use std::path::PathBuf;
 use std::process::{Abort, Processes};
 use std::test::Fail;
-use std::time::{Clock, Duration};
+use std::time::{Clock, Duration, SystemTime};
 use std::{env, fs, process, thread};
 use um_children::{ChildFault, Children, End, Fate, OpenFault, RunnerDir, Signal};
 
@@ -40,54 +40,91 @@ fn holds(
     same(rt, bytes.as_slice(), wanted);
 }
 
+/// The children of a folder, in a box, which a row lets go in one call.
 fn children<'a, R: AllocGlobal + Files + Processes + Clock + Abort>(
     rt: &'a R,
     folder: &str,
-) -> RunnerDir<'a, R> {
-    RunnerDir::open(rt, rt.alloc(), "/nonexistent", folder).expect(rt, "no folder")
+) -> Box<RunnerDir<'a, R>> {
+    let children = RunnerDir::open(rt, rt.alloc(), "/nonexistent", folder).expect(rt, "no folder");
+    Box::new(rt.alloc(), children).expect(rt, "no memory")
+}
+
+/// Kills a number, which is no failure.
+fn kill<C: Children>(rt: &impl Abort, children: &mut C, n: u64) {
+    children
+        .signal(number(rt, n), Signal::Kill)
+        .expect(rt, "a failure");
+}
+
+/// Forgets a number.
+fn forget<C: Children>(rt: &impl Abort, children: &mut C, n: u64) {
+    children.forget(number(rt, n)).expect(rt, "not forgotten");
+}
+
+/// Files of another form, and what they hold.
+const ODD: &[(&str, &[u8])] = &[
+    ("1.status", b""),
+    ("2.status", b"code 256\n"),
+    ("3.status", b"signal 9"),
+    ("4.claim", b"x"),
+    ("5.pid", b"12a\n"),
+    ("8.status", b"\xff\xfe code 3\n"),
+    ("9.status", b"signal 9\n"),
+];
+
+/// Puts these files, and a long one.
+fn put_odd(rt: &(impl AllocGlobal + Files<File = File> + Abort), folder: &str) {
+    for (name, bytes) in ODD {
+        put(rt, folder, name, bytes);
+    }
+    put(rt, folder, "7.status", [b'7'; 1_000_000].as_slice());
+}
+
+/// Asserts what these files tell, and that the number whose pid is none can be killed.
+fn tell_no_error<C: Children>(rt: &impl Abort, children: &mut C) {
+    for n in [1, 2, 3, 6, 7, 8] {
+        told(rt, children, n, true, Fate::Ended(End::Lost));
+    }
+    told(rt, children, 4, true, Fate::Starting);
+    told(rt, children, 5, true, Fate::Executed);
+    told(rt, children, 9, true, Fate::Ended(End::Signal(9)));
+    kill(rt, children, 5);
 }
 
 #[test]
 fn files_of_another_form_are_never_an_error(rt: HostRuntime) -> Result<(), Fail> {
     let place = folder(&rt, "odd")?;
     let place = place.as_str();
-    put(&rt, place, "1.status", b"");
-    put(&rt, place, "2.status", b"code 256\n");
-    put(&rt, place, "3.status", b"signal 9");
-    put(&rt, place, "4.claim", b"x");
-    put(&rt, place, "5.pid", b"12a\n");
+    put_odd(&rt, place);
     fs::create_dir(&rt, format!(in rt.alloc(); "{place}/6.status")?)?;
-    put(&rt, place, "7.status", [b'7'; 1_000_000].as_slice());
-    put(&rt, place, "8.status", b"\xff\xfe code 3\n");
-    put(&rt, place, "9.status", b"signal 9\n");
     let mut children = children(&rt, place);
-    for n in [1, 2, 3, 6, 7, 8] {
-        told(&rt, &mut children, n, true, Fate::Ended(End::Lost));
-    }
-    told(&rt, &mut children, 4, true, Fate::Starting);
-    told(&rt, &mut children, 5, true, Fate::Executed);
-    told(&rt, &mut children, 9, true, Fate::Ended(End::Signal(9)));
-    children
-        .signal(number(&rt, 5), Signal::Kill)
-        .expect(&rt, "a failure");
+    tell_no_error(&rt, children.as_mut());
     same(&rt, children.failures(), 0);
     remove(&rt, place);
     Ok(())
+}
+
+/// Asserts that a number that the manager claims is absent from then on, also once it is forgotten.
+fn is_absent_for_good<C: Children>(
+    rt: &(impl AllocGlobal + Files<File = File> + Abort),
+    children: &mut C,
+    folder: &str,
+) {
+    told(rt, children, 1, false, Fate::Starting);
+    stands(rt, folder, "1.claim", false);
+    told(rt, children, 1, true, Fate::Absent);
+    holds(rt, folder, "1.claim", b"manager\n");
+    stands(rt, folder, "1.claim.manager", false);
+    forget(rt, children, 1);
+    stands(rt, folder, "1.claim", true);
+    told(rt, children, 1, true, Fate::Absent);
 }
 
 #[test]
 fn what_the_manager_claims_first_is_absent_for_good(rt: HostRuntime) -> Result<(), Fail> {
     let place = folder(&rt, "claims")?;
     let place = place.as_str();
-    let mut children = children(&rt, place);
-    told(&rt, &mut children, 1, false, Fate::Starting);
-    stands(&rt, place, "1.claim", false);
-    told(&rt, &mut children, 1, true, Fate::Absent);
-    holds(&rt, place, "1.claim", b"manager\n");
-    stands(&rt, place, "1.claim.manager", false);
-    children.forget(number(&rt, 1)).expect(&rt, "not forgotten");
-    stands(&rt, place, "1.claim", true);
-    told(&rt, &mut children, 1, true, Fate::Absent);
+    is_absent_for_good(&rt, children(&rt, place).as_mut(), place);
     remove(&rt, place);
     Ok(())
 }
@@ -119,6 +156,19 @@ fn has_none(rt: &(impl AllocGlobal + Files + Abort), folder: &str, n: u64) {
     }
 }
 
+/// Forgets both numbers, and asserts that the files of the one that ended are gone.
+fn forget_both<C: Children>(
+    rt: &(impl AllocGlobal + Files + Abort),
+    children: &mut C,
+    folder: &str,
+) {
+    forget(rt, children, 1);
+    forget(rt, children, 2);
+    has_none(rt, folder, 1);
+    stands(rt, folder, "2.claim", true);
+    stands(rt, folder, "2.pid", true);
+}
+
 #[test]
 fn a_number_that_ended_is_forgotten_with_its_files(rt: HostRuntime) -> Result<(), Fail> {
     let place = folder(&rt, "forgotten")?;
@@ -127,11 +177,7 @@ fn a_number_that_ended_is_forgotten_with_its_files(rt: HostRuntime) -> Result<()
     put_all(&rt, place, 2);
     fs::remove_file(&rt, format!(in rt.alloc(); "{place}/2.status")?)?;
     let mut children = children(&rt, place);
-    children.forget(number(&rt, 1)).expect(&rt, "not forgotten");
-    children.forget(number(&rt, 2)).expect(&rt, "not forgotten");
-    has_none(&rt, place, 1);
-    stands(&rt, place, "2.claim", true);
-    stands(&rt, place, "2.pid", true);
+    forget_both(&rt, children.as_mut(), place);
     same(&rt, children.failures(), 0);
     remove(&rt, place);
     Ok(())
@@ -141,13 +187,23 @@ fn a_number_that_ended_is_forgotten_with_its_files(rt: HostRuntime) -> Result<()
 fn running<'a, R: AllocGlobal + Files<File = File> + Processes + Clock + Abort>(
     rt: &'a R,
     place: &str,
-) -> RunnerDir<'a, R> {
+) -> Box<RunnerDir<'a, R>> {
     put(rt, place, "1.pid", b"2147483647\n");
     let mut children = children(rt, place);
-    told(rt, &mut children, 1, false, Fate::Executed);
+    told(rt, children.as_mut(), 1, false, Fate::Executed);
     thread::sleep(rt, Duration::from_millis(50));
-    told(rt, &mut children, 1, false, Fate::Executed);
+    told(rt, children.as_mut(), 1, false, Fate::Executed);
     children
+}
+
+/// The time of a folder.
+fn time_of(rt: &HostRuntime, folder: &str) -> Result<SystemTime, Fail> {
+    Ok(fs::metadata(rt, folder)?.modified()?)
+}
+
+/// Sets the time of a folder.
+fn set_time(rt: &HostRuntime, folder: &str, time: SystemTime) -> Result<(), Fail> {
+    Ok(File::open(rt, folder)?.set_modified(time)?)
 }
 
 /// The time of some folders goes on in whole seconds: it is here as before the status came.
@@ -158,14 +214,33 @@ fn an_end_is_found_within_a_second_whatever_the_time_of_the_folder_says(
     let place = folder(&rt, "coarse")?;
     let place = place.as_str();
     let mut children = running(&rt, place);
-    let time = fs::metadata(&rt, place)?.modified()?;
+    let time = time_of(&rt, place)?;
     put(&rt, place, "1.status", b"code 3\n");
-    File::open(&rt, place)?.set_modified(time)?;
+    set_time(&rt, place, time)?;
     thread::sleep(&rt, Duration::from_millis(1100));
     same(&rt, children.has_news(), true);
-    told(&rt, &mut children, 1, false, Fate::Ended(End::Code(3)));
+    told(&rt, children.as_mut(), 1, false, Fate::Ended(End::Code(3)));
     remove(&rt, place);
     Ok(())
+}
+
+/// Asserts that nothing is let go where the next number is the one whose files stand there.
+fn lets_none_go<C: Children>(rt: &impl Abort, children: &mut C) {
+    let refused = children.forget_others(&[], next(rt, 7));
+    same(rt, refused, Err(ChildFault::Device));
+}
+
+/// Asserts that no fate can be asked.
+fn tells_nothing<C: Children>(rt: &impl Abort, children: &mut C) {
+    let refused = children.fate(number(rt, 1), true);
+    same(rt, refused, Err(ChildFault::Device));
+}
+
+/// Lets all numbers go, of which the next one is 8.
+fn let_all_go<C: Children>(rt: &impl Abort, children: &mut C) {
+    children
+        .forget_others(&[], next(rt, 8))
+        .expect(rt, "not forgotten");
 }
 
 #[test]
@@ -178,16 +253,12 @@ fn files_of_a_number_that_was_never_started_are_another_stores(
     put(&rt, place, "lock", b"");
     put(&rt, place, "09.claim", b"manager\n");
     let mut children = children(&rt, place);
-    let refused = children.forget_others(&[], next(&rt, 7));
-    same(&rt, refused, Err(ChildFault::Device));
+    lets_none_go(&rt, children.as_mut());
     same(&rt, children.foreign() == Some(number(&rt, 7)), true);
     stands(&rt, place, "7.status", true);
-    let refused = children.fate(number(&rt, 1), true);
-    same(&rt, refused, Err(ChildFault::Device));
+    tells_nothing(&rt, children.as_mut());
     stands(&rt, place, "1.claim", false);
-    children
-        .forget_others(&[], next(&rt, 8))
-        .expect(&rt, "not forgotten");
+    let_all_go(&rt, children.as_mut());
     same(&rt, children.foreign().is_none(), true);
     has_none(&rt, place, 7);
     remove(&rt, place);
@@ -202,12 +273,22 @@ fn no_signal_goes_to_the_manager_itself(rt: HostRuntime) -> Result<(), Fail> {
     let text = format!(in rt.alloc(); "{own}\n")?;
     put(&rt, place, "1.pid", text.as_bytes());
     let mut children = children(&rt, place);
-    told(&rt, &mut children, 1, false, Fate::Executed);
-    children
-        .signal(number(&rt, 1), Signal::Kill)
-        .expect(&rt, "a failure");
+    told(&rt, children.as_mut(), 1, false, Fate::Executed);
+    kill(&rt, children.as_mut(), 1);
     remove(&rt, place);
     Ok(())
+}
+
+/// Whether the folder is opened; None where it is refused since others may write it.
+fn is_opened<R: AllocGlobal + Files + Processes + Clock>(rt: &R, folder: &str) -> Option<bool> {
+    let opened = RunnerDir::open(rt, rt.alloc(), "/nonexistent", folder);
+    let told = match &opened {
+        Ok(_) => Some(true),
+        Err(OpenFault::Writable) => None,
+        Err(_) => Some(false),
+    };
+    drop(opened);
+    told
 }
 
 #[test]
@@ -215,14 +296,9 @@ fn a_folder_that_others_may_write_is_refused(rt: HostRuntime) -> Result<(), Fail
     let place = folder(&rt, "open")?;
     let place = place.as_str();
     fs::set_permissions(&rt, place, Permissions::from_mode(0o770))?;
-    let opened = RunnerDir::open(&rt, rt.alloc(), "/nonexistent", place);
-    same(&rt, matches!(opened, Err(OpenFault::Writable)), true);
+    same(&rt, is_opened(&rt, place), None);
     fs::set_permissions(&rt, place, Permissions::from_mode(0o755))?;
-    same(
-        &rt,
-        RunnerDir::open(&rt, rt.alloc(), "/nonexistent", place).is_ok(),
-        true,
-    );
+    same(&rt, is_opened(&rt, place), Some(true));
     remove(&rt, place);
     Ok(())
 }

@@ -1,11 +1,12 @@
 //! Lives of managers over one store, each stopped by a crash within a turn or an opening, and the run that they are together.
 use crate::asserts::same;
 use crate::managers::{
-    DONE, PUT, RELOAD, SHOW, START, boot, frames, has_output, new_store, pieces, started,
+    DONE, PUT, RELOAD, SHOW, START, boot, frames, has_output, new_store, over_children, parts_of,
+    play, started, turns,
 };
 use std::process::Abort;
-use um_children::FakeChildren;
-use um_manager::{Manager, Step};
+use um_children::{Children, FakeChildren};
+use um_manager::Manager;
 use um_model::Moment;
 use um_sector::{Disk, Fuse, MemDisk};
 use um_wire::Refusal;
@@ -38,29 +39,8 @@ fn opened(
     disk: MemDisk,
     children: FakeChildren,
     fails: u64,
-) -> Fused {
-    let disk = Fuse::new(disk, fails);
-    match Manager::open(rt.alloc(), disk, children, boot(rt), Moment::FIRST) {
-        Ok(manager) => manager,
-        Err(_) => rt.abort(),
-    }
-}
-
-/// A turn for each of these, in which it comes of connection 0.
-fn turns(
-    rt: &(impl AllocGlobal + Abort),
-    manager: &mut Fused,
-    sent: &[&[u8]],
-) -> Result<(), Refusal> {
-    let mut steps = Vec::new(rt.alloc());
-    for bytes in sent {
-        let step = Step {
-            moment: Moment::FIRST,
-            pieces: pieces(rt, &[(0, bytes)]),
-        };
-        steps.push(step).expect(rt, "no memory");
-    }
-    manager.run_script(&steps)
+) -> Box<Fused> {
+    over_children(rt, Fuse::new(disk, fails), children)
 }
 
 /// The disk and the children once more.
@@ -80,6 +60,34 @@ fn left(rt: &(impl AllocGlobal + Abort), disk: Fuse<MemDisk>, picks: &[usize]) -
     crashed.expect(rt, "no memory")
 }
 
+/// How many calls on its disk a manager makes that is opened over a disk and children, and plays these turns.
+fn calls_of(
+    rt: &(impl AllocGlobal + Abort),
+    disk: MemDisk,
+    children: FakeChildren,
+    sent: &[&[u8]],
+) -> u64 {
+    let mut manager = opened(rt, disk, children, 0);
+    play(rt, &mut manager, sent);
+    let (disk, _) = parts_of(manager);
+    disk.calls()
+}
+
+/// Plays the turns, which are answered so, and asserts that the disk fails behind the last request.
+fn is_torn<D: Disk, C: Children>(
+    rt: &(impl AllocGlobal + Abort),
+    manager: &mut Manager<D, C>,
+    sent: &[&[u8]],
+    replies: &[&str],
+    last: &str,
+) {
+    play(rt, manager, sent);
+    has_output(rt, manager, 0, replies);
+    let torn = turns(rt, manager, &[frames(rt, &[last]).as_slice()]);
+    same(rt, matches!(&torn, Err(Refusal::Device)), true);
+    drop(torn);
+}
+
 /// A life: these requests are answered, and then the disk fails at the sync of the last one's record, of which the crash keeps what is picked.
 fn life(
     rt: &(impl AllocGlobal + Abort),
@@ -93,17 +101,12 @@ fn life(
     let sent = frames(rt, requests);
     let played = [sent.as_slice(), &[], &[], &[]];
     let (same_disk, same_children) = copies(rt, &disk, &children);
-    let mut counting = opened(rt, same_disk, same_children, 0);
-    turns(rt, &mut counting, &played).expect(rt, "refused");
-    let (counted, _) = counting.into_parts();
+    let calls = calls_of(rt, same_disk, same_children, &played);
     // a sector is written, and then synced
-    let fails = counted.calls().checked_add(2).expect(rt, "too many");
+    let fails = calls.checked_add(2).expect(rt, "too many");
     let mut manager = opened(rt, disk, children, fails);
-    turns(rt, &mut manager, &played).expect(rt, "refused");
-    has_output(rt, &mut manager, 0, replies);
-    let torn = turns(rt, &mut manager, &[frames(rt, &[last]).as_slice()]);
-    same(rt, matches!(torn, Err(Refusal::Device)), true);
-    let (disk, children) = manager.into_parts();
+    is_torn(rt, &mut manager, &played, replies, last);
+    let (disk, children) = parts_of(manager);
     (left(rt, disk, picks), children)
 }
 
@@ -116,8 +119,8 @@ fn opening(
     picks: &[usize],
 ) -> (MemDisk, FakeChildren) {
     let (same_disk, same_children) = copies(rt, &disk, &children);
-    let (counted, _) = opened(rt, same_disk, same_children, 0).into_parts();
-    let disk = Fuse::new(disk, counted.calls());
+    let calls = calls_of(rt, same_disk, same_children, &[]);
+    let disk = Fuse::new(disk, calls);
     match Manager::open(rt.alloc(), disk, children, boot(rt), Moment::FIRST) {
         Ok(_) => rt.abort(),
         Err((refusal, disk, children)) => {
@@ -127,38 +130,48 @@ fn opening(
     }
 }
 
+/// What both lives and the opening leave.
+fn lived(rt: &(impl AllocGlobal + Abort), picks: &[usize]) -> (MemDisk, FakeChildren) {
+    let children = FakeChildren::new(rt.alloc());
+    let (disk, children) = life(
+        rt,
+        new_store(rt),
+        children,
+        &[PUT, RELOAD, START],
+        &[DONE, DONE, DONE],
+        PUT_B,
+        &[1],
+    );
+    let (disk, children) = life(
+        rt,
+        disk,
+        children,
+        &[RELOAD, START_B],
+        &[DONE, DONE],
+        STOP,
+        &[0],
+    );
+    opening(rt, disk, children, picks)
+}
+
+/// Asserts that the manager has both units, and that they run.
+fn both_run<D: Disk, C: Children>(rt: &(impl AllocGlobal + Abort), manager: &mut Manager<D, C>) {
+    same(rt, manager.adopted(), 2);
+    let sent = frames(rt, &[SHOW, SHOW_B]);
+    play(rt, manager, &[sent.as_slice(), &[]]);
+    has_output(rt, manager, 0, &[A_RUNS, B_RUNS]);
+    same(rt, manager.state().tree().len(), 2);
+}
+
 /// By hand: what is kept is a put, a reload and a start, the put that wasn't answered and whose record stood there, and then a reload and a start.
 /// The stop whose record didn't stand there is none of them, and the third opening offers nothing that has an effect, whether its snapshot stood
 /// there or not. So both units run, under 1 and 2, and no number was started twice.
 #[test]
 fn three_lives_are_one_run(rt: HostRuntime) {
     for picks in &[[0], [1]] {
-        let children = FakeChildren::new(rt.alloc());
-        let (disk, children) = life(
-            &rt,
-            new_store(&rt),
-            children,
-            &[PUT, RELOAD, START],
-            &[DONE, DONE, DONE],
-            PUT_B,
-            &[1],
-        );
-        let (disk, children) = life(
-            &rt,
-            disk,
-            children,
-            &[RELOAD, START_B],
-            &[DONE, DONE],
-            STOP,
-            &[0],
-        );
-        let (disk, children) = opening(&rt, disk, children, picks);
+        let (disk, children) = lived(&rt, picks);
         let mut manager = opened(&rt, disk, children, 0);
-        same(&rt, manager.adopted(), 2);
-        let sent = frames(&rt, &[SHOW, SHOW_B]);
-        turns(&rt, &mut manager, &[sent.as_slice(), &[]]).expect(&rt, "refused");
-        has_output(&rt, &mut manager, 0, &[A_RUNS, B_RUNS]);
-        same(&rt, manager.state().tree().len(), 2);
+        both_run(&rt, &mut manager);
         same(&rt, started(&rt, manager).as_slice(), [1, 2].as_slice());
     }
 }

@@ -1,12 +1,13 @@
 //! Managers over a disk and children in memory, and what is sent to them.
 use crate::asserts::same;
 use std::process::Abort;
-use um_children::{Call, FakeChildren};
+use um_children::{Call, Children, FakeChildren};
 use um_keeper::create;
 use um_manager::{Connection, Manager, Piece, Pieces, Step};
 use um_model::{Layout, Moment};
 use um_sector::{Disk, MemDisk};
 use um_state::BootId;
+use um_wire::Refusal;
 
 /// A manager in memory.
 pub type InMemory = Manager<MemDisk, FakeChildren>;
@@ -41,21 +42,26 @@ pub fn new_store(rt: &(impl AllocGlobal + Abort)) -> MemDisk {
     disk
 }
 
-/// The manager that is opened over a disk, with these children.
-pub fn over_children(
+/// The manager that is opened over a disk, with these children, in a box, which a row lets go in one call.
+pub fn over_children<D: Disk, C: Children>(
     rt: &(impl AllocGlobal + Abort),
-    disk: MemDisk,
-    children: FakeChildren,
-) -> InMemory {
+    disk: D,
+    children: C,
+) -> Box<Manager<D, C>> {
     match Manager::open(rt.alloc(), disk, children, boot(rt), Moment::FIRST) {
-        Ok(manager) => manager,
+        Ok(manager) => Box::new(rt.alloc(), manager).expect(rt, "no memory"),
         Err(_) => rt.abort(),
     }
 }
 
 /// The manager that is opened over a disk, with children of which none was started.
-pub fn over(rt: &(impl AllocGlobal + Abort), disk: MemDisk) -> InMemory {
+pub fn over<D: Disk>(rt: &(impl AllocGlobal + Abort), disk: D) -> Box<Manager<D, FakeChildren>> {
     over_children(rt, disk, FakeChildren::new(rt.alloc()))
+}
+
+/// The disk and the children of a manager.
+pub fn parts_of<D: Disk, C: Children>(manager: Box<Manager<D, C>>) -> (D, C) {
+    Box::into_inner(manager).into_parts()
 }
 
 /// The frames of these texts, each behind its length in four bytes, the highest first.
@@ -84,23 +90,49 @@ pub fn pieces(rt: &(impl AllocGlobal + Abort), sent: &[(usize, &[u8])]) -> Piece
     pieces
 }
 
-/// Plays a turn for each of these, in which it comes of connection 0.
-pub fn play(rt: &(impl AllocGlobal + Abort), manager: &mut InMemory, turns: &[&[u8]]) {
+/// The turns in each of which one of these comes of connection 0.
+fn steps(rt: &(impl AllocGlobal + Abort), sent: &[&[u8]]) -> Vec<Step> {
     let mut steps = Vec::new(rt.alloc());
-    for bytes in turns {
+    for bytes in sent {
         let step = Step {
             moment: Moment::FIRST,
             pieces: pieces(rt, &[(0, bytes)]),
         };
         steps.push(step).expect(rt, "no memory");
     }
-    manager.run_script(&steps).expect(rt, "refused");
+    steps
+}
+
+/// A turn for each of these, in which it comes of connection 0.
+pub fn turns<D: Disk, C: Children>(
+    rt: &(impl AllocGlobal + Abort),
+    manager: &mut Manager<D, C>,
+    sent: &[&[u8]],
+) -> Result<(), Refusal> {
+    manager.run_script(&steps(rt, sent))
+}
+
+/// Plays a turn for each of these, in which it comes of connection 0.
+pub fn play<D: Disk, C: Children>(
+    rt: &(impl AllocGlobal + Abort),
+    manager: &mut Manager<D, C>,
+    sent: &[&[u8]],
+) {
+    turns(rt, manager, sent).expect(rt, "refused");
+}
+
+/// A turn in which this comes.
+pub fn turn<D: Disk, C: Children>(
+    manager: &mut Manager<D, C>,
+    sent: &Pieces,
+) -> Result<(), Refusal> {
+    manager.turn(Moment::FIRST, sent)
 }
 
 /// Asserts that just the frames of these texts were put out for a connection, and that its session hasn't failed.
-pub fn has_output<D: Disk>(
+pub fn has_output<D: Disk, C: Children>(
     rt: &(impl AllocGlobal + Abort),
-    manager: &mut Manager<D, FakeChildren>,
+    manager: &mut Manager<D, C>,
     number: usize,
     wanted: &[&str],
 ) {
@@ -110,17 +142,22 @@ pub fn has_output<D: Disk>(
     same(rt, output.failed, false);
 }
 
-/// The numbers that were started, in their order.
-pub fn started<D: Disk + Drop>(
-    rt: &(impl AllocGlobal + Abort),
-    manager: Manager<D, FakeChildren>,
-) -> Vec<u64> {
-    let (_, children) = manager.into_parts();
+/// The numbers that these calls start, in their order.
+fn numbers(rt: &(impl AllocGlobal + Abort), calls: &[Call]) -> Vec<u64> {
     let mut numbers = Vec::new(rt.alloc());
-    for call in children.calls() {
+    for call in calls {
         if let Call::Spawned { number, .. } = call {
             numbers.push(number.get()).expect(rt, "no memory");
         }
     }
     numbers
+}
+
+/// The numbers that were started, in their order.
+pub fn started<D: Disk + Drop>(
+    rt: &(impl AllocGlobal + Abort),
+    manager: Box<Manager<D, FakeChildren>>,
+) -> Vec<u64> {
+    let (_, children) = parts_of(manager);
+    numbers(rt, children.calls())
 }

@@ -5,7 +5,7 @@ use um_children::{Children, Fate};
 use um_keeper::{Handed, Keeper, Receipt, SpawnOrder, create};
 use um_model::{JobMode, Layout, Moment, NextNumber, ProcessNumber, UnitVerb};
 use um_name::UnitName;
-use um_sector::MemDisk;
+use um_sector::{Disk, MemDisk};
 use um_state::{Command, Event, Input};
 
 pub fn number(rt: &impl Abort, n: u64) -> ProcessNumber {
@@ -22,14 +22,27 @@ pub fn told<C: Children>(rt: &impl Abort, children: &mut C, n: u64, claim: bool,
     same_at(rt, children.fate(number(rt, n), claim), Ok(wanted), n);
 }
 
+/// The keeper that is opened over a disk, in a box, which a row lets go in one call.
+pub fn keeper_over<D: Disk>(rt: &(impl AllocGlobal + Abort), disk: D) -> Box<Keeper<D>> {
+    match Keeper::open(rt.alloc(), disk) {
+        Ok(keeper) => Box::new(rt.alloc(), keeper).expect(rt, "no memory"),
+        Err(_) => rt.abort(),
+    }
+}
+
 /// The keeper of a new store in memory, with room for a unit of 64 kB.
-fn keeper(rt: &(impl AllocGlobal + Abort)) -> Keeper<MemDisk> {
+fn keeper(rt: &(impl AllocGlobal + Abort)) -> Box<Keeper<MemDisk>> {
     let mut disk = MemDisk::new(rt.alloc(), 1_537).expect(rt, "no memory");
     let layout = Layout::new(512, 512).expect(rt, "no layout");
     create(rt.alloc(), &mut disk, layout).expect(rt, "not created");
-    match Keeper::open(rt.alloc(), disk) {
-        Ok(keeper) => keeper,
-        Err(_) => rt.abort(),
+    keeper_over(rt, disk)
+}
+
+/// The order that was handed out, if it is one.
+fn spawn_in(handed: Handed) -> Option<SpawnOrder> {
+    match handed {
+        Handed::Spawn(spawn) => Some(spawn),
+        Handed::Signal { .. } => None,
     }
 }
 
@@ -37,7 +50,8 @@ fn keeper(rt: &(impl AllocGlobal + Abort)) -> Keeper<MemDisk> {
 fn order_in(mut receipt: Receipt) -> Option<SpawnOrder> {
     let mut order = None;
     while let Some(handed) = receipt.next_action() {
-        if let Handed::Spawn(spawn) = handed {
+        if let Some(spawn) = spawn_in(handed) {
+            drop(order);
             order = Some(spawn);
         }
     }
@@ -46,7 +60,7 @@ fn order_in(mut receipt: Receipt) -> Option<SpawnOrder> {
 }
 
 /// What came of a command at moment 0 that is accepted: its order, if any.
-fn take(rt: &impl Abort, keeper: &mut Keeper<MemDisk>, command: Command) -> Option<SpawnOrder> {
+fn take<D: Disk>(rt: &impl Abort, keeper: &mut Keeper<D>, command: Command) -> Option<SpawnOrder> {
     let input = Input::new(Moment::FIRST, Event::Commanded(command));
     order_in(keeper.submit(input).expect(rt, "not taken"))
 }
@@ -57,8 +71,8 @@ pub fn order(rt: &(impl AllocGlobal + Abort), lines: &str) -> SpawnOrder {
     let mut keeper = keeper(rt);
     let path = String::from_str(alloc, "lib/a.service").expect(rt, "no memory");
     let text = format!(in alloc; "[Service]\n{lines}\n").expect(rt, "no memory");
-    take(rt, &mut keeper, Command::PutFile { path, text });
-    take(rt, &mut keeper, Command::DaemonReload);
+    drop(take(rt, &mut keeper, Command::PutFile { path, text }));
+    drop(take(rt, &mut keeper, Command::DaemonReload));
     let start = Command::ForUnit {
         verb: UnitVerb::Start,
         unit: UnitName::parse(alloc, "a.service").expect(rt, "no unit"),

@@ -3,13 +3,16 @@ use crate::asserts::same;
 use crate::gates::{add_client, new_gate, what_was_taken};
 use crate::managers;
 use crate::managers::{
-    InMemory, PUT, RELOAD, SHOW, START, frames, has_output, new_store, over, over_children, play,
+    InMemory, PUT, RELOAD, SHOW, START, frames, has_output, new_store, over, over_children,
+    parts_of, play,
 };
 use crate::orders::number;
 use std::process::Abort;
-use um_children::{End, FakeChildren};
-use um_gate::{FakeGate, FakeMoments, Note};
+use um_children::{Children, End, FakeChildren};
+use um_gate::{FakeGate, FakeMoments, Gate, Moments, Note};
+use um_manager::Manager;
 use um_model::Moment;
+use um_sector::Disk;
 use um_serve::{Buffered, rounds_join, serve};
 
 /// Requests of two clients: to load the tree, and to list the jobs.
@@ -22,34 +25,55 @@ const DONE: &[u8] = b"\x00\x00\x00\x0b{\"ok\":true}";
 
 const NONE: &[u8] = b"\x00\x00\x00\x16{\"ok\":true,\"value\":[]}";
 
+/// A gate, in a box, before its first round.
+fn buffered<G: Gate + Drop>(rt: &(impl AllocGlobal + Abort), gate: G) -> Box<Buffered<G>> {
+    let buffered = Buffered::new(rt.alloc(), gate).expect(rt, "no memory");
+    Box::new(rt.alloc(), buffered).expect(rt, "no memory")
+}
+
+/// So many rounds of a manager over a gate, and whether the last one was busy.
+fn rounds<D: Disk, C: Children, G: Gate, M: Moments>(
+    rt: &impl Abort,
+    manager: &mut Manager<D, C>,
+    gate: &mut Buffered<G>,
+    clock: &mut M,
+    limit: usize,
+) -> bool {
+    serve(manager, gate, clock, limit).expect(rt, "refused");
+    gate.was_busy()
+}
+
 /// A gate, a manager of a new store and a clock, all in memory.
 #[derive(Drop)]
 struct Served {
-    gate: Buffered<FakeGate>,
-    manager: InMemory,
+    gate: Box<Buffered<FakeGate>>,
+    manager: Box<InMemory>,
     clock: FakeMoments,
 }
 
-impl Served {
-    /// What this manager serves over this gate.
-    fn of(rt: &(impl AllocGlobal + Abort), gate: FakeGate, manager: InMemory) -> Served {
-        Served {
-            gate: Buffered::new(rt.alloc(), gate).expect(rt, "no memory"),
-            manager,
-            clock: FakeMoments::new(rt.alloc(), Moment::FIRST, 1),
-        }
+/// What this manager serves over this gate.
+fn served_by(rt: &(impl AllocGlobal + Abort), gate: FakeGate, manager: Box<InMemory>) -> Served {
+    Served {
+        gate: buffered(rt, gate),
+        manager,
+        clock: FakeMoments::new(rt.alloc(), Moment::FIRST, 1),
     }
+}
 
-    /// What is served over this gate.
-    fn over(rt: &(impl AllocGlobal + Abort), gate: FakeGate) -> Served {
-        Served::of(rt, gate, over(rt, new_store(rt)))
-    }
+/// What is served over this gate.
+fn served_over(rt: &(impl AllocGlobal + Abort), gate: FakeGate) -> Served {
+    served_by(rt, gate, over(rt, new_store(rt)))
+}
 
-    /// Serves so many rounds, and tells whether the last one was busy.
-    fn serve(&mut self, rt: &(impl AllocGlobal + Abort), limit: usize) -> bool {
-        serve(&mut self.manager, &mut self.gate, &mut self.clock, limit).expect(rt, "refused");
-        self.gate.was_busy()
-    }
+/// Serves so many rounds, and tells whether the last one was busy.
+fn serve_rounds(rt: &impl Abort, served: &mut Served, limit: usize) -> bool {
+    rounds(
+        rt,
+        &mut served.manager,
+        &mut served.gate,
+        &mut served.clock,
+        limit,
+    )
 }
 
 /// A gate with two clients that take few bytes of a write.
@@ -78,8 +102,8 @@ const ROUNDS: &[(usize, bool, &[u8], &[u8])] = &[
 #[test]
 fn clients_that_take_few_bytes_get_their_own_replies(rt: HostRuntime) {
     for (count, is_busy, first, second) in ROUNDS {
-        let mut served = Served::over(&rt, two_clients(&rt));
-        same(&rt, served.serve(&rt, *count), *is_busy);
+        let mut served = served_over(&rt, two_clients(&rt));
+        same(&rt, serve_rounds(&rt, &mut served, *count), *is_busy);
         have(&rt, &served.gate.gate, first, second);
     }
 }
@@ -91,12 +115,12 @@ const CALLS: &[&[usize]] = &[&[4, 5], &[3, 0, 6], &[1, 1, 1, 1, 1, 1, 1, 1, 1]];
 fn serving_again_and_again_is_serving_once(rt: HostRuntime) {
     // the law that this shows
     rounds_join();
-    let mut once = Served::over(&rt, two_clients(&rt));
-    once.serve(&rt, 9);
+    let mut once = served_over(&rt, two_clients(&rt));
+    serve_rounds(&rt, &mut once, 9);
     for calls in CALLS {
-        let mut served = Served::over(&rt, two_clients(&rt));
+        let mut served = served_over(&rt, two_clients(&rt));
         for count in *calls {
-            served.serve(&rt, *count);
+            serve_rounds(&rt, &mut served, *count);
         }
         have(&rt, &served.gate.gate, DONE, NONE);
         same(&rt, served.gate.was_busy(), once.gate.was_busy());
@@ -110,16 +134,16 @@ fn serving_again_and_again_is_serving_once(rt: HostRuntime) {
 fn a_round_whose_accept_fails_serves_those_that_are_there(rt: HostRuntime) {
     let mut gate = two_clients(&rt);
     gate.fuse(2);
-    let mut served = Served::over(&rt, gate);
+    let mut served = served_over(&rt, gate);
     // the second round takes nobody, and hands three bytes more to the first client
-    served.serve(&rt, 2);
+    serve_rounds(&rt, &mut served, 2);
     have(&rt, &served.gate.gate, &DONE[..6], b"");
-    served.serve(&rt, 9);
+    serve_rounds(&rt, &mut served, 9);
     have(&rt, &served.gate.gate, DONE, NONE);
 }
 
 /// The manager in which `a.service` was put, loaded and started. Its process is over once it was started, and nobody has asked for it yet.
-fn with_process(rt: &(impl AllocGlobal + Abort)) -> InMemory {
+fn with_process(rt: &(impl AllocGlobal + Abort)) -> Box<InMemory> {
     let mut children = FakeChildren::new(rt.alloc());
     children
         .ends(number(rt, 1), End::Code(0))
@@ -133,8 +157,8 @@ fn with_process(rt: &(impl AllocGlobal + Abort)) -> InMemory {
 }
 
 /// How many processes are live in the store that a manager leaves.
-fn live_processes(rt: &(impl AllocGlobal + Abort), manager: InMemory) -> usize {
-    let (disk, _) = manager.into_parts();
+fn live_processes(rt: &(impl AllocGlobal + Abort), manager: Box<InMemory>) -> usize {
+    let (disk, _) = parts_of(manager);
     over(rt, disk).adopted()
 }
 
@@ -144,15 +168,15 @@ const ENDED: &str =
 
 /// Serves three rounds to a client that takes so many bytes of a write, one that holds back the last byte of its request, and one that asks
 /// to be shown `a.service`. Asserts that the last one has its reply, and the other two have these bytes and none.
-fn three_rounds(rt: &(impl AllocGlobal + Abort), limit: usize, first: &[u8]) -> InMemory {
+fn three_rounds(rt: &(impl AllocGlobal + Abort), limit: usize, first: &[u8]) -> Box<InMemory> {
     let mut gate = new_gate(rt);
     let (front, _) = LOADS.split_at(LOADS.len() - 1);
     add_client(rt, &mut gate, 0, LISTS, limit);
     add_client(rt, &mut gate, 1, front, 4096);
     let asks = frames(rt, &[SHOW]);
     add_client(rt, &mut gate, 2, asks.as_slice(), 4096);
-    let mut served = Served::of(rt, gate, with_process(rt));
-    served.serve(rt, 3);
+    let mut served = served_by(rt, gate, with_process(rt));
+    serve_rounds(rt, &mut served, 3);
     let shown = frames(rt, &[ENDED]);
     for (number, wanted) in [(0, first), (1, b"".as_slice()), (2, shown.as_slice())] {
         let got = what_was_taken(rt, &served.gate.gate, number);
@@ -202,9 +226,9 @@ fn nothing_is_read_of_a_client_while_a_whole_request_of_it_waits(rt: HostRuntime
     let third = Vec::from_slice(rt.alloc(), LISTS).expect(&rt, "no memory");
     let parts = vec![in rt.alloc(); both, third].expect(&rt, "no memory");
     gate.client(0, parts, false, 4096).expect(&rt, "no memory");
-    let mut served = Served::over(&rt, gate);
+    let mut served = served_over(&rt, gate);
     for (most, count, is_busy) in ONE_BY_ONE {
-        same(&rt, served.serve(&rt, 1), *is_busy);
+        same(&rt, serve_rounds(&rt, &mut served, 1), *is_busy);
         same(&rt, last_read(&served.gate.gate), Some(*most));
         let got = what_was_taken(&rt, &served.gate.gate, 0);
         same(&rt, got.bytes.len(), *count);

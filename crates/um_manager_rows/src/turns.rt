@@ -1,9 +1,10 @@
 //! Turns in which many connections send commands.
 use crate::asserts::same;
-use crate::managers::{DONE, InMemory, frames, has_output, new_store, over};
+use crate::managers::{DONE, InMemory, frames, has_output, new_store, over, parts_of, turn};
 use std::process::Abort;
-use um_manager::{Connection, Piece, Pieces};
-use um_model::Moment;
+use um_children::Children;
+use um_manager::{Connection, Manager, Piece, Pieces};
+use um_sector::Disk;
 
 /// A request that puts an empty file, another one for each number.
 fn put_of(rt: &(impl AllocGlobal + Abort), number: usize) -> String {
@@ -31,20 +32,25 @@ fn all_put(rt: &(impl AllocGlobal + Abort)) -> Pieces {
 }
 
 /// The number of syncs of its disk.
-fn syncs(manager: InMemory) -> usize {
-    let (disk, _) = manager.into_parts();
+fn syncs(manager: Box<InMemory>) -> usize {
+    let (disk, _) = parts_of(manager);
     disk.syncs()
+}
+
+/// Asserts that a turn puts the file of each connection.
+fn puts_all<D: Disk, C: Children>(rt: &(impl AllocGlobal + Abort), manager: &mut Manager<D, C>) {
+    let sent = all_put(rt);
+    turn(manager, &sent).expect(rt, "refused");
+    for number in 0..64 {
+        has_output(rt, manager, number, &[DONE]);
+    }
+    same(rt, manager.state().tree().len(), 64);
 }
 
 #[test]
 fn the_commands_of_a_turn_share_a_sync(rt: HostRuntime) {
     let before = syncs(over(&rt, new_store(&rt)));
     let mut manager = over(&rt, new_store(&rt));
-    let sent = all_put(&rt);
-    manager.turn(Moment::FIRST, &sent).expect(&rt, "refused");
-    for number in 0..64 {
-        has_output(&rt, &mut manager, number, &[DONE]);
-    }
-    same(&rt, manager.state().tree().len(), 64);
+    puts_all(&rt, &mut manager);
     same(&rt, Some(syncs(manager)), before.checked_add(1));
 }

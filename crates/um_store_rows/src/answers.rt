@@ -10,13 +10,14 @@ pub fn is_refused<T: Drop>(
     answer: Result<T, Refusal>,
     wanted: &str,
 ) {
-    match answer {
+    match &answer {
         Ok(_) => same(rt, None, Some(wanted)),
         Err(refusal) => {
             let printed = refusal.to_string(rt.alloc()).expect(rt, "no memory");
             same(rt, Some(printed.as_str()), Some(wanted));
         }
     }
+    drop(answer);
 }
 
 /// Asserts that the disk failed the call, which a request is refused for by the number of a device.

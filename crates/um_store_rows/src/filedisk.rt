@@ -135,15 +135,20 @@ fn remove(rt: &(impl Files + Abort), path: &str) {
     fs::remove_file(rt, path).expect(rt, "not removed");
 }
 
+/// Marks the second sector of a disk, and asserts that it has three.
+fn mark_second<D: Disk>(rt: &(impl AllocGlobal + Abort), disk: &mut D) {
+    has_sectors(rt, disk, 3);
+    begins(rt, disk, 2, Some(0));
+    mark(rt, disk, 1);
+    sync(rt, disk);
+    takes_no_write(rt, disk, 3);
+    begins(rt, disk, 3, None);
+}
+
 /// Makes a disk of three sectors, and marks the second.
 fn make_and_mark(rt: &(impl AllocGlobal + Files<File = File> + Abort), path: &str) {
     let mut disk = created(rt, path, 3);
-    has_sectors(rt, &disk, 3);
-    begins(rt, &mut disk, 2, Some(0));
-    mark(rt, &mut disk, 1);
-    sync(rt, &mut disk);
-    takes_no_write(rt, &mut disk, 3);
-    begins(rt, &mut disk, 3, None);
+    mark_second(rt, &mut disk);
     has_counts(rt, &disk, 5, 2);
 }
 
@@ -297,15 +302,20 @@ fn make_alone(rt: &(impl AllocGlobal + Files<File = File> + Abort), path: &str) 
     drop(made);
 }
 
+/// Asserts that the second of its two sectors is read, and takes no write.
+fn keeps_mark<D: Disk>(rt: &(impl AllocGlobal + Abort), disk: &mut D) {
+    has_sectors(rt, disk, 2);
+    begins(rt, disk, 1, Some(8));
+    takes_no_write(rt, disk, 1);
+    begins(rt, disk, 1, Some(8));
+}
+
 /// Reads that disk alone: it is read by others meanwhile, and isn't opened.
 fn read_alone(rt: &(impl AllocGlobal + Files<File = File> + Abort), path: &str) {
     let mut disk = FileDisk::open_read_only(rt, path).expect(rt, "no disk");
     says_opened(rt, path, Some(IN_USE));
     says_read_only(rt, path, None);
-    has_sectors(rt, &disk, 2);
-    begins(rt, &mut disk, 1, Some(8));
-    takes_no_write(rt, &mut disk, 1);
-    begins(rt, &mut disk, 1, Some(8));
+    keeps_mark(rt, &mut disk);
     has_counts(rt, &disk, 3, 1);
 }
 
@@ -336,29 +346,29 @@ fn has_length(rt: &(impl Files + Abort), path: &str, wanted: u64) {
 }
 
 /// Asserts that a disk over two sectors and a part of a third has the two.
-fn has_two<R: AllocGlobal + Files<File = File> + Abort>(rt: &R, disk: &mut FileDisk<'_, R>) {
+fn has_two<D: Disk>(rt: &(impl AllocGlobal + Abort), disk: &mut D) {
     has_sectors(rt, disk, 2);
     begins(rt, disk, 1, Some(5));
     begins(rt, disk, 2, None);
     takes_no_write(rt, disk, 2);
-    same(rt, disk.failures(), 2);
 }
 
 /// Asserts that it has one of them once the file is cut inside the other.
-fn has_one<R: Files<File = File> + Abort>(rt: &R, disk: &mut FileDisk<'_, R>) {
+fn has_one<D: Disk>(rt: &impl Abort, disk: &mut D) {
     has_sectors(rt, disk, 2);
     begins(rt, disk, 1, None);
     begins(rt, disk, 0, Some(5));
-    has_counts(rt, disk, 5, 3);
 }
 
 /// Opens a file of two sectors and a part of a third, which is cut meanwhile.
 fn open_and_cut(rt: &(impl AllocGlobal + Files<File = File> + Abort), path: &str) {
     let mut disk = opened(rt, path);
     has_two(rt, &mut disk);
+    same(rt, disk.failures(), 2);
     has_length(rt, path, 1535);
     cut(rt, path, 1000);
     has_one(rt, &mut disk);
+    has_counts(rt, &disk, 5, 3);
 }
 
 #[test]
@@ -381,21 +391,31 @@ fn rename(rt: &(impl Files + Abort), from: &str, to: &str) {
     fs::rename(rt, from, to).expect(rt, "not moved");
 }
 
+/// Moves the file of a disk away, replaces it, moves it back, and cuts it; asserts that the disk takes nothing meanwhile.
+fn move_and_cut<D: Disk>(
+    rt: &(impl AllocGlobal + Files<File = File> + Abort),
+    disk: &mut D,
+    path: &str,
+    moved: &str,
+) {
+    // moved away, with another file in its place
+    rename(rt, path, moved);
+    takes_nothing(rt, disk);
+    fs::write(rt, path, [0; 1024]).expect(rt, "not written");
+    takes_nothing(rt, disk);
+    // and back
+    rename(rt, moved, path);
+    sync(rt, disk);
+    // a sector shorter
+    cut(rt, path, 1023);
+    takes_nothing(rt, disk);
+}
+
 /// Asserts that a disk takes nothing whose file is moved away, replaced, or cut.
 fn is_gone(rt: &(impl AllocGlobal + Files<File = File> + Abort), path: &str, moved: &str) {
     let mut disk = created(rt, path, 2);
     mark(rt, &mut disk, 0);
-    // moved away, with another file in its place
-    rename(rt, path, moved);
-    takes_nothing(rt, &mut disk);
-    fs::write(rt, path, [0; 1024]).expect(rt, "not written");
-    takes_nothing(rt, &mut disk);
-    // and back
-    rename(rt, moved, path);
-    sync(rt, &mut disk);
-    // a sector shorter
-    cut(rt, path, 1023);
-    takes_nothing(rt, &mut disk);
+    move_and_cut(rt, &mut disk, path, moved);
     has_counts(rt, &disk, 8, 6);
 }
 

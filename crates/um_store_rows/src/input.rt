@@ -7,7 +7,10 @@ use um_state::{BootId, Command, Event, Happening, Input};
 use um_tree::Tree;
 use um_wire::spell;
 
-/// A command, or what happens, by its texts; its unit is `a.service`.
+/// The unit of each command for one.
+const UNIT: &str = "a.service";
+
+/// A command, or what happens, by its texts.
 enum Coming {
     PutFile(&'static str, &'static str),
     PutLink(&'static str, &'static str),
@@ -26,7 +29,6 @@ enum Coming {
 
 /// The command; None for what happens.
 fn command(rt: &(impl AllocGlobal + Abort), coming: &Coming) -> Option<Command> {
-    let unit = unit(rt, "a.service");
     let command = match coming {
         Coming::PutFile(path, content) => Command::PutFile {
             path: text(rt, path),
@@ -42,13 +44,20 @@ fn command(rt: &(impl AllocGlobal + Abort), coming: &Coming) -> Option<Command> 
         Coming::DaemonReload => Command::DaemonReload,
         Coming::ForUnit(verb, mode) => Command::ForUnit {
             verb: *verb,
-            unit,
+            unit: unit(rt, UNIT),
             mode: *mode,
         },
-        Coming::Cancel => Command::Cancel { unit },
-        Coming::ResetFailed => Command::ResetFailed { unit: Some(unit) },
+        Coming::Cancel => Command::Cancel {
+            unit: unit(rt, UNIT),
+        },
+        Coming::ResetFailed => Command::ResetFailed {
+            unit: Some(unit(rt, UNIT)),
+        },
         Coming::ResetAllFailed => Command::ResetFailed { unit: None },
-        Coming::Install(verb) => Command::Install { verb: *verb, unit },
+        Coming::Install(verb) => Command::Install {
+            verb: *verb,
+            unit: unit(rt, UNIT),
+        },
         _ => return None,
     };
     Some(command)
@@ -138,17 +147,44 @@ const INPUTS: &[(Coming, &str)] = &[
     (Coming::Booted("b1"), "01 12 000000000010c8e0 00000002 6231"),
 ];
 
+/// The event.
+fn event(rt: &(impl AllocGlobal + Abort), coming: &Coming) -> Event {
+    match command(rt, coming) {
+        Some(command) => Event::Commanded(command),
+        None => Event::Happened(happening(rt, coming)),
+    }
+}
+
+/// Asserts that the event at 1,100,000 is spelled by these bytes.
+fn is_input(rt: &(impl AllocGlobal + Abort), coming: &Coming, bytes: &str) {
+    let moment = Moment::new(1_100_000).expect(rt, "no moment");
+    let input = Input::new(moment, event(rt, coming));
+    is_spelled(rt, &input, hex(rt, bytes).as_slice());
+    drop(input);
+}
+
 #[test]
 fn inputs_are_spelled_by_their_tags(rt: HostRuntime) {
-    let moment = Moment::new(1_100_000).expect(&rt, "no moment");
     for (coming, bytes) in INPUTS {
-        let event = match command(&rt, coming) {
-            Some(command) => Event::Commanded(command),
-            None => Event::Happened(happening(&rt, coming)),
-        };
-        let input = Input::new(moment, event);
-        is_spelled(&rt, &input, hex(&rt, bytes).as_slice());
+        is_input(&rt, coming, bytes);
     }
+}
+
+/// Asserts that a tree takes the file.
+fn is_accepted(rt: &(impl AllocGlobal + Abort), path: &str, text: &str) {
+    let mut tree = Tree::new(rt.alloc());
+    let accepted: Result<_, _> = tree.put(path, text);
+    accepted.expect(rt, "no file");
+    drop(tree);
+}
+
+/// How many bytes spell the event at 1,100,000.
+fn length_of(rt: &(impl AllocGlobal + Abort), event: Event) -> usize {
+    let moment = Moment::new(1_100_000).expect(rt, "no moment");
+    let input = Input::new(moment, event);
+    let bytes = spell(rt.alloc(), &input).expect(rt, "no memory");
+    drop(input);
+    bytes.len()
 }
 
 #[test]
@@ -157,13 +193,9 @@ fn the_longest_input_that_is_accepted_has_66078_bytes(rt: HostRuntime) {
     let path = format!(in rt.alloc(); "etc/{unit}.service.requires/{unit}.service");
     let path = path.expect(&rt, "no memory");
     let text = "a".repeat(rt.alloc(), 65_536).expect(&rt, "no memory");
-    let mut tree = Tree::new(rt.alloc());
-    let accepted: Result<_, _> = tree.put(path.as_str(), text.as_str());
-    accepted.expect(&rt, "no file");
+    is_accepted(&rt, path.as_str(), text.as_str());
     let put = Event::Commanded(Command::PutFile { path, text });
-    let moment = Moment::new(1_100_000).expect(&rt, "no moment");
-    let bytes = spell(rt.alloc(), &Input::new(moment, put)).expect(&rt, "no memory");
-    same(&rt, bytes.len(), 66_078);
+    same(&rt, length_of(&rt, put), 66_078);
 }
 
 /// What is no input, and why.

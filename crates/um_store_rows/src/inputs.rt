@@ -34,9 +34,10 @@ pub fn put_long(rt: &(impl AllocGlobal + Abort), path: &str, length: usize) -> I
 pub fn starts(mut receipt: Receipt) -> usize {
     let mut starts: usize = 0;
     while let Some(handed) = receipt.next_action() {
-        if let Handed::Spawn(_) = handed {
+        if let Handed::Spawn(_) = &handed {
             starts = starts.saturating_add(1);
         }
+        drop(handed);
     }
     receipt.finish();
     starts

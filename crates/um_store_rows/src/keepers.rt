@@ -1,5 +1,5 @@
 //! Keepers over disks in memory, what a crash leaves of them, and the calls that they make.
-use crate::answers::sector_at;
+use crate::answers::{is_refused, sector_at};
 use crate::asserts::same;
 use std::process::Abort;
 use um_keeper::{Keeper, create};
@@ -23,12 +23,23 @@ pub fn made(rt: &(impl AllocGlobal + Abort)) -> MemDisk {
     disk
 }
 
-/// The keeper that is opened over a disk.
-pub fn over<D: Disk>(rt: &(impl AllocGlobal + Abort), disk: D) -> Keeper<D> {
+/// The keeper that is opened over a disk, in a box, which a row lets go in one call.
+pub fn over<D: Disk>(rt: &(impl AllocGlobal + Abort), disk: D) -> Box<Keeper<D>> {
     match Keeper::open(rt.alloc(), disk) {
-        Ok(keeper) => keeper,
+        Ok(keeper) => Box::new(rt.alloc(), keeper).expect(rt, "no memory"),
         Err(_) => rt.abort(),
     }
+}
+
+/// The disk of a keeper.
+pub fn disk_of<D: Disk>(keeper: Box<Keeper<D>>) -> D {
+    Box::into_inner(keeper).into_disk()
+}
+
+/// Asserts that a checkpoint fails, and that another one wants the store opened again.
+pub fn fails_checkpoints<D: Disk>(rt: &(impl AllocGlobal + Abort), keeper: &mut Keeper<D>) {
+    is_refused(rt, keeper.checkpoint(), "E16 Device");
+    is_refused(rt, keeper.checkpoint(), "E17 Reopen");
 }
 
 /// The number of files that a keeper has.
@@ -49,11 +60,11 @@ pub fn crash(rt: &(impl AllocGlobal + Abort), disk: Fuse<MemDisk>, picks: &[usiz
 
 /// The number of disk calls of an open of the store that the disk holds.
 pub fn calls_of_open(rt: &(impl AllocGlobal + Abort), disk: MemDisk) -> u64 {
-    over(rt, Fuse::new(disk, 0)).into_disk().calls()
+    disk_of(over(rt, Fuse::new(disk, 0))).calls()
 }
 
 /// The keeper of a new store, over a disk whose call of that number behind the open fails; with 0 none.
-pub fn opened(rt: &(impl AllocGlobal + Abort), call: u64) -> Keeper<Fuse<MemDisk>> {
+pub fn opened(rt: &(impl AllocGlobal + Abort), call: u64) -> Box<Keeper<Fuse<MemDisk>>> {
     let fails = match call {
         0 => Some(0),
         _ => calls_of_open(rt, made(rt)).checked_add(call),

@@ -2,7 +2,7 @@
 use crate::answers::{is_refused, sector_at};
 use crate::asserts::{same, same_at};
 use crate::inputs::{A, B, input, put, put_long, starts, take};
-use crate::keepers::{calls_since, crash, files_in, files_on, opened, over};
+use crate::keepers::{calls_since, crash, disk_of, files_in, files_on, opened, over};
 use std::process::Abort;
 use um_keeper::{Keeper, Receipt};
 use um_model::{JobMode, UnitVerb};
@@ -55,7 +55,11 @@ fn text_of(rt: &(impl AllocGlobal + Abort), answer: Result<Receipt, Refusal>) ->
             starts(receipt);
             String::from_str(rt.alloc(), "done").expect(rt, "no memory")
         }
-        Err(refusal) => refusal.to_string(rt.alloc()).expect(rt, "no memory"),
+        Err(refusal) => {
+            let text = refusal.to_string(rt.alloc()).expect(rt, "no memory");
+            drop(refusal);
+            text
+        }
     }
 }
 
@@ -122,7 +126,7 @@ fn is_answered<D: Disk>(
 
 /// The number of syncs of a new store's disk that was opened.
 fn syncs_of_open(rt: &(impl AllocGlobal + Abort)) -> usize {
-    opened(rt, 0).into_disk().into_inner().syncs()
+    disk_of(opened(rt, 0)).into_inner().syncs()
 }
 
 /// Asserts how often the disk was synced since it was opened, and how many files its store has.
@@ -138,7 +142,7 @@ fn a_list_is_answered_in_its_order(rt: HostRuntime) {
         let mut keeper = opened(&rt, 0);
         is_answered(&rt, &mut keeper, list, wanted);
         same(&rt, files_in(&keeper), *files);
-        let disk = keeper.into_disk();
+        let disk = disk_of(keeper);
         same(&rt, calls_since(&rt, &disk), *calls);
         is_written(&rt, disk.into_inner(), *files, *syncs);
     }
@@ -168,11 +172,11 @@ const FAULTY: &[(&[Coming], &str)] = &[
 
 /// Asserts that the list was taken back, that later commands want the store opened again, and that a crash that loses what wasn't
 /// synced leaves nothing of it.
-fn is_taken_back(rt: &(impl AllocGlobal + Abort), mut keeper: Keeper<Fuse<MemDisk>>) {
+fn is_taken_back(rt: &(impl AllocGlobal + Abort), mut keeper: Box<Keeper<Fuse<MemDisk>>>) {
     same(rt, files_in(&keeper), 0);
     let refused = answered(rt, &mut keeper, &[Coming::Put(A), Coming::Tick(1)]);
     is_refused(rt, refused, "E17 Reopen");
-    let left = crash(rt, keeper.into_disk(), &[]);
+    let left = crash(rt, disk_of(keeper), &[]);
     same(rt, files_on(rt, left), 0);
 }
 
@@ -234,7 +238,7 @@ fn is_written_as(rt: &impl Abort, disk: &mut MemDisk, k: usize, wanted: (u8, u8,
 }
 
 /// A keeper whose log has room for one record more.
-fn nearly_full(rt: &(impl AllocGlobal + Abort)) -> Keeper<Fuse<MemDisk>> {
+fn nearly_full(rt: &(impl AllocGlobal + Abort)) -> Box<Keeper<Fuse<MemDisk>>> {
     let mut keeper = opened(rt, 0);
     for _ in 0..511 {
         take(rt, &mut keeper, put(rt, A, ""));
@@ -247,7 +251,7 @@ fn a_list_goes_over_the_end_of_the_log(rt: HostRuntime) {
     let mut keeper = nearly_full(&rt);
     let list = &[Coming::Put(A), Coming::Put(B), Coming::Put(C)];
     is_answered(&rt, &mut keeper, list, "done; done; done; ");
-    let mut disk = keeper.into_disk().into_inner();
+    let mut disk = disk_of(keeper).into_inner();
     // record 511 of generation 2, then records 0 and 1 of generation 3
     is_written_as(&rt, &mut disk, 640, (2, 1, 255));
     is_written_as(&rt, &mut disk, 129, (3, 0, 0));
@@ -289,7 +293,7 @@ fn unsynced(rt: &(impl AllocGlobal + Abort)) -> Fuse<MemDisk> {
     }
     let answers = told(rt, keeper.submit_all(inputs)).expect(rt, "refused");
     same(rt, answers.as_str(), "E16 Device; E16 Device; E16 Device; ");
-    keeper.into_disk()
+    disk_of(keeper)
 }
 
 /// Asserts that the tree has the first so many of the three files, in this row.

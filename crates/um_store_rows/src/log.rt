@@ -120,19 +120,32 @@ fn a_record_takes_the_least_number_of_sectors(rt: HostRuntime) {
     has_records(&rt, &mut disk, &log, &wanted, "the end");
 }
 
+/// Asserts that a record of this length takes its parts and a sync, so that the disk has taken so many calls then.
+fn takes_calls<D: Disk>(
+    rt: &(impl AllocGlobal + Abort),
+    disk: &mut Fuse<D>,
+    log: &mut Log,
+    record: &[u8],
+    calls: u64,
+) {
+    append(rt, disk, log, &[record]);
+    same(rt, disk.calls(), calls);
+}
+
+/// Asserts that a scan reads of each of both records its parts, and behind them one sector.
+fn is_scanned<D: Disk>(rt: &(impl AllocGlobal + Abort), disk: &mut Fuse<D>, log: &Log) {
+    let wanted = [(START, 480), (START + 1, 481)];
+    has_records(rt, disk, log, &wanted, "the end");
+    same(rt, disk.calls(), 9);
+}
+
 #[test]
 fn each_call_makes_so_many_disk_calls(rt: HostRuntime) {
     let (disk, mut log) = empty(&rt);
     let mut disk = Fuse::new(disk, 0);
-    // a record's parts and a sync
-    append(&rt, &mut disk, &mut log, &[&[5; 480]]);
-    same(&rt, disk.calls(), 2);
-    append(&rt, &mut disk, &mut log, &[&[6; 481]]);
-    same(&rt, disk.calls(), 5);
-    // of each record its parts; behind them one sector
-    let wanted = [(START, 480), (START + 1, 481)];
-    has_records(&rt, &mut disk, &log, &wanted, "the end");
-    same(&rt, disk.calls(), 9);
+    takes_calls(&rt, &mut disk, &mut log, &[5; 480], 2);
+    takes_calls(&rt, &mut disk, &mut log, &[6; 481], 5);
+    is_scanned(&rt, &mut disk, &log);
 }
 
 /// Asserts that all writes are synced.

@@ -2,7 +2,9 @@
 use crate::answers::{is_refused, sector_at};
 use crate::asserts::same;
 use crate::inputs::{A, put, take};
-use crate::keepers::{calls_of_open, crash, files_on, has_layout, made, over};
+use crate::keepers::{
+    calls_of_open, crash, disk_of, fails_checkpoints, files_on, has_layout, made, over,
+};
 use std::process::Abort;
 use um_keeper::{Keeper, inspect};
 use um_sector::{Disk, Fuse, MemDisk, Sector};
@@ -39,7 +41,7 @@ fn change(rt: &impl Abort, disk: &mut MemDisk, damage: &Damage) {
 
 /// A store that was opened once, generation 2 in slot B, with these changes.
 fn changed(rt: &(impl AllocGlobal + Abort), changes: &[Damage]) -> MemDisk {
-    let mut disk = over(rt, made(rt)).into_disk();
+    let mut disk = disk_of(over(rt, made(rt)));
     for each in changes {
         change(rt, &mut disk, each);
     }
@@ -137,7 +139,7 @@ fn what_is_refused_is_named_and_left_as_it_was(rt: HostRuntime) {
 
 #[test]
 fn an_image_with_a_later_sector_is_opened_above_it(rt: HostRuntime) {
-    let mut disk = over(&rt, changed(&rt, &[(640, 0, LATER)])).into_disk();
+    let mut disk = disk_of(over(&rt, changed(&rt, &[(640, 0, LATER)])));
     // UMSLOT01, generation 4, a body of 37 bytes
     let header = [
         0x55, 0x4d, 0x53, 0x4c, 0x4f, 0x54, 0x30, 0x31, 0, 0, 0, 0, 0, 0, 0, 4, 0, 0, 0, 0, 0, 0,
@@ -151,7 +153,7 @@ fn an_image_with_a_later_sector_is_opened_above_it(rt: HostRuntime) {
 fn filed(rt: &(impl AllocGlobal + Abort)) -> MemDisk {
     let mut keeper = over(rt, made(rt));
     take(rt, &mut keeper, put(rt, A, ""));
-    keeper.into_disk()
+    disk_of(keeper)
 }
 
 /// That store, behind a checkpoint whose last sync failed: its header was written, and isn't synced.
@@ -160,9 +162,8 @@ fn half_checkpointed(rt: &(impl AllocGlobal + Abort)) -> MemDisk {
     let calls = calls_of_open(rt, filed(rt));
     let fails = calls.checked_add(4).expect(rt, "too many");
     let mut keeper = over(rt, Fuse::new(filed(rt), fails));
-    is_refused(rt, keeper.checkpoint(), "E16 Device");
-    is_refused(rt, keeper.checkpoint(), "E17 Reopen");
-    keeper.into_disk().into_inner()
+    fails_checkpoints(rt, &mut keeper);
+    disk_of(keeper).into_inner()
 }
 
 /// What a crash leaves of an open that a failing call ends.

@@ -1,6 +1,6 @@
 //! The canonical bytes of the state: typed from the format, and each condition broken by one byte.
-use crate::asserts::{same, same_at, text, unit};
-use crate::spelled::{are_not_read, are_read, followed, hex, is_spelled};
+use crate::asserts::{same_at, text, unit};
+use crate::spelled::{are_not_read, are_read, hex, is_not_read, is_read, is_spelled};
 use std::process::Abort;
 use um_model::{
     Counted, Deadline, End, JobState, Moment, NextNumber, ProcessNumber, SubState, UnitJobs,
@@ -289,9 +289,14 @@ fn put_jobs(rt: &(impl AllocGlobal + Abort), state: &mut State) {
     jobs.expect(rt, "no memory");
 }
 
+/// The empty state, in a box, which is let go in one call.
+fn empty(rt: &(impl AllocGlobal + Abort)) -> Box<State> {
+    Box::new(rt.alloc(), State::empty(rt.alloc())).expect(rt, "no memory")
+}
+
 /// The state of which the bytes are above.
-fn full(rt: &(impl AllocGlobal + Abort)) -> State {
-    let mut state = State::empty(rt.alloc());
+fn full(rt: &(impl AllocGlobal + Abort)) -> Box<State> {
+    let mut state = empty(rt);
     boot(rt, &mut state);
     advance(rt, &mut state);
     put_entries(rt, &mut state);
@@ -302,52 +307,28 @@ fn full(rt: &(impl AllocGlobal + Abort)) -> State {
     state
 }
 
-/// The bytes of the state.
-fn spelled(rt: &(impl AllocGlobal + Abort), state: &State) -> Vec<u8> {
-    let mut bytes = Vec::new(rt.alloc());
-    state.put(&mut bytes).expect(rt, "no memory");
-    bytes
-}
-
-/// Asserts that a state is read from the bytes with others behind them, and is spelled by the bytes.
-fn state_is_read(rt: &(impl AllocGlobal + Abort), bytes: &[u8]) {
-    let longer = followed(rt, bytes);
-    let found = State::get(rt.alloc(), longer.as_slice()).expect(rt, "no memory");
-    let (read, count) = found.expect(rt, "what is spelled isn't read");
-    same(rt, count, bytes.len());
-    same(rt, spelled(rt, &read).as_slice(), bytes);
-}
-
 /// Asserts that no front of the bytes spells a state, in this row.
 fn state_is_not_read(rt: &(impl AllocGlobal + Abort), bytes: &[u8], row: &str) {
-    let read = State::get(rt.alloc(), bytes).expect(rt, "no memory");
-    same_at(rt, read.is_none(), true, row);
-}
-
-/// Asserts that the state is spelled by these bytes.
-fn state_is_spelled(rt: &(impl AllocGlobal + Abort), state: &State, bytes: &[u8]) {
-    same(rt, spelled(rt, state).as_slice(), bytes);
+    is_not_read::<State, _>(rt, bytes, row);
 }
 
 /// Asserts that these are the bytes of the empty state.
 fn is_of_the_empty_state(rt: &(impl AllocGlobal + Abort), bytes: &[u8]) {
     assert!(rt; bytes.len() == 37, "the empty state has other bytes");
-    state_is_spelled(rt, &State::empty(rt.alloc()), bytes);
-    state_is_read(rt, bytes);
+    is_spelled(rt, empty(rt).as_ref(), bytes);
     state_is_not_read(rt, &bytes[1..], "no version");
 }
 
 /// Asserts that these are the bytes of the state above.
 fn is_of_the_full_state(rt: &(impl AllocGlobal + Abort), bytes: &[u8]) {
-    state_is_spelled(rt, &full(rt), bytes);
-    state_is_read(rt, bytes);
+    is_spelled(rt, full(rt).as_ref(), bytes);
 }
 
 #[test]
 fn a_state_is_its_fields_in_order(rt: HostRuntime) {
     is_of_the_empty_state(&rt, hex(&rt, EMPTY).as_slice());
     is_of_the_full_state(&rt, hex(&rt, STATE).as_slice());
-    state_is_read(&rt, hex(&rt, DEAD).as_slice());
+    is_read::<State>(&rt, hex(&rt, DEAD).as_slice());
 }
 
 /// Asserts that no front of these bytes spells a state, with another one at this place, in this row.
@@ -392,7 +373,7 @@ fn is_no_state(rt: &(impl AllocGlobal + Abort), state: &State, part: &str, other
 }
 
 /// The state above, in which `9.target` runs as the process of this number.
-fn with_process(rt: &(impl AllocGlobal + Abort), number: u64) -> State {
+fn with_process(rt: &(impl AllocGlobal + Abort), number: u64) -> Box<State> {
     let mut state = full(rt);
     let again = UnitState {
         sub: SubState::Running,
@@ -404,7 +385,7 @@ fn with_process(rt: &(impl AllocGlobal + Abort), number: u64) -> State {
 }
 
 /// The state above at the first moment.
-fn sooner(rt: &(impl AllocGlobal + Abort)) -> State {
+fn sooner(rt: &(impl AllocGlobal + Abort)) -> Box<State> {
     let mut state = full(rt);
     state.set_clock(Moment::FIRST);
     state

@@ -2,7 +2,9 @@
 use crate::answers::{is_refused, sector_at};
 use crate::asserts::same;
 use crate::inputs::{A, B, input, put, put_long, submit, take};
-use crate::keepers::{calls_since, crash, files_in, files_on, has_layout, opened, over};
+use crate::keepers::{
+    calls_since, crash, disk_of, fails_checkpoints, files_in, files_on, has_layout, opened, over,
+};
 use std::process::Abort;
 use um_keeper::{Keeper, OpenedStore};
 use um_model::{End, JobMode, Moment, UnitVerb};
@@ -18,9 +20,9 @@ const START: usize = 129;
 const AGAIN: &str = "[Service]\nExecStart=/bin/sleep 9\nRestart=on-failure\n";
 
 /// Takes an event at the moment, and tells how many processes it asks for.
-fn take_at(
+fn take_at<D: Disk>(
     rt: &(impl AllocGlobal + Abort),
-    keeper: &mut Keeper<Fuse<MemDisk>>,
+    keeper: &mut Keeper<D>,
     micros: u64,
     event: Event,
 ) -> usize {
@@ -37,7 +39,7 @@ fn start_of(unit: UnitName) -> Event {
 }
 
 /// A keeper whose service ended with code 1 at a second: four records.
-pub fn ended(rt: &(impl AllocGlobal + Abort)) -> Keeper<Fuse<MemDisk>> {
+pub fn ended(rt: &(impl AllocGlobal + Abort)) -> Box<Keeper<Fuse<MemDisk>>> {
     let mut keeper = opened(rt, 0);
     take(rt, &mut keeper, put(rt, A, AGAIN));
     let reload = Event::Commanded(Command::DaemonReload);
@@ -53,25 +55,34 @@ pub fn ended(rt: &(impl AllocGlobal + Abort)) -> Keeper<Fuse<MemDisk>> {
 }
 
 /// The keeper that is opened over the disk of this one; asserts that it has its state.
-fn opened_again<D: Disk>(rt: &(impl AllocGlobal + Abort), keeper: Keeper<D>) -> Keeper<D> {
+fn opened_again<D: Disk>(
+    rt: &(impl AllocGlobal + Abort),
+    keeper: Box<Keeper<D>>,
+) -> Box<Keeper<D>> {
     let before = spell(rt.alloc(), keeper.state()).expect(rt, "no memory");
-    let again = over(rt, keeper.into_disk());
+    let again = over(rt, disk_of(keeper));
     let after = spell(rt.alloc(), again.state()).expect(rt, "no memory");
     same(rt, after.as_slice(), before.as_slice());
     again
 }
 
+/// That keeper behind a tick at the moment; asserts that it asks for so many processes.
+fn ticked(
+    rt: &(impl AllocGlobal + Abort),
+    micros: u64,
+    starts: usize,
+) -> Box<Keeper<Fuse<MemDisk>>> {
+    let mut keeper = ended(rt);
+    let tick = Event::Happened(Happening::Tick);
+    same(rt, take_at(rt, &mut keeper, micros, tick), starts);
+    keeper
+}
+
 #[test]
 fn a_tick_is_a_record_where_it_restarts_and_else_no_disk_call(rt: HostRuntime) {
-    let before = ended(&rt).into_disk().calls();
-    let mut keeper = ended(&rt);
-    let tick = Event::Happened(Happening::Tick);
-    same(&rt, take_at(&rt, &mut keeper, 1_099_999, tick), 0);
-    same(&rt, keeper.into_disk().calls(), before);
-    let mut keeper = ended(&rt);
-    let tick = Event::Happened(Happening::Tick);
-    same(&rt, take_at(&rt, &mut keeper, 1_100_000, tick), 1);
-    let mut disk = opened_again(&rt, keeper).into_disk();
+    let before = disk_of(ended(&rt)).calls();
+    same(&rt, disk_of(ticked(&rt, 1_099_999, 0)).calls(), before);
+    let mut disk = disk_of(opened_again(&rt, ticked(&rt, 1_100_000, 1)));
     // its name, generation, number, part, parts, length and bytes
     let written = [
         0x55, 0x4d, 0x4c, 0x47, 0, 0, 0, 0, 0, 0, 0, 2, 0, 0, 0, 0, 0, 0, 0, 4, 0, 0, 0, 0, 0, 0,
@@ -81,7 +92,7 @@ fn a_tick_is_a_record_where_it_restarts_and_else_no_disk_call(rt: HostRuntime) {
 }
 
 /// A keeper of two files, each in a record of generation 2.
-fn filed(rt: &(impl AllocGlobal + Abort)) -> Keeper<Fuse<MemDisk>> {
+fn filed(rt: &(impl AllocGlobal + Abort)) -> Box<Keeper<Fuse<MemDisk>>> {
     let mut keeper = opened(rt, 0);
     take(rt, &mut keeper, put(rt, A, ""));
     take(rt, &mut keeper, put(rt, B, ""));
@@ -91,7 +102,7 @@ fn filed(rt: &(impl AllocGlobal + Abort)) -> Keeper<Fuse<MemDisk>> {
 /// Asserts that an open of its disk finds this generation and so many records, and the state.
 fn finds(
     rt: &(impl AllocGlobal + Abort),
-    keeper: Keeper<Fuse<MemDisk>>,
+    keeper: Box<Keeper<Fuse<MemDisk>>>,
     generation: u64,
     records: usize,
 ) {
@@ -123,7 +134,7 @@ fn a_full_log_makes_a_checkpoint_first(rt: HostRuntime) {
     for _ in 0..513 {
         take(&rt, &mut keeper, put(&rt, A, ""));
     }
-    let mut disk = keeper.into_disk().into_inner();
+    let mut disk = disk_of(keeper).into_inner();
     let sector = sector_at(&rt, &mut disk, START);
     same(&rt, lowest_bytes(&sector), (3, 0));
     same(&rt, files_on(&rt, disk), 1);
@@ -134,14 +145,14 @@ fn a_record_takes_a_call_a_part_and_a_sync(rt: HostRuntime) {
     for (length, calls) in [(449, 2), (450, 3)] {
         let mut keeper = opened(&rt, 0);
         take(&rt, &mut keeper, put_long(&rt, A, length));
-        same(&rt, calls_since(&rt, &keeper.into_disk()), calls);
+        same(&rt, calls_since(&rt, &disk_of(keeper)), calls);
     }
 }
 
 /// Asserts that a file of so many bytes is refused.
-fn refuses_long(
+fn refuses_long<D: Disk>(
     rt: &(impl AllocGlobal + Abort),
-    keeper: &mut Keeper<Fuse<MemDisk>>,
+    keeper: &mut Keeper<D>,
     length: usize,
     wanted: &str,
 ) {
@@ -155,7 +166,7 @@ fn what_just_fits_is_opened_again_and_a_byte_more_is_refused_without_a_disk_call
     let _ = opened_again(&rt, keeper);
     let mut keeper = opened(&rt, 0);
     refuses_long(&rt, &mut keeper, 31_956, "E14 NoRoom");
-    same(&rt, calls_since(&rt, &keeper.into_disk()), 0);
+    same(&rt, calls_since(&rt, &disk_of(keeper)), 0);
 }
 
 #[test]
@@ -163,34 +174,37 @@ fn a_store_at_the_last_moment_is_opened_again(rt: HostRuntime) {
     let mut keeper = opened(&rt, 0);
     let reload = Event::Commanded(Command::DaemonReload);
     take_at(&rt, &mut keeper, 1 << 62, reload);
-    let again = over(&rt, keeper.into_disk());
+    let again = over(&rt, disk_of(keeper));
     same(&rt, Some(again.state().clock()), Moment::new(1 << 62));
+}
+
+/// Asserts that a file is refused, since the store is to be opened again.
+fn wants_opening<D: Disk>(rt: &(impl AllocGlobal + Abort), keeper: &mut Keeper<D>) {
+    is_refused(rt, submit(keeper, put(rt, A, "")), "E17 Reopen");
 }
 
 #[test]
 fn a_failed_checkpoint_wants_the_store_opened_again(rt: HostRuntime) {
     // the body, a sync, the header, and the sync that fails
     let mut keeper = opened(&rt, 4);
-    is_refused(&rt, keeper.checkpoint(), "E16 Device");
-    is_refused(&rt, keeper.checkpoint(), "E17 Reopen");
-    let refused = submit(&mut keeper, put(&rt, A, ""));
-    is_refused(&rt, refused, "E17 Reopen");
-    let again = over(&rt, keeper.into_disk());
+    fails_checkpoints(&rt, &mut keeper);
+    wants_opening(&rt, &mut keeper);
+    let again = over(&rt, disk_of(keeper));
     same(&rt, again.state().clock(), Moment::FIRST);
     // generation 3 was written and is read: the next one is 4, in slot B
     let header = [
         0x55, 0x4d, 0x53, 0x4c, 0x4f, 0x54, 0x30, 0x31, 0, 0, 0, 0, 0, 0, 0, 4, 0, 0, 0, 0, 0, 0,
         0, 0x25,
     ];
-    has_layout(&rt, &mut again.into_disk(), 65, &header);
+    has_layout(&rt, &mut disk_of(again), 65, &header);
 }
 
 /// What a crash within the record of 481 bytes leaves, opened again.
-fn left(rt: &(impl AllocGlobal + Abort), picks: &[usize]) -> Keeper<MemDisk> {
+fn left(rt: &(impl AllocGlobal + Abort), picks: &[usize]) -> Box<Keeper<MemDisk>> {
     // the record's sync: two sectors are written before it
     let mut keeper = opened(rt, 3);
     refuses_long(rt, &mut keeper, 450, "E16 Device");
-    over(rt, crash(rt, keeper.into_disk(), picks))
+    over(rt, crash(rt, disk_of(keeper), picks))
 }
 
 /// The writes that a crash leaves of that record, and how many files there are then.
@@ -203,7 +217,7 @@ fn a_torn_record_is_absent_and_one_in_its_place_counts_alone(rt: HostRuntime) {
     }
     let mut keeper = left(&rt, &[0, 1]);
     take(&rt, &mut keeper, put_long(&rt, B, 450));
-    let again = over(&rt, keeper.into_disk());
+    let again = over(&rt, disk_of(keeper));
     same(&rt, files_in(&again), 1);
     same(&rt, again.state().tree().get(B).is_some(), true);
 }
