@@ -189,11 +189,7 @@ fn wait_for_news(
 }
 
 /// What is told of a process, of which nothing but its files tell, from its start to its end.
-fn is_news(
-    rt: &HostRuntime,
-    children: &mut Dir<'_>,
-    number: ProcessNumber,
-) -> anyhow::Result<()> {
+fn is_news(rt: &HostRuntime, children: &mut Dir<'_>, number: ProcessNumber) -> anyhow::Result<()> {
     let starting = children.has_news();
     fate_of(rt, children, number, false)?;
     let running = wait_for_news(rt, children, Some(number))?;
@@ -337,7 +333,11 @@ const ODD: &[(u64, &str, &str)] = &[
 ];
 
 /// The fate of a number with a file of another form, and whether it can be signalled.
-fn odd_file(rt: &HostRuntime, children: &mut Dir<'_>, odd: &(u64, &str, &str)) -> anyhow::Result<()> {
+fn odd_file(
+    rt: &HostRuntime,
+    children: &mut Dir<'_>,
+    odd: &(u64, &str, &str),
+) -> anyhow::Result<()> {
     let (n, name, text) = *odd;
     let path = format!(in rt.alloc(); "{FOLDER}/{name}")?;
     fs::write(rt, path.as_str(), text)?;

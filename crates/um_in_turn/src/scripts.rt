@@ -147,11 +147,7 @@ pub fn let_go(alloc: Global, answers: Vec<Result<Receipt, Refusal>>) {
     let _counts = counted(alloc, answers);
 }
 
-fn submit_all(
-    alloc: Global,
-    keeper: Box<Keeper<Failing>>,
-    rows: &[Row],
-) -> Result<Gone, Wrong> {
+fn submit_all(alloc: Global, keeper: Box<Keeper<Failing>>, rows: &[Row]) -> Result<Gone, Wrong> {
     let mut keeper = keeper;
     let answers = keeper.submit_all(inputs_of(alloc, rows)?)?;
     if answers.len() != rows.len() {
