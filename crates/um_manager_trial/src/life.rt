@@ -1,8 +1,10 @@
 //! The life of a service.
 
-use crate::managers::{InMemory, ask, new_store, opened, silent_turn};
+use crate::managers::{ask, new_store, opened, silent_turn};
 use std::alloc::Global;
 use um_children::{Call, Children, End, FakeChildren, ProcessNumber};
+use um_manager::Manager;
+use um_sector::Disk;
 use um_wire::Refusal;
 
 const PUT: &str =
@@ -19,7 +21,7 @@ const SHOW: &str = r#"{"verb":"show","unit":"a"}"#;
 const ACTIVE: &str = r#"{"ok":true,"value":"active"}"#;
 
 /// Starts the service. Where its process found no memory it has failed, and is started once more.
-fn start(alloc: Global, manager: &mut InMemory) -> Result<(), Refusal> {
+fn start<D: Disk, C: Children>(alloc: Global, manager: &mut Manager<D, C>) -> Result<(), Refusal> {
     for _ in 0..2 {
         let _done = ask(alloc, manager, START)?;
         silent_turn(alloc, manager)?;
@@ -51,16 +53,56 @@ fn end(children: &mut FakeChildren) -> Result<(), Refusal> {
     }
 }
 
+/// Puts, loads and starts the service.
+fn begin<D: Disk, C: Children>(alloc: Global, manager: &mut Manager<D, C>) -> Result<(), Refusal> {
+    let _done = ask(alloc, manager, PUT)?;
+    let _done = ask(alloc, manager, RELOAD)?;
+    start(alloc, manager)
+}
+
+/// The disk and the children that are left of a manager that started the service.
+fn begun<D: Disk + Drop, C: Children + Drop>(
+    alloc: Global,
+    disk: D,
+    children: C,
+) -> Result<(D, C), Refusal> {
+    let mut manager = opened(alloc, disk, children)?;
+    match begin(alloc, &mut manager) {
+        Ok(()) => Ok(manager.into_parts()),
+        Err(refusal) => {
+            drop(manager);
+            Err(refusal)
+        }
+    }
+}
+
+/// What is shown of the service, two turns later.
+fn shown<D: Disk, C: Children>(
+    alloc: Global,
+    manager: &mut Manager<D, C>,
+) -> Result<String, Refusal> {
+    silent_turn(alloc, manager)?;
+    silent_turn(alloc, manager)?;
+    ask(alloc, manager, SHOW)
+}
+
+/// What the manager shows of the service that is opened over a disk and children.
+fn shown_again<D: Disk + Drop, C: Children + Drop>(
+    alloc: Global,
+    disk: D,
+    children: C,
+) -> Result<String, Refusal> {
+    let mut manager = opened(alloc, disk, children)?;
+    let told = shown(alloc, &mut manager);
+    drop(manager);
+    told
+}
+
 /// A service is put, loaded and started; its process ends while no manager is there; and the manager that is opened then shows it.
 pub fn life(alloc: Global) -> Result<String, Refusal> {
-    let mut manager = opened(alloc, new_store(alloc)?, FakeChildren::new(alloc))?;
-    let _done = ask(alloc, &mut manager, PUT)?;
-    let _done = ask(alloc, &mut manager, RELOAD)?;
-    start(alloc, &mut manager)?;
-    let (disk, mut children) = manager.into_parts();
-    end(&mut children)?;
-    let mut manager = opened(alloc, disk, children)?;
-    silent_turn(alloc, &mut manager)?;
-    silent_turn(alloc, &mut manager)?;
-    ask(alloc, &mut manager, SHOW)
+    let (disk, mut children) = begun(alloc, new_store(alloc)?, FakeChildren::new(alloc))?;
+    match end(&mut children) {
+        Ok(()) => shown_again(alloc, disk, children),
+        Err(refusal) => Err(refusal),
+    }
 }

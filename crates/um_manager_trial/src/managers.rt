@@ -1,16 +1,13 @@
 //! Managers in memory, which are asked again where memory is wanting.
 
 use std::alloc::Global;
-use um_children::FakeChildren;
+use um_children::Children;
 use um_keeper::create;
 use um_manager::{Connection, Manager, Piece, Pieces};
 use um_model::{Layout, Moment};
-use um_sector::MemDisk;
+use um_sector::{Disk, MemDisk};
 use um_state::BootId;
 use um_wire::Refusal;
-
-/// A manager in memory.
-pub type InMemory = Manager<MemDisk, FakeChildren>;
 
 /// What finds no memory is asked so many times.
 const TIMES: usize = 4;
@@ -20,10 +17,6 @@ const LENGTH: usize = 4;
 
 /// How the reply of a request ends that found no memory.
 const WANTING: &[u8] = b"\"error\":15,\"ok\":false}";
-
-fn moment() -> Result<Moment, Refusal> {
-    Moment::new(0).ok_or(Refusal::BadRequest)
-}
 
 fn boot(alloc: Global) -> Result<BootId, Refusal> {
     BootId::new(String::from_str(alloc, "one")?).ok_or(Refusal::BadRequest)
@@ -55,11 +48,27 @@ fn some_boot(alloc: Global) -> Result<BootId, Refusal> {
     }
 }
 
+/// The manager that is opened over a disk and children; else the refusal, with both.
+fn open<D: Disk, C: Children>(
+    alloc: Global,
+    disk: D,
+    children: C,
+) -> Result<Manager<D, C>, (Refusal, D, C)> {
+    match some_boot(alloc) {
+        Ok(boot) => Manager::open(alloc, disk, children, boot, Moment::FIRST),
+        Err(refusal) => Err((refusal, disk, children)),
+    }
+}
+
 /// The manager that is opened over a disk and children.
-pub fn opened(alloc: Global, disk: MemDisk, children: FakeChildren) -> Result<InMemory, Refusal> {
+pub fn opened<D: Disk + Drop, C: Children + Drop>(
+    alloc: Global,
+    disk: D,
+    children: C,
+) -> Result<Manager<D, C>, Refusal> {
     let (mut disk, mut children) = (disk, children);
     for _ in 0..TIMES {
-        match Manager::open(alloc, disk, children, some_boot(alloc)?, moment()?) {
+        match open(alloc, disk, children) {
             Ok(manager) => return Ok(manager),
             Err((Refusal::NoMemory, disk_back, children_back)) => {
                 (disk, children) = (disk_back, children_back);
@@ -84,15 +93,15 @@ fn pieces(alloc: Global, connection: Connection, text: &str) -> Result<Pieces, R
 }
 
 /// A turn in which this request comes of a connection, and the text of what is put out for it.
-fn turn(
+fn turn<D: Disk, C: Children>(
     alloc: Global,
-    manager: &mut InMemory,
+    manager: &mut Manager<D, C>,
     connection: usize,
     text: &str,
 ) -> Result<Vec<u8>, Refusal> {
     let connection = Connection::new(connection).ok_or(Refusal::BadRequest)?;
     let pieces = pieces(alloc, connection, text)?;
-    manager.turn(moment()?, &pieces)?;
+    manager.turn(Moment::FIRST, &pieces)?;
     let output = manager.output(connection);
     if output.failed || output.bytes.ends_with(WANTING) {
         return Err(Refusal::NoMemory);
@@ -101,7 +110,10 @@ fn turn(
 }
 
 /// A turn in which nothing comes.
-pub fn silent_turn(alloc: Global, manager: &mut InMemory) -> Result<(), Refusal> {
+pub fn silent_turn<D: Disk, C: Children>(
+    alloc: Global,
+    manager: &mut Manager<D, C>,
+) -> Result<(), Refusal> {
     for _ in 0..TIMES {
         match turn(alloc, manager, 0, "") {
             Err(Refusal::NoMemory) => {}
@@ -113,7 +125,11 @@ pub fn silent_turn(alloc: Global, manager: &mut InMemory) -> Result<(), Refusal>
 }
 
 /// The reply to a request, which is asked on another connection where it finds no memory.
-pub fn ask(alloc: Global, manager: &mut InMemory, text: &str) -> Result<String, Refusal> {
+pub fn ask<D: Disk, C: Children>(
+    alloc: Global,
+    manager: &mut Manager<D, C>,
+    text: &str,
+) -> Result<String, Refusal> {
     for connection in 1..TIMES {
         match turn(alloc, manager, connection, text) {
             Err(Refusal::NoMemory) => {}
