@@ -93,6 +93,20 @@ enum Gone {
     NotOpened(Failing),
 }
 
+/// How the call went that was refused so.
+fn refused_by(keeper: Box<Keeper<Failing>>, refusal: Refusal) -> Result<Gone, Wrong> {
+    let is_fault = matches!(refusal, Refusal::Device);
+    let is_due = !matches!(refusal, Refusal::NoMemory | Refusal::Reopen);
+    drop(refusal);
+    if is_fault {
+        return Ok(Gone::Refused(keeper, 1));
+    }
+    if is_due {
+        return Ok(Gone::On(keeper, 1));
+    }
+    Err(found("a refusal that isn't due"))
+}
+
 fn submit(alloc: Global, keeper: Box<Keeper<Failing>>, row: Row) -> Result<Gone, Wrong> {
     let mut keeper = keeper;
     match stores::submit(keeper.as_mut(), input_of(alloc, row)?) {
@@ -100,9 +114,7 @@ fn submit(alloc: Global, keeper: Box<Keeper<Failing>>, row: Row) -> Result<Gone,
             spent(alloc, receipt)?;
             Ok(Gone::On(keeper, 1))
         }
-        Err(Refusal::Device) => Ok(Gone::Refused(keeper, 1)),
-        Err(Refusal::NoMemory | Refusal::Reopen) => Err(found("a refusal that isn't due")),
-        Err(_) => Ok(Gone::On(keeper, 1)),
+        Err(refusal) => refused_by(keeper, refusal),
     }
 }
 
@@ -118,11 +130,14 @@ enum Kind {
 fn spent_kind(alloc: Global, answer: Result<Receipt, Refusal>) -> Kind {
     match answer {
         Ok(receipt) => {
-            let _answer = spent(alloc, receipt);
+            drop(spent(alloc, receipt));
             Kind::Done
         }
-        Err(Refusal::Device) => Kind::Fault,
-        Err(_) => Kind::Refused,
+        Err(refusal) => {
+            let is_fault = matches!(refusal, Refusal::Device);
+            drop(refusal);
+            if is_fault { Kind::Fault } else { Kind::Refused }
+        }
     }
 }
 

@@ -37,6 +37,19 @@ fn happened(happening: Happening) -> Input {
     Input::new(Moment::FIRST, Event::Happened(happening))
 }
 
+/// The engine alone takes what happened, and orders this behind the others.
+fn take_happening(
+    alone: &mut Alone,
+    happening: Happening,
+    orders: &mut Vec<Order>,
+) -> Result<(), Wrong> {
+    let input = happened(happening);
+    let answer = alone.take(&input);
+    drop(input);
+    orders.extend_from_slice(answer?.orders.as_slice())?;
+    Ok(())
+}
+
 /// The engine alone takes what a fate comes to; one that is absent ended so.
 fn hear_one(
     alone: &mut Alone,
@@ -52,17 +65,14 @@ fn hear_one(
     };
     let number = number.get();
     if is_executed {
-        let answer = alone.take(&happened(Happening::ProcessExecuted { number }))?;
-        orders.extend_from_slice(answer.orders.as_slice())?;
+        take_happening(alone, Happening::ProcessExecuted { number }, orders)?;
     }
     let end = match fate {
         Fate::Ended(end) => end,
         Fate::Absent => absent,
         Fate::Starting | Fate::Executed => return Ok(()),
     };
-    let answer = alone.take(&happened(Happening::ProcessEnded { number, end }))?;
-    orders.extend_from_slice(answer.orders.as_slice())?;
-    Ok(())
+    take_happening(alone, Happening::ProcessEnded { number, end }, orders)
 }
 
 /// The engine alone takes all that was told in these calls.
