@@ -197,20 +197,58 @@ fn served(alloc: Global, got: &Got) -> Result<Turned, Wrong> {
     Ok(Turned::Served)
 }
 
+/// What a turn came to that was answered so, as far as that tells it: `Done`, `Untaken` or `Failed`.
+fn answered(turned: Result<(), Refusal>) -> Result<Turned, Wrong> {
+    let Err(refusal) = turned else {
+        return Ok(Turned::Done);
+    };
+    let is_wanting = matches!(refusal, Refusal::NoMemory);
+    if !is_wanting && !matches!(refusal, Refusal::Device) {
+        return Err(Wrong::from(refusal));
+    }
+    drop(refusal);
+    Ok(if is_wanting {
+        Turned::Untaken
+    } else {
+        Turned::Failed
+    })
+}
+
 /// A turn that finds so many grains.
 fn turn(
     alloc: Global,
     manager: &mut InMemory,
-    pieces: &Pieces,
+    pieces: Pieces,
     grains: Option<usize>,
-) -> Result<Result<(), Refusal>, Wrong> {
+) -> Result<Turned, Wrong> {
     let hoard = Hoard::all_but(alloc, grains)?;
-    let turned = managers::turn(manager, pieces);
+    let turned = managers::turn(manager, &pieces);
     drop(hoard);
-    Ok(turned)
+    answered(turned)
 }
 
-/// The turn of two clients, with so many grains: one asks to show, and for the jobs behind it; the other one starts.
+/// What comes of two clients: one asks to show, and for the jobs behind it; the other one starts.
+fn sent_by_both(alloc: Global, first: usize) -> Result<Pieces, Wrong> {
+    let mut both = sent(alloc, first, &[SHOW, JOBS])?;
+    add(alloc, &mut both, first.saturating_add(1), &[START])?;
+    Ok(both)
+}
+
+/// What both got.
+fn got_by_both(
+    alloc: Global,
+    course: &Course,
+    manager: &mut InMemory,
+    first: usize,
+) -> Result<Got, Wrong> {
+    Ok(Got {
+        is_behind: has_started(alloc, course, manager)?,
+        shown: output(manager, first)?,
+        started: output(manager, first.saturating_add(1))?,
+    })
+}
+
+/// The turn of two clients, with so many grains.
 fn both(
     alloc: Global,
     course: &Course,
@@ -218,30 +256,24 @@ fn both(
     first: usize,
     grains: Option<usize>,
 ) -> Result<Turned, Wrong> {
-    let second = first.saturating_add(1);
-    let mut both = sent(alloc, first, &[SHOW, JOBS])?;
-    add(alloc, &mut both, second, &[START])?;
-    let turned = turn(alloc, manager, &both, grains)?;
-    let got = Got {
-        shown: output(manager, first)?,
-        started: output(manager, second)?,
-        is_behind: has_started(alloc, course, manager)?,
-    };
+    let turned = turn(alloc, manager, sent_by_both(alloc, first)?, grains)?;
+    let got = got_by_both(alloc, course, manager, first)?;
     match turned {
-        Ok(()) => served(alloc, &got),
-        Err(Refusal::NoMemory) => untaken(&got),
-        Err(Refusal::Device) => failed(alloc, &got),
-        Err(refusal) => Err(Wrong::from(refusal)),
+        Turned::Untaken => untaken(&got),
+        Turned::Failed => failed(alloc, &got),
+        Turned::Done | Turned::Served => served(alloc, &got),
     }
 }
 
 /// The jobs that were asked for behind the show are listed in the next turn, which is asked again where it found no memory.
 fn listed(alloc: Global, manager: &mut InMemory, first: usize) -> Result<(), Wrong> {
-    let nothing = silence(alloc)?;
-    match managers::turn(manager, &nothing) {
-        Err(Refusal::NoMemory) => managers::turn(manager, &nothing)?,
-        turned => turned?,
+    let mut turned = turn(alloc, manager, silence(alloc)?, None)?;
+    if let Turned::Untaken = turned {
+        turned = turn(alloc, manager, silence(alloc)?, None)?;
     }
+    let Turned::Done = turned else {
+        return Err(found("a turn in which nothing comes is refused"));
+    };
     reply_among(alloc, &output(manager, first)?, &[NONE, WANTING])?;
     Ok(())
 }
@@ -275,10 +307,10 @@ fn done(alloc: Global, course: &Course, manager: &mut InMemory, first: usize) ->
 
 /// Asks for the jobs, and tells whether they were listed: there are none.
 fn lists(alloc: Global, manager: &mut InMemory, number: usize) -> Result<bool, Wrong> {
-    match managers::turn(manager, &sent(alloc, number, &[JOBS])?) {
-        Ok(()) => {}
-        Err(Refusal::NoMemory) => return Ok(false),
-        Err(refusal) => return Err(Wrong::from(refusal)),
+    match turn(alloc, manager, sent(alloc, number, &[JOBS])?, None)? {
+        Turned::Done | Turned::Served => {}
+        Turned::Untaken => return Ok(false),
+        Turned::Failed => return Err(found("a list of jobs meets a fault")),
     }
     let told = reply_among(alloc, &output(manager, number)?, &[NONE, WANTING])?;
     Ok(told == Some(0))
