@@ -1,7 +1,7 @@
 //! `umd check`: what a store that nobody serves stands for, or why it can't be opened.
 
 use crate::lines::put_line;
-use crate::messages::{DEVICE, REFUSED};
+use crate::messages::{DEVICE, REFUSED, put_text};
 use crate::places::open_read_only;
 use serde_json::Value;
 use std::alloc::Global;
@@ -112,10 +112,7 @@ fn tell<R: Print + Eprint>(
     text: &Result<String, Refusal>,
 ) -> Result<u8, Fault> {
     match text {
-        Ok(text) => match print!(rt; "{text}") {
-            Ok(()) => Ok(0),
-            Err(e) => Err(Fault::Write(e)),
-        },
+        Ok(text) => put_text(rt, text.as_str()),
         Err(refusal) => Ok(refuses(rt, alloc, refusal)),
     }
 }

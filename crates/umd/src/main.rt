@@ -11,7 +11,7 @@ mod telling;
 mod um_bin;
 
 use checking::check;
-use messages::{DEVICE, REFUSED, USAGE, ctl_fault, report, status_of, tell_create};
+use messages::{DEVICE, REFUSED, USAGE, ctl_fault, put_text, report, status_of, tell_create};
 use serving::serve_store;
 use std::alloc::{AllocError, Global};
 use std::env::Env;
@@ -158,14 +158,6 @@ fn hold_standard<R: Files<File = File>>(rt: &R) -> [Option<File>; 3] {
 
 fn null<R: Files<File = File>>(rt: &R) -> Option<File> {
     File::open(rt, "/dev/null").ok()
-}
-
-/// Puts out a text.
-fn put_text<R: Print>(rt: &R, text: &str) -> Result<u8, Fault> {
-    match print!(rt; "{text}") {
-        Ok(()) => Ok(0),
-        Err(e) => Err(Fault::Write(e)),
-    }
 }
 
 /// Says what is wrong with the words. Where standard error fails too, the exit status alone tells it.

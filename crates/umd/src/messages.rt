@@ -1,4 +1,4 @@
-//! What is told on standard error. Where that fails too, the exit status alone tells it.
+//! What is put on standard output and told on standard error. Where standard error fails too, the exit status alone tells it.
 
 use crate::lines::put_line;
 use std::alloc::Global;
@@ -31,6 +31,14 @@ pub fn status_of(fault: &Fault) -> u8 {
     match fault {
         Fault::NoMemory => REFUSED,
         Fault::Read(_) | Fault::Write(_) => DEVICE,
+    }
+}
+
+/// Puts a text on standard output, and gives the exit status.
+pub fn put_text<R: Print>(rt: &R, text: &str) -> Result<u8, Fault> {
+    match print!(rt; "{text}") {
+        Ok(()) => Ok(0),
+        Err(e) => Err(Fault::Write(e)),
     }
 }
 
