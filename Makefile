@@ -2,8 +2,8 @@
 # make run: shows the program's main job; where no proved program stands, one is built without its proofs.
 # make unproved: builds a program without its proofs, out/unproved/umd.
 # make umd: builds the proved program, crates/umd/out/umd, and tells crate by crate how far it is.
-# make test: the whole gate. Plays the rows with real processes, sockets and files against a program built without its proofs; then proves
-# every crate and its tests from nothing, tries each must-fail edit, and runs the tests and the program as two compilers build it.
+# make test: the whole gate. Proves every crate and its tests from nothing, tries each must-fail edit, and runs the tests and the program as two
+# compilers build it; then plays the rows with real processes, sockets and files against the program that was proved.
 # make edits NAME ..: tries the further edits of these crates, which stand in edits/NAME; with no name those of every crate.
 # make runner-rows: plays the rows of a runner against the proved program, with real processes.
 # make serve-rows: plays the rows of a served store against the proved program, with real processes, sockets and files.
@@ -27,12 +27,7 @@ unproved:
 	@tools/unproved umd
 
 test:
-	@tools/unproved umd
-	@tools/runner-rows out/unproved/umd
-	@tools/ctl-rows out/unproved/umd
-	@tools/serve-rows out/unproved/umd
-	@tools/mutated out/unproved/umd --part 200
-	RT_JOBS=$$(tools/lanes) rt ci
+	@tools/gate
 
 # the words behind 'edits' name crates, and aren't built
 ifeq ($(firstword $(MAKECMDGOALS)),edits)

@@ -65,25 +65,12 @@ fn is_deactivating(stands: UnitState) -> bool
     matches!(stands.sub.active_state(), ActiveState::Deactivating)
 }
 
-/// Each unit counts as deactivating, so that no start is ready while jobs are filled in. It takes no memory.
-fn hold_all(jobs: &mut Jobs<'_>, len: usize)
-    ensures units { jobs.new.units ≡ jobs.old.units }
-    ensures held { length jobs.new.held ≡ length jobs.old.held }
-    ensures graph { jobs.new.graph ≡ jobs.old.graph }
-{
-    for unit in 0..len {
-        jobs.hold(unit, true);
-    }
-}
-
 /// The pending jobs of the units by their numbers, and which of the units count as deactivating.
 pub fn jobs_in<'g>(work: &Work<'g>) -> Result<Jobs<'g>, AllocError>
     ensures { IfOk result (λ jobs. Tells work.now.graph (state_of work.now.now) jobs) }
 {
     let graph = work.graph();
-    let mut jobs = Jobs::new(work.alloc(), graph)?;
-    hold_all(&mut jobs, graph.len());
-    jobs.install(work.pending());
+    let mut jobs = Jobs::of(work.alloc(), graph, work.pending())?;
     for unit in 0..graph.len() {
         jobs.hold(unit, is_deactivating(work.unit(unit)));
     }

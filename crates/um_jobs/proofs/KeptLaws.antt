@@ -9,7 +9,7 @@ use Rattle.um_graph.specs.Kinds.{after_bit, before_bit, has}
 use Rattle.um_graph.specs.declared.row.Neighbour.{Neighbour}
 use Rattle.um_graph.proofs.StandLaws.{neighbour_within}
 use Rattle.um_jobs.specs.declared.counts.Blockers.{Blockers}
-use Rattle.um_jobs.specs.Counts.{Counting, IsCountedAnew, IsKept, MayCountAnew, ahead, before_start, before_stop, behind, count_before, is_alike, is_free, is_listed, changes_pending, one_if, start_at, stop_at, sum_of, touched}
+use Rattle.um_jobs.specs.Counts.{Counting, IsCounted, IsCountedAnew, IsKept, MayCountAnew, ahead, before_start, before_stop, behind, count_before, is_alike, is_free, is_listed, changes_pending, one_if, start_at, stop_at, sum_of, touched}
 use Rattle.um_jobs.specs.Jobs.{held_at}
 use Rattle.um_jobs.specs.Named.{jobs_at}
 use Rattle.um_jobs.proofs.MirrorLaws.{mirror}
@@ -60,8 +60,7 @@ of_starts = record {
 abbrev pub free_by : UnitJobs → Bool → ℕ → ℕ → Bool
 free_by j h a b = (is_waiting j.stop && (a == 0)) || (is_waiting j.start && (is_none j.stop && (not h && (b == 0))))
 
-module _ (g : GraphView) (units : List UnitJobs) (held : List Bool) (counts : List Blockers) (ready : List Bool) (k : IsKept g units held counts ready)
-    (x : ℕ) (l : x < length units) (j : UnitJobs) where
+module _ (g : GraphView) (units : List UnitJobs) (counts : List Blockers) (k : IsCounted g units counts) (x : ℕ) (l : x < length units) (j : UnitJobs) where
   abbrev old : UnitJobs
   old = jobs_at units x
 
@@ -132,34 +131,61 @@ module _ (g : GraphView) (units : List UnitJobs) (held : List Bool) (counts : Li
   pub may_starts : MayCountAnew before_start (start_at counts) old j row
   may_starts = may_count before_start of_starts (start_at counts) k.starts
 
-  module _ (later_counts : List Blockers) (later : List Bool) (stops : IsCountedAnew before_stop (stop_at counts) (stop_at later_counts) old j row)
-      (starts : IsCountedAnew before_start (start_at counts) (start_at later_counts) old j row) where
-    abbrev free : ℕ → Bool
-    free u = is_free later_units held later_counts u
+  pub recounted : (later_counts : List Blockers) → length later_counts ≡ length counts → IsCountedAnew before_stop (stop_at counts) (stop_at later_counts) old j row
+      → IsCountedAnew before_start (start_at counts) (start_at later_counts) old j row → IsCounted g later_units later_counts
+  recounted later_counts long stops starts = record {
+    graph = k.graph;
+    units_long = length-set units x j ∙ k.units_long;
+    counts_long = long ∙ k.counts_long;
+    stops = exact_anew before_stop of_stops (stop_at counts) k.stops (stop_at later_counts) stops;
+    starts = exact_anew before_start of_starts (start_at counts) k.starts (start_at later_counts) starts;
+  }
 
-    stays : (u : ℕ) → (u == x) ≡ false → is_listed row u ≡ false → is_free units held counts u ≡ free u
+-- the counts of what is kept
+pub counted_of : (g : GraphView) (units : List UnitJobs) (held : List Bool) (counts : List Blockers) (ready : List Bool) → IsKept g units held counts ready → IsCounted g units counts
+counted_of g units held counts ready k = record { graph = k.graph; units_long = k.units_long; counts_long = k.counts_long; stops = k.stops; starts = k.starts }
+
+-- with units that are counted so, and marked so, all is kept
+pub kept_so : (g : GraphView) (units : List UnitJobs) (held : List Bool) (counts : List Blockers) (ready : List Bool) → IsCounted g units counts
+    → length held ≡ length g.names → length ready ≡ length g.names → ((u : ℕ) → get_or ready u false ≡ is_free units held counts u) → IsKept g units held counts ready
+kept_so g units held counts ready c a b e = record {
+  graph = c.graph;
+  units_long = c.units_long;
+  held_long = a;
+  counts_long = c.counts_long;
+  ready_long = b;
+  stops = c.stops;
+  starts = c.starts;
+  exact = e;
+}
+
+module _ (g : GraphView) (units : List UnitJobs) (held : List Bool) (counts : List Blockers) (ready : List Bool) (k : IsKept g units held counts ready)
+    (x : ℕ) (l : x < length units) (j : UnitJobs) (later_counts : List Blockers) (later : List Bool) where
+  abbrev changed : List Neighbour
+  changed = touched (row_of g.rows x) (jobs_at units x) j
+
+  abbrev free : ℕ → Bool
+  free u = is_free (set units x j) held later_counts u
+
+  module _ (stops : IsCountedAnew before_stop (stop_at counts) (stop_at later_counts) (jobs_at units x) j changed)
+      (starts : IsCountedAnew before_start (start_at counts) (start_at later_counts) (jobs_at units x) j changed) where
+    abbrev c : IsCounted g units counts
+    c = counted_of g units held counts ready k
+
+    stays : (u : ℕ) → (u == x) ≡ false → is_listed changed u ≡ false → is_free units held counts u ≡ free u
     stays u a b =
         let apart : u ≢ x = λ s. true≢false (sym (same_number u x s) ∙ a) in
-        let same_jobs : jobs_at units u ≡ jobs_at later_units u = sym (get_or-set_other units x u j no_jobs apart) in
-        let same_stops = same_count before_stop of_stops (stop_at counts) k.stops (stop_at later_counts) stops u b in
-        let same_starts = same_count before_start of_starts (start_at counts) k.starts (start_at later_counts) starts u b in
+        let same_jobs : jobs_at units u ≡ jobs_at (set units x j) u = sym (get_or-set_other units x u j no_jobs apart) in
+        let same_stops = same_count g units counts c x l j before_stop of_stops (stop_at counts) k.stops (stop_at later_counts) stops u b in
+        let same_starts = same_count g units counts c x l j before_start of_starts (start_at counts) k.starts (start_at later_counts) starts u b in
         λ i. free_by (same_jobs i) (held_at held u) (same_stops i) (same_starts i)
 
-    exact_by : (u : ℕ) (a b : Bool) → (u == x) ≡ a → is_listed row u ≡ b → cond a (free u) (cond b (free u) (get_or ready u false)) ≡ free u
+    exact_by : (u : ℕ) (a b : Bool) → (u == x) ≡ a → is_listed changed u ≡ b → cond a (free u) (cond b (free u) (get_or ready u false)) ≡ free u
     exact_by u true b e f = refl
     exact_by u false true e f = refl
     exact_by u false false e f = k.exact u ∙ stays u e f
 
-    pub set_kept : length later_counts ≡ length counts → length later ≡ length ready
-        → ((u : ℕ) → get_or later u false ≡ cond (u == x) (free u) (cond (is_listed row u) (free u) (get_or ready u false)))
-        → IsKept g later_units held later_counts later
-    set_kept a b r = record {
-      graph = k.graph;
-      units_long = length-set units x j ∙ k.units_long;
-      held_long = k.held_long;
-      counts_long = a ∙ k.counts_long;
-      ready_long = b ∙ k.ready_long;
-      stops = exact_anew before_stop of_stops (stop_at counts) k.stops (stop_at later_counts) stops;
-      starts = exact_anew before_start of_starts (start_at counts) k.starts (start_at later_counts) starts;
-      exact = λ u. r u ∙ exact_by u (u == x) (is_listed row u) refl refl;
-    }
+    pub set_kept : IsCounted g (set units x j) later_counts → length later ≡ length ready
+        → ((u : ℕ) → get_or later u false ≡ cond (u == x) (free u) (cond (is_listed changed u) (free u) (get_or ready u false)))
+        → IsKept g (set units x j) held later_counts later
+    set_kept a b r = kept_so g (set units x j) held later_counts later a k.held_long (b ∙ k.ready_long) (λ u. r u ∙ exact_by u (u == x) (is_listed changed u) refl refl)

@@ -67,7 +67,15 @@ is_start_free units held counts u =
 abbrev pub is_free : List UnitJobs → List Bool → List Blockers → ℕ → Bool
 is_free units held counts u = is_stop_free units counts u || is_start_free units held counts u
 
--- the counts are those of the pending jobs, and exactly the units that have a ready job by them are in the set
+-- the counts are those of the pending jobs
+pub record IsCounted (g : GraphView) (units : List UnitJobs) (counts : List Blockers) : Type 0 where
+  pub graph : IsGraph g
+  pub units_long : length units ≡ length g.names
+  pub counts_long : length counts ≡ length g.names
+  pub stops : (u : ℕ) → stop_at counts u ≡ count_before before_stop g units u
+  pub starts : (u : ℕ) → start_at counts u ≡ count_before before_start g units u
+
+-- they are, and exactly the units that have a ready job by them are in the set
 pub record IsKept (g : GraphView) (units : List UnitJobs) (held : List Bool) (counts : List Blockers) (ready : List Bool) : Type 0 where
   pub graph : IsGraph g
   pub units_long : length units ≡ length g.names

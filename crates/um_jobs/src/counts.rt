@@ -1,11 +1,14 @@
 //! How many pending jobs of other units come before a job.
 
-ghost use Rattle.std.specs.Prelude.{◌≡◌, ◌<◌, ◌≤◌, ◌+◌, ◌^◌, All, length};
+ghost use Rattle.std.specs.Prelude.{◌≡◌, ◌<◌, ◌≤◌, ◌+◌, ◌^◌, ℕ, All, length, slice_set};
+ghost use Rattle.um_graph.specs.Graph.{row_of};
 ghost use Rattle.um_graph.specs.declared.row.Neighbour.{Neighbour};
 ghost use Rattle.um_jobs.specs.Counts as told;
-ghost use Rattle.um_jobs.specs.Counts.{IsCountedAnew, MayCountAnew, before_start, before_stop, behind, start_at, stop_at};
+ghost use Rattle.um_jobs.specs.Counts.{IsCounted, IsCountedAnew, MayCountAnew, before_start, before_stop, behind, start_at, stop_at};
+ghost use Rattle.um_jobs.specs.Named.{jobs_at};
 
-use um_graph::Neighbour;
+use crate::table::jobs_of;
+use um_graph::{Graph, Neighbour};
 use um_model::UnitJobs;
 
 /// How many pending jobs of other units come before the stop of a unit, and before its start.
@@ -65,14 +68,14 @@ fn changes_pending(old: UnitJobs, new: UnitJobs) -> bool
 }
 
 /// The neighbours in a unit's row whose counts change where it has the new jobs in place of the old ones.
-pub fn touched(row: &[Neighbour], old: UnitJobs, new: UnitJobs) -> &[Neighbour]
+fn touched(row: &[Neighbour], old: UnitJobs, new: UnitJobs) -> &[Neighbour]
     ensures { result.now ≡ told.touched row.now old new }
 {
     if changes_pending(old, new) { row } else { &[] }
 }
 
 /// Counts, before the jobs of each of a unit's neighbours, its new jobs in place of the old ones.
-pub fn count_anew(counts: &mut [Blockers], row: &[Neighbour], old: UnitJobs, new: UnitJobs)
+fn count_anew(counts: &mut [Blockers], row: &[Neighbour], old: UnitJobs, new: UnitJobs)
     requires within { All (λ (n : Neighbour). n.unit < length counts.old) row.now }
     requires stops { MayCountAnew before_stop (stop_at counts.old) old new row.now }
     requires starts { MayCountAnew before_start (start_at counts.old) old new row.now }
@@ -83,5 +86,46 @@ pub fn count_anew(counts: &mut [Blockers], row: &[Neighbour], old: UnitJobs, new
         let was = Blockers::behind(old, *neighbour);
         let is = Blockers::behind(new, *neighbour);
         counts[neighbour.unit] = counts[neighbour.unit].recounted(was, is);
+    }
+}
+
+/// The unit has just these jobs from now on, and what comes before the jobs of its neighbours is counted anew. The result is the neighbours whose
+/// counts may differ.
+pub fn recount<'g>(
+    graph: &'g Graph,
+    units: &mut [UnitJobs],
+    counts: &mut [Blockers],
+    unit: usize,
+    jobs: UnitJobs,
+) -> &'g [Neighbour]
+    requires unit { unit < length units.old }
+    requires counted { IsCounted graph.now units.old counts.old }
+    ensures units { units.new ≡ slice_set units.old unit jobs }
+    ensures counted { IsCounted graph.now units.new counts.new }
+    ensures row { result.now ≡ told.touched (row_of graph.now.rows unit) (jobs_at units.old unit) jobs }
+    ensures stops { IsCountedAnew before_stop (stop_at counts.old) (stop_at counts.new) (jobs_at units.old unit) jobs result.now }
+    ensures starts { IsCountedAnew before_start (start_at counts.old) (start_at counts.new) (jobs_at units.old unit) jobs result.now }
+{
+    let old = units[unit];
+    let row = touched(graph.neighbours(unit), old, jobs);
+    units[unit] = jobs;
+    count_anew(counts, row, old, jobs);
+    row
+}
+
+/// Each unit has just its jobs of the plan from now on, and what comes before them is counted anew.
+pub fn recount_all(
+    graph: &Graph,
+    units: &mut [UnitJobs],
+    counts: &mut [Blockers],
+    plan: &[UnitJobs],
+)
+    requires counted { IsCounted graph.now units.old counts.old }
+    ensures each { (u : ℕ) → u < length units.old → jobs_at units.new u ≡ jobs_at plan.now u }
+    ensures len { length units.new ≡ length units.old }
+    ensures counted { IsCounted graph.now units.new counts.new }
+{
+    for unit in 0..units.len() {
+        recount(graph, units, counts, unit, jobs_of(plan, unit));
     }
 }

@@ -15,7 +15,7 @@ ghost use Rattle.um_wire.specs.declared.refusal.Refusal.TheVariants.{NoMemory};
 
 use crate::counts::Blockers;
 use crate::least::LeastSet;
-use crate::marks::{change, is_stop_free, mark};
+use crate::marks::{change, change_all, is_stop_free, mark};
 use crate::table::{has_waiting, jobs_of, with_job};
 use std::alloc::{AllocError, Global};
 use std::marker::Model;
@@ -128,16 +128,21 @@ impl Jobs<'_> {
         ensures held { self.new.held ≡ self.old.held }
         ensures graph { self.new.graph ≡ self.old.graph }
     {
-        for unit in 0..self.units.len() {
-            self.set(unit, jobs_of(plan, unit));
-        }
+        change_all(
+            self.graph,
+            &mut self.units,
+            &self.held,
+            &mut self.counts,
+            &mut self.ready,
+            plan,
+        );
     }
 
     /// The unit with this number counts as deactivating from now on, or no more.
     pub fn hold(&mut self, unit: usize, deactivating: bool)
         ensures { self.new ≡ with_held_at self.old unit deactivating }
     {
-        if unit < self.held.len() {
+        if unit < self.held.len() && self.held[unit] != deactivating {
             self.held[unit] = deactivating;
             mark(&mut self.ready, &self.units, &self.held, &self.counts, unit);
         }

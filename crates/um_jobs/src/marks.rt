@@ -4,8 +4,9 @@ ghost use Rattle.std.specs.Prelude.{◌≡◌, ◌<◌, ◌≤◌, ℕ, All, len
 ghost use Rattle.um_graph.specs.declared.row.Neighbour.{Neighbour};
 ghost use Rattle.um_jobs.specs.Counts as told;
 ghost use Rattle.um_jobs.specs.Counts.{IsKept, is_listed};
+ghost use Rattle.um_jobs.specs.Named.{jobs_at};
 
-use crate::counts::{Blockers, count_anew, touched};
+use crate::counts::{Blockers, recount, recount_all};
 use crate::least::LeastSet;
 use crate::table::is_waiting;
 use um_graph::{Graph, Neighbour};
@@ -87,10 +88,40 @@ pub fn change(
     ensures units { units.new ≡ slice_set units.old unit jobs }
     ensures kept { IsKept graph.now units.new held.now counts.new ready.new }
 {
-    let old = units[unit];
-    let row = touched(graph.neighbours(unit), old, jobs);
-    units[unit] = jobs;
-    count_anew(counts, row, old, jobs);
+    let row = recount(graph, units, counts, unit, jobs);
     mark_row(ready, units, held, counts, row);
     mark(ready, units, held, counts, unit);
+}
+
+/// Tells anew of each unit whether a job of it is ready.
+fn mark_all(ready: &mut LeastSet, units: &[UnitJobs], held: &[bool], counts: &[Blockers])
+    requires ready { length ready.old ≡ length units.now }
+    requires held { length held.now ≡ length units.now }
+    requires counts { length counts.now ≡ length units.now }
+    ensures len { length ready.new ≡ length ready.old }
+    ensures each { (u : ℕ) → get_or ready.new u false ≡ told.is_free units.now held.now counts.now u }
+{
+    for unit in 0..units.len() {
+        mark(ready, units, held, counts, unit);
+    }
+}
+
+/// Each unit has just its jobs of the plan from now on, and what follows from them is counted first, and then marked, so that no unit is marked
+/// as ready that waits for one further on.
+pub fn change_all(
+    graph: &Graph,
+    units: &mut [UnitJobs],
+    held: &[bool],
+    counts: &mut [Blockers],
+    ready: &mut LeastSet,
+    plan: &[UnitJobs],
+)
+    requires kept { IsKept graph.now units.old held.now counts.old ready.old }
+    ensures each { (u : ℕ) → u < length units.old → jobs_at units.new u ≡ jobs_at plan.now u }
+    ensures whole { length plan.now ≡ length units.old → units.new ≡ plan.now }
+    ensures len { length units.new ≡ length units.old }
+    ensures kept { IsKept graph.now units.new held.now counts.new ready.new }
+{
+    recount_all(graph, units, counts, plan);
+    mark_all(ready, units, held, counts);
 }

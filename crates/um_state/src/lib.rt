@@ -17,6 +17,7 @@ mod overlay;
 mod reply;
 mod row;
 mod rows;
+mod shared_tree;
 mod state;
 mod state_bytes;
 mod unit_bytes;

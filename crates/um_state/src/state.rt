@@ -15,6 +15,7 @@ ghost use Rattle.um_wire.specs.declared.refusal.Refusal.TheVariants.{NoMemory};
 
 use crate::boot::BootId;
 use crate::row::{Numbered, Row};
+use crate::shared_tree::SharedTree;
 use crate::units::{Pending, Units};
 use std::alloc::{AllocError, Global};
 use std::marker::Model;
@@ -24,10 +25,9 @@ use um_tree::Tree;
 use um_wire::Refusal;
 
 /// The state of the manager.
-#[derive(Drop)]
 pub struct State {
-    pub(crate) tree: Tree,
-    pub(crate) loaded: Tree,
+    pub(crate) tree: SharedTree,
+    pub(crate) loaded: SharedTree,
     pub(crate) boot: BootId,
     pub(crate) clock: Moment,
     pub(crate) next: NextNumber,
@@ -58,6 +58,22 @@ impl Model for State {
     ghost invariant = { λ s. s.is_common ≡ true → s.pending.names ≡ s.units.names };
 }
 
+// A derived `Drop` takes a state apart wherever one is let go, down to its last list; this is one call.
+impl Drop for State {
+    fn drop(self) {
+        let State {
+            tree: _tree,
+            loaded: _loaded,
+            boot: _boot,
+            clock: _,
+            next: _,
+            units: _units,
+            pending: _pending,
+            is_common: _,
+        } = self;
+    }
+}
+
 impl State {
     ghost use Rattle.um_state.specs.View.{state_of};
 
@@ -66,8 +82,8 @@ impl State {
         ensures { state_of result ≡ empty_state }
     {
         State {
-            tree: Tree::new(alloc),
-            loaded: Tree::new(alloc),
+            tree: SharedTree::empty(alloc),
+            loaded: SharedTree::empty(alloc),
             boot: BootId::none(alloc),
             clock: Moment::FIRST,
             next: NextNumber::FIRST,
@@ -77,18 +93,22 @@ impl State {
         }
     }
 
+    pub(crate) fn alloc(&self) -> Global {
+        self.units.alloc
+    }
+
     /// The tree in hand, which the next reload loads.
     pub fn tree(&self) -> &Tree
         ensures { result.now ≡ (state_of self.now).tree }
     {
-        &self.tree
+        self.tree.tree()
     }
 
     /// The tree as it was last loaded.
     pub fn loaded(&self) -> &Tree
         ensures { result.now ≡ (state_of self.now).loaded }
     {
-        &self.loaded
+        self.loaded.tree()
     }
 
     /// The boot's id.
@@ -187,6 +207,7 @@ impl State {
         ensures ok { OnOk result (state_of self.new ≡ record (state_of self.old) { tree = tree; loaded = tree }) }
         ensures err { OnErr result (state_of self.new ≡ state_of self.old) }
     {
+        let tree = SharedTree::of(self.alloc(), tree)?;
         self.loaded = tree.copy()?;
         self.tree = tree;
         Ok(())
@@ -270,7 +291,7 @@ impl State {
         self.is_common = false;
     }
 
-    /// The same state again.
+    /// The same state again. The two share their trees, but those with an entry under `run/`.
     pub fn copy(&self) -> Result<State, AllocError>
         ensures { IfOk result (λ s. state_of s ≡ state_of self.now) }
     {

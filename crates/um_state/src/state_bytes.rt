@@ -9,6 +9,7 @@ ghost use Rattle.um_model.proofs.StateSpellingsLaws.{canonical_state};
 ghost use Rattle.um_state.specs.View.{state_of};
 
 use crate::boot::BootId;
+use crate::shared_tree::SharedTree;
 use crate::state::State;
 use crate::unit_bytes::are_distinct;
 use crate::units::{Pending, Units};
@@ -50,20 +51,20 @@ fn is_sound(alloc: Global, state: &State) -> Result<bool, AllocError>
 }
 
 /// The state of these fields.
-fn state_with(fields: Fields) -> State
-    ensures { state_of result ≡ of_fields (fields.0, (fields.1.0, (fields.1.1.0, (fields.1.1.1.0, (fields.1.1.1.1.0, (fields.1.1.1.1.1.0.held, fields.1.1.1.1.1.1.held)))))) }
+fn state_with(alloc: Global, fields: Fields) -> Result<State, AllocError>
+    ensures { IfOk result (λ state. state_of state ≡ of_fields (fields.0, (fields.1.0, (fields.1.1.0, (fields.1.1.1.0, (fields.1.1.1.1.0, (fields.1.1.1.1.1.0.held, fields.1.1.1.1.1.1.held))))))) }
 {
     let (tree, (loaded, (boot, (clock, (next, (units, pending)))))) = fields;
-    State {
-        tree,
-        loaded,
+    Ok(State {
+        tree: SharedTree::of(alloc, tree)?,
+        loaded: SharedTree::of(alloc, loaded)?,
         boot,
         clock,
         next,
         units,
         pending,
         is_common: false,
-    }
+    })
 }
 
 /// The state, where it is sound.
@@ -91,8 +92,8 @@ impl State {
         ensures front { OnErr result (IsInFront out.old.items out.new.items) }
     {
         out.push(STATE_VERSION)?;
-        self.tree.put(out)?;
-        self.loaded.put(out)?;
+        self.tree.tree().put(out)?;
+        self.loaded.tree().put(out)?;
         self.boot.put(out)?;
         self.clock.put(out)?;
         self.next.put(out)?;
@@ -115,7 +116,7 @@ impl Canon for State {
     // A state that isn't sound has no spelling. None of a run is like that (`each_state_of_a_run_has_a_spelling`), and that it isn't costs
     // less to see than its bytes do to write.
     fn put(&self, out: &mut Vec<u8>) -> Result<(), AllocError> {
-        if !is_sound(self.units.alloc, self)? {
+        if !is_sound(self.alloc(), self)? {
             return Err(AllocError);
         }
         self.put_fields(out)
@@ -128,7 +129,8 @@ impl Canon for State {
         let Some((fields, n)) = Fields::get(alloc, rest)? else {
             return Ok(None);
         };
-        match if_sound(alloc, state_with(fields))? {
+        let read = state_with(alloc, fields)?;
+        match if_sound(alloc, read)? {
             Some(state) => Ok(Some((state, n + 1))),
             None => Ok(None),
         }

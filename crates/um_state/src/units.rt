@@ -57,7 +57,6 @@ fn put(
 }
 
 /// What the state holds of units, by the numbers of their names: also those of which it holds nothing may have one.
-#[derive(Drop)]
 pub struct Units {
     pub(crate) alloc: Global,
     names: Names,
@@ -76,6 +75,19 @@ impl Model for Units {
     ghost view = { λ u. record { names = u.names; held = units_by u.names u.states.items } };
 
     ghost invariant = { λ u. (vec_len u.states ≡ length u.names) × AreAscending u.names };
+}
+
+// One call, as of a `State`.
+impl Drop for Units {
+    fn drop(self) {
+        let Units {
+            alloc: _,
+            names: _names,
+            states: _states,
+            finder: _finder,
+            awaited: _awaited,
+        } = self;
+    }
 }
 
 impl Units {
@@ -307,7 +319,6 @@ impl Units {
 }
 
 /// The pending jobs of units, by the numbers of their names: also those of which no job is pending may have one.
-#[derive(Drop)]
 pub struct Pending {
     alloc: Global,
     names: Names,
@@ -322,6 +333,17 @@ impl Model for Pending {
     ghost view = { λ p. record { names = p.names; held = jobs_by p.names p.jobs.items } };
 
     ghost invariant = { λ p. (vec_len p.jobs ≡ length p.names) × AreAscending p.names };
+}
+
+// One call, as of a `State`.
+impl Drop for Pending {
+    fn drop(self) {
+        let Pending {
+            alloc: _,
+            names: _names,
+            jobs: _jobs,
+        } = self;
+    }
 }
 
 impl Pending {

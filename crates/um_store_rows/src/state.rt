@@ -307,6 +307,49 @@ fn full(rt: &(impl AllocGlobal + Abort)) -> Box<State> {
     state
 }
 
+/// Puts an empty file into the tree in hand.
+fn put(rt: &impl Abort, state: &mut State, path: &str) {
+    let put: Result<_, _> = state.put_file(path, "");
+    put.expect(rt, "no file");
+}
+
+/// Puts an empty file, and loads the tree.
+fn load(rt: &impl Abort, state: &mut State, path: &str) {
+    put(rt, state, path);
+    state.reload().expect(rt, "no memory");
+}
+
+/// The same state again, in a box.
+fn copied(rt: &(impl AllocGlobal + Abort), state: &State) -> Box<State> {
+    let copy = state.copy().expect(rt, "no memory");
+    Box::new(rt.alloc(), copy).expect(rt, "no memory")
+}
+
+/// Asserts in which of the two trees something stands at the path: in the one in hand, in the loaded one.
+fn stands(rt: &impl Abort, state: &State, path: &str, wanted: (bool, bool)) {
+    let in_hand = state.tree().get(path).is_some();
+    let is_loaded = state.loaded().get(path).is_some();
+    same_at(rt, (in_hand, is_loaded), wanted, path);
+}
+
+/// Asserts that what is put into a copy stands in its tree in hand alone.
+fn is_put_apart(rt: &(impl AllocGlobal + Abort), state: &State, path: &str) {
+    let mut copy = copied(rt, state);
+    put(rt, &mut copy, path);
+    stands(rt, &copy, path, (true, false));
+    stands(rt, &copy, "etc/a.service", (true, true));
+    stands(rt, state, path, (false, false));
+}
+
+/// Asserts that a boot takes the file under `run/` out of a copy alone, and leaves the other one.
+fn is_cleared_apart(rt: &(impl AllocGlobal + Abort), state: &State) {
+    let mut copy = copied(rt, state);
+    boot(rt, &mut copy);
+    stands(rt, &copy, "run/b.service", (false, false));
+    stands(rt, &copy, "etc/a.service", (true, true));
+    stands(rt, state, "run/b.service", (true, true));
+}
+
 /// Asserts that no front of the bytes spells a state, in this row.
 fn state_is_not_read(rt: &(impl AllocGlobal + Abort), bytes: &[u8], row: &str) {
     is_not_read::<State, _>(rt, bytes, row);
@@ -329,6 +372,18 @@ fn a_state_is_its_fields_in_order(rt: HostRuntime) {
     is_of_the_empty_state(&rt, hex(&rt, EMPTY).as_slice());
     is_of_the_full_state(&rt, hex(&rt, STATE).as_slice());
     is_read::<State>(&rt, hex(&rt, DEAD).as_slice());
+}
+
+#[test]
+fn copies_of_a_state_share_its_trees_and_no_change_of_them(rt: HostRuntime) {
+    let mut state = empty(&rt);
+    load(&rt, &mut state, "etc/a.service");
+    is_put_apart(&rt, &state, "etc/c.service");
+    is_put_apart(&rt, &state, "run/b.service");
+    // from here on the trees aren't shared
+    load(&rt, &mut state, "run/b.service");
+    is_put_apart(&rt, &state, "etc/c.service");
+    is_cleared_apart(&rt, &state);
 }
 
 /// Asserts that no front of these bytes spells a state, with another one at this place, in this row.

@@ -1,6 +1,5 @@
 use Rattle.std.proofs.Common.{◌∙◌, false, length, sym, ap, arith}
 use Rattle.std.proofs.lemmas.List.{length-replicate}
-use Rattle.um_model.specs.Jobs.{no_jobs}
 use Rattle.um_model.specs.Service.{active_state_of}
 use Rattle.um_graph.specs.Graph.{GraphView, IsGraph}
 use Rattle.um_state.specs.View.{state_of}
@@ -17,12 +16,12 @@ loop-unit-init c =
     let among = c.graph-graph.result.now in
     let same = c.graph-graph.ensures.graph in
     let many = ap (λ (g : GraphView). length g.names) same in
-    let none = c.in_ok-jobs.ensures in
-    none_told w.graph (state_of w.now) c.install.new.self pending graph
-    (c.install.ensures.graph ∙ (c.hold_all.ensures.graph ∙ (none.graph ∙ same)))
+    let made = c.in_ok-jobs.ensures in
+    none_told w.graph (state_of w.now) c.in_ok-jobs.jobs pending graph
+    (made.graph ∙ same)
     c.pending.ensures.len (pends_by w.graph (state_of w.now) pending graph c.pending.ensures.held)
-    (c.install.ensures.whole (c.pending.ensures.len ∙ sym (ap length c.hold_all.ensures.units ∙ (ap length none.units ∙ (length-replicate (length among.names) no_jobs ∙ many)))))
-    (ap length c.install.ensures.held ∙ (c.hold_all.ensures.held ∙ (ap length none.held ∙ (length-replicate (length among.names) false ∙ many))))
+    (made.whole (c.pending.ensures.len ∙ sym many))
+    (ap length made.held ∙ (length-replicate (length among.names) false ∙ many))
 
 pub loop-unit-preserved : goal.loop-unit-preserved
 loop-unit-preserved c =

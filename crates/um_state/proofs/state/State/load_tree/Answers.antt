@@ -7,6 +7,6 @@ pub returns-clause-ok : goal.returns-clause-ok
 returns-clause-ok c =
     let s = c.self.inside in
     let tree = c.args.tree in
-    let loaded : c.in_ok-self-inside.field-0 ≡ tree = c.in_ok-self-inside.ensures in
-    ◌∙◌ {A = State} (λ j. record { tree = tree; loaded = loaded j; boot = s.boot; clock = s.clock; next = s.next; units = s.units.held; pending = s.pending.held })
+    let loaded : c.in_ok-self-inside.field-0 ≡ tree = c.in_ok-self-inside.ensures ∙ c.in_ok-tree.ensures in
+    ◌∙◌ {A = State} (λ j. record { tree = c.in_ok-tree.ensures j; loaded = loaded j; boot = s.boot; clock = s.clock; next = s.next; units = s.units.held; pending = s.pending.held })
     (ap (λ s. record (state_of s) { tree = tree; loaded = tree }) c.self.view_is)

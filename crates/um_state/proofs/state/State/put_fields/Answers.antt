@@ -1,6 +1,6 @@
 use Rattle.std.proofs.Common.{◌≡◌, ◌++◌, true, ap, subst, ◌∙◌}
 use Rattle.um_model.specs.Bytes.{text_spelling}
-use Rattle.um_model.specs.StateSpellings.{FitState, is_sound, pending_spelling, state_spelling, tree_spelling, units_spelling}
+use Rattle.um_model.specs.StateSpellings.{FitState, FitTree, is_sound, pending_spelling, state_spelling, tree_spelling, units_spelling}
 use Rattle.um_state.proofs.Fronts.{in_front, in_front_of_more}
 use Rattle.um_state.proofs.Results.{on_any_err, on_err_more, on_ok_more}
 use Rattle.um_state.proofs.StateFields.{behind_mark, eight_bytes}
@@ -17,8 +17,8 @@ returns-clause-put c =
     let next = eight_bytes s.next in
     let units = units_spelling s.units.held in
     let pending = pending_spelling s.pending.held in
-    let e1 = c.in_ok-put.ensures.put ∙ ap (λ o. o ++ tree) c.in_ok-push.ensures.items in
-    let e2 = c.in_ok-put-2.ensures.put ∙ ap (λ o. o ++ loaded) e1 in
+    let e1 = c.in_ok-put.ensures.put ∙ (ap (λ t. c.push.new.self.items ++ tree_spelling t) c.tree.ensures ∙ ap (λ o. o ++ tree) c.in_ok-push.ensures.items) in
+    let e2 = c.in_ok-put-2.ensures.put ∙ (ap (λ t. c.put.new.out.items ++ tree_spelling t) c.tree-2.ensures ∙ ap (λ o. o ++ loaded) e1) in
     let e3 = c.in_ok-put-3.ensures.put ∙ ap (λ o. o ++ boot) e2 in
     let e4 = c.in_ok-put-4.ensures.put ∙ ap (λ o. o ++ clock) e3 in
     let e5 = c.in_ok-put-5.ensures.put ∙ ap (λ o. o ++ next) e4 in
@@ -94,8 +94,8 @@ returns-clause-fits c =
     on_ok_more c.put-7.result
     (λ fit. subst (λ s. is_sound (state_of s) ≡ true → FitState (state_of s)) c.self.view_is
     (λ sound. record {
-      tree = c.in_ok-put.ensures.fits;
-      loaded = c.in_ok-put-2.ensures.fits;
+      tree = subst FitTree c.tree.ensures c.in_ok-put.ensures.fits;
+      loaded = subst FitTree c.tree-2.ensures c.in_ok-put-2.ensures.fits;
       boot = c.in_ok-put-3.ensures.fits;
       clock = c.in_ok-put-4.ensures.fits;
       next = c.in_ok-put-5.ensures.fits;

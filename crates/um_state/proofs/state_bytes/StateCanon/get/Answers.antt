@@ -10,7 +10,7 @@ returns-in-Some-2-clause-read c =
     let bytes = c.args.bytes.now in
     let one : slice_index bytes 0 ≡ 1 = search rules in
     let read = at_some _ _ _ _ c.in-Some.fields c.in-Some.n c.in_ok-fields.ensures.read c.in-Some.is in
-    found_here bytes _ c.in-Some.n c.in-1.len_at_least one read (state_of c.state_with.result) c.state_with.ensures
+    found_here bytes _ c.in-Some.n c.in-1.len_at_least one read (state_of c.in_ok-read.read) c.in_ok-read.ensures
     ∙ ap (option_map (λ s. (s, drop (c.in-Some.n + 1) bytes))) (sym c.in_ok-state.ensures ∙ ap (option_map state_of) c.in-Some-2.is)
 
 pub returns-in-None-clause-read : goal.returns-in-None-clause-read
@@ -18,7 +18,7 @@ returns-in-None-clause-read c =
     let bytes = c.args.bytes.now in
     let one : slice_index bytes 0 ≡ 1 = search rules in
     let read = at_some _ _ _ _ c.in-Some.fields c.in-Some.n c.in_ok-fields.ensures.read c.in-Some.is in
-    found_here bytes _ c.in-Some.n c.in-1.len_at_least one read (state_of c.state_with.result) c.state_with.ensures
+    found_here bytes _ c.in-Some.n c.in-1.len_at_least one read (state_of c.in_ok-read.read) c.in_ok-read.ensures
     ∙ ap (option_map (λ s. (s, drop (c.in-Some.n + 1) bytes))) (sym c.in_ok-state.ensures ∙ ap (option_map state_of) c.in-None.is)
 
 pub returns-in_default-2-clause-read : goal.returns-in_default-2-clause-read
