@@ -18,7 +18,6 @@ use um_model::{End, Fate, NextNumber, ProcessNumber, Signal};
 ///
 /// A number that was started is executed until `ends` tells its end; another one is starting, or absent under a claim. A call that
 /// finds no memory for its note fails.
-#[derive(Drop)]
 pub struct FakeChildren {
     calls: Vec<Call>,
     ends: Vec<(ProcessNumber, End)>,
@@ -28,6 +27,19 @@ pub struct FakeChildren {
     lost: bool,
     failures: u64,
     ghost kept: { IsFinal (calls_of calls.items) },
+}
+
+// One call, where a derived one is taken apart at each exit.
+impl Drop for FakeChildren {
+    fn drop(self) {
+        let FakeChildren {
+            calls: _calls,
+            ends: _ends,
+            fuse: _,
+            lost: _,
+            failures: _,
+        } = self;
+    }
 }
 
 fn has_started(calls: &[Call], number: ProcessNumber) -> bool

@@ -32,7 +32,6 @@ use um_runner::RunnerFile;
 ///
 /// Fates are asked in rounds, each in ascending order: a number that isn't above the last one begins a round, and the folder is looked
 /// at once a round. Where nothing came, a fate costs no call of the system but once a second; and `has_news` tells whether a round is worth its while.
-#[derive(Drop)]
 pub struct RunnerDir<'a, R: Files + Processes + Clock> {
     rt: &'a R,
     alloc: Global,
@@ -56,6 +55,28 @@ pub struct RunnerDir<'a, R: Files + Processes + Clock> {
     foreign: Option<ProcessNumber>,
     /// So many processes run that aren't live.
     unmanaged: u64,
+}
+
+// One call, where a derived one is taken apart at each exit.
+impl<'a, R: Files + Processes + Clock> Drop for RunnerDir<'a, R> {
+    fn drop(self) {
+        let RunnerDir {
+            rt: _,
+            alloc: _,
+            program: _program,
+            folder: _folder,
+            known: _known,
+            watch: _,
+            last: _,
+            is_restless: _,
+            failures: _,
+            cause: _cause,
+            silences: _silences,
+            silent: _,
+            foreign: _,
+            unmanaged: _,
+        } = self;
+    }
 }
 
 /// Nothing is done in a folder of another store, whose greatest number this is.

@@ -32,11 +32,21 @@ use um_state::{Action, Command, Delta, Event, Input, Query, Reply, State};
 use um_wire::Refusal;
 
 /// The manager's state, what is known of its units, and the size of its store.
-#[derive(Drop)]
 pub struct Engine {
     alloc: Global,
     served: Served,
     size: u64,
+}
+
+// One call, where a derived one is taken apart at each exit.
+impl Drop for Engine {
+    fn drop(self) {
+        let Engine {
+            alloc: _,
+            served: _served,
+            size: _,
+        } = self;
+    }
 }
 
 /// What a step changes.

@@ -22,7 +22,6 @@ use um_wire::Refusal;
 
 /// The graph of a tree, the units beside those of the tree for which it was made, and the units that are known without the tree's
 /// entries under `run/`.
-#[derive(Drop)]
 pub struct Known {
     graph: Graph,
     /// Those of its units, each with the number that it has there.
@@ -38,6 +37,18 @@ impl Model for Known {
     ghost view = { λ k. record { graph = k.graph; extra = k.extra.items; lasting = unwrap_or (option_map (λ names. names.items) k.lasting) k.graph.names } };
 
     ghost invariant = { λ k. k.names ≡ k.graph.names };
+}
+
+// One call, where a derived one is taken apart at each exit.
+impl Drop for Known {
+    fn drop(self) {
+        let Known {
+            graph: _graph,
+            names: _names,
+            extra: _extra,
+            lasting: _lasting,
+        } = self;
+    }
 }
 
 /// The units that the state holds, and the one that is named.

@@ -23,7 +23,6 @@ use um_wire::Refusal;
 
 /// A state and what is known of the units of its loaded tree, all that the state holds among them. States that follow one another
 /// share what is known.
-#[derive(Drop)]
 pub struct Served {
     state: State,
     known: Rc<Known>,
@@ -39,6 +38,17 @@ impl Model for Served {
     ghost view = { λ s. record { state = state_of s.state; known = s.known.value } };
 
     ghost invariant = { λ s. (s.state.names ≡ s.known.value.graph.names) × KnowsFor s.known.value (state_of s.state) × (s.trees ≡ trees_weight (state_of s.state)) };
+}
+
+// One call, where a derived one is taken apart at each exit.
+impl Drop for Served {
+    fn drop(self) {
+        let Served {
+            state: _state,
+            known: _known,
+            trees: _,
+        } = self;
+    }
 }
 
 impl Served {
@@ -72,7 +82,11 @@ impl Served {
     pub fn into_state(self) -> State
         ensures { state_of result ≡ self.state }
     {
-        let Served { state, .. } = self;
+        let Served {
+            state,
+            known: _known,
+            trees: _,
+        } = self;
         state
     }
 

@@ -24,7 +24,6 @@ use um_name::UnitName;
 use um_state::{Action, Delta, State, Work as Rows};
 
 /// A step in work: the rows of a state over the graph that serves it, and what is asked of processes by now.
-#[derive(Drop)]
 pub struct Work<'g> {
     alloc: Global,
     graph: &'g Graph,
@@ -41,6 +40,19 @@ impl<'g> Model for Work<'g> {
     ghost view = { λ w. record { graph = w.graph.now; base = w.rows.base; now = w.rows.now; moment = w.moment; actions = map action_of w.actions.items } };
 
     ghost invariant = { λ w. (w.rows.now.names ≡ w.graph.now.names) × Serves w.graph.now (state_of w.rows.now) };
+}
+
+// One call, where a derived one is taken apart at each exit.
+impl<'g> Drop for Work<'g> {
+    fn drop(self) {
+        let Work {
+            alloc: _,
+            graph: _,
+            rows: _rows,
+            moment: _,
+            actions: _actions,
+        } = self;
+    }
 }
 
 impl<'g> Work<'g> {
@@ -180,10 +192,10 @@ impl<'g> Work<'g> {
     {
         let Work {
             alloc,
+            graph: _,
             rows,
             moment,
             actions,
-            ..
         } = self;
         let delta = Delta::of(alloc, &rows, moment)?;
         Ok((delta, actions))

@@ -26,7 +26,6 @@ use um_wire::{Refusal, no_such_job};
 
 /// The pending jobs of the units of a graph by their numbers, and which units count as deactivating. A number past the last unit
 /// is that of a unit without jobs, and nothing changes it.
-#[derive(Drop)]
 pub struct Jobs<'g> {
     graph: &'g Graph,
     units: Vec<UnitJobs>,
@@ -46,6 +45,19 @@ impl<'g> Model for Jobs<'g> {
     ghost view = { λ j. record { graph = j.graph.now; units = j.units.items; held = j.held.items } };
 
     ghost invariant = { λ j. IsKept j.graph.now j.units.items j.held.items j.counts.items j.ready };
+}
+
+// One call, where a derived one is taken apart at each exit.
+impl<'g> Drop for Jobs<'g> {
+    fn drop(self) {
+        let Jobs {
+            graph: _,
+            units: _units,
+            held: _held,
+            counts: _counts,
+            ready: _ready,
+        } = self;
+    }
 }
 
 impl<'g> Jobs<'g> {

@@ -43,7 +43,6 @@ pub struct OpenedStore {
 
 /// The engine over its store on a disk. Whichever image a crash leaves of the disk, it is a store of the engine's state, as long as
 /// the disk does what it answers and no call on it failed.
-#[derive(Drop)]
 pub struct Keeper<D: Disk> {
     pub(crate) alloc: Global,
     pub(crate) disk: D,
@@ -57,6 +56,21 @@ pub struct Keeper<D: Disk> {
     ghost holds: { MayHold log.layout (machine.size_in engine) (machine.state_in engine) },
     ghost kept: { failed ≡ false → IsTrue (D.honest disk)
         → Keeps (D.past disk) (D.size disk) log.layout home.slot home.generation log.number log.next (machine.state_in engine) } by { Prim.hlevel (props, codes, maps.code, tree_code) },
+}
+
+// One call, where a derived one is taken apart at each exit.
+impl<D: Disk + Drop> Drop for Keeper<D> {
+    fn drop(self) {
+        let Keeper {
+            alloc: _,
+            disk: _disk,
+            engine: _engine,
+            home: _,
+            log: _,
+            failed: _,
+            opened: _,
+        } = self;
+    }
 }
 
 /// The refusal of a call on the disk, noted where the disk failed.
@@ -113,8 +127,16 @@ impl<D: Disk> Keeper<D> {
     pub fn into_disk(self) -> D
         ensures { result ≡ disk_in self }
     {
-        drop(self.engine);
-        self.disk
+        let Keeper {
+            alloc: _,
+            disk,
+            engine: _engine,
+            home: _,
+            log: _,
+            failed: _,
+            opened: _,
+        } = self;
+        disk
     }
 
     /// Writes the state as the next generation, so that no record is read.

@@ -44,7 +44,6 @@ pub struct Output {
 }
 
 /// The running manager over a store and children.
-#[derive(Drop)]
 pub struct Manager<D: Disk, C: Children> {
     alloc: Global,
     keeper: Keeper<D>,
@@ -53,6 +52,20 @@ pub struct Manager<D: Disk, C: Children> {
     sessions: Vec<Session>,
     adopted: usize,
     ghost each: { length sessions.items ≡ 64 },
+}
+
+// One call, where a derived one is taken apart at each exit.
+impl<D: Disk + Drop, C: Children + Drop> Drop for Manager<D, C> {
+    fn drop(self) {
+        let Manager {
+            alloc: _,
+            keeper: _keeper,
+            children: _children,
+            marks: _marks,
+            sessions: _sessions,
+            adopted: _,
+        } = self;
+    }
 }
 
 impl<D: Disk, C: Children> Manager<D, C> {
@@ -242,9 +255,12 @@ impl<D: Disk, C: Children> Manager<D, C> {
         ensures children { result.1 ≡ self.children }
     {
         let Manager {
+            alloc: _,
             keeper,
             children,
-            ..
+            marks: _marks,
+            sessions: _sessions,
+            adopted: _,
         } = self;
         (keeper.into_disk(), children)
     }

@@ -9,7 +9,6 @@ use crate::fault::Fault;
 
 /// A disk that fails one call and goes on: its `fails`-th, counted from 1 since the fuse was put in. The disk below isn't
 /// asked that call, unless it is a write and the fuse is one that makes it. With `fails` 0 no call is failed.
-#[derive(Drop)]
 pub struct Fuse<D: Disk> {
     inner: D,
     fails: u64,
@@ -18,6 +17,19 @@ pub struct Fuse<D: Disk> {
     calls: u64,
     /// The failures that the disk below knows nothing of.
     own: u64,
+}
+
+// One call, where a derived one is taken apart at each exit.
+impl<D: Disk + Drop> Drop for Fuse<D> {
+    fn drop(self) {
+        let Fuse {
+            inner: _inner,
+            fails: _,
+            makes: _,
+            calls: _,
+            own: _,
+        } = self;
+    }
 }
 
 impl<D: Disk> Fuse<D> {
@@ -64,7 +76,13 @@ impl<D: Disk> Fuse<D> {
     pub fn into_inner(self) -> D
         ensures { result ≡ self.inner }
     {
-        let Fuse { inner, .. } = self;
+        let Fuse {
+            inner,
+            fails: _,
+            makes: _,
+            calls: _,
+            own: _,
+        } = self;
         inner
     }
 

@@ -15,7 +15,6 @@ use um_model::SECTOR_BYTES;
 
 /// A disk in memory that keeps each of its calls, so that each image that a crash may leave can be taken from it. It is
 /// honest. A call that finds no memory for its note fails and is not made, so that nothing is ever missing from the notes.
-#[derive(Drop)]
 pub struct MemDisk {
     /// What it was made with.
     start: Vec<Sector>,
@@ -34,6 +33,21 @@ pub struct MemDisk {
     ghost noted_since: { since ≤ length noted.items },
     ghost at_sync: { (k : ℕ) → model.candidates (past_of start.items (take since noted.items)) k ≡ slice_index_or synced.items k [] ∷ [] },
     ghost behind: { AllPass (is_write_within (length start.items)) (drop since noted.items) },
+}
+
+// One call, where a derived one is taken apart at each exit.
+impl Drop for MemDisk {
+    fn drop(self) {
+        let MemDisk {
+            start: _start,
+            held: _held,
+            synced: _synced,
+            noted: _noted,
+            since: _,
+            calls: _,
+            failures: _,
+        } = self;
+    }
 }
 
 /// So many sectors of zeros.
@@ -148,7 +162,9 @@ impl MemDisk {
             held,
             mut synced,
             mut noted,
-            ..
+            since: _,
+            calls: _,
+            failures: _,
         } = self;
         start.copy_from_slice(held.as_slice());
         synced.copy_from_slice(held.as_slice());

@@ -27,7 +27,6 @@ use um_wire::Refusal;
 
 /// A gate, and beside it what goes from one round to the next: what waits for each client, the room for what is read, whether the last round was
 /// busy, and the moment of its turn.
-#[derive(Drop)]
 pub struct Buffered<G> {
     pub gate: G,
     alloc: Global,
@@ -39,6 +38,21 @@ pub struct Buffered<G> {
     was_busy: bool,
     /// The moment of the last turn.
     turned: Moment,
+}
+
+// One call, where a derived one is taken apart at each exit.
+impl<G: Drop> Drop for Buffered<G> {
+    fn drop(self) {
+        let Buffered {
+            gate: _gate,
+            alloc: _,
+            pieces: _pieces,
+            backlog: _backlog,
+            blanks: _blanks,
+            was_busy: _,
+            turned: _,
+        } = self;
+    }
 }
 
 /// A turn found no memory for itself.

@@ -4,7 +4,6 @@ use std::rc::Rc;
 use um_name::UnitName;
 
 /// A unit that was found.
-#[derive(Drop)]
 pub struct LoadedUnit {
     /// Its own name, to which the name that was asked for leads.
     pub name: UnitName,
@@ -13,6 +12,18 @@ pub struct LoadedUnit {
     pub settings: Settings,
     /// By file in the order in which they are read, and by line. A file that warns of nothing isn't among them.
     pub warnings: Rc<Vec<FileWarnings>>,
+}
+
+// One call, where a derived one is taken apart at each exit.
+impl Drop for LoadedUnit {
+    fn drop(self) {
+        let LoadedUnit {
+            name: _name,
+            path: _path,
+            settings: _settings,
+            warnings: _warnings,
+        } = self;
+    }
 }
 
 /// What became of the look for a unit.

@@ -10,7 +10,7 @@ use um_words::{Command, Variable};
 
 /// What a unit's file sets of its processes, its restarts and its start limit (systemd.service(5); for the limit
 /// systemd.unit(5)). A span of none never ends.
-#[derive(Debug, Drop)]
+#[derive(Debug)]
 pub struct ServiceSettings {
     pub kind: UnitKind,
     /// `ExecStart=`, its commands in order.
@@ -39,6 +39,28 @@ pub struct ServiceSettings {
     pub prevents_restart: ExitSet,
     /// `RestartForceExitStatus=`.
     pub forces_restart: ExitSet,
+}
+
+// One call, where a derived one is taken apart at each exit.
+impl Drop for ServiceSettings {
+    fn drop(self) {
+        let ServiceSettings {
+            kind: _,
+            start: _start,
+            stop: _stop,
+            environment: _environment,
+            remains: _,
+            restart: _,
+            restart_delay: _,
+            timeout_start: _,
+            timeout_stop: _,
+            limit_interval: _,
+            limit_burst: _,
+            success: _success,
+            prevents_restart: _prevents_restart,
+            forces_restart: _forces_restart,
+        } = self;
+    }
 }
 
 impl ServiceSettings {

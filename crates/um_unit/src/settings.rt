@@ -24,7 +24,7 @@ use um_value::ExitSet;
 use um_words::Command;
 
 /// What other units a unit names, each list in order (systemd.unit(5)).
-#[derive(Debug, Drop)]
+#[derive(Debug)]
 pub struct Dependencies {
     /// `After=`.
     pub after: Vec<String>,
@@ -44,8 +44,24 @@ pub struct Dependencies {
     pub default_dependencies: bool,
 }
 
+// One call, where a derived one is taken apart at each exit.
+impl Drop for Dependencies {
+    fn drop(self) {
+        let Dependencies {
+            after: _after,
+            before: _before,
+            wants: _wants,
+            required: _required,
+            binds_to: _binds_to,
+            part_of: _part_of,
+            conflicts: _conflicts,
+            default_dependencies: _,
+        } = self;
+    }
+}
+
 /// What enabling a unit makes (systemd.unit(5), "[Install] Section Options").
-#[derive(Debug, Drop)]
+#[derive(Debug)]
 pub struct InstallSettings {
     /// `Alias=`.
     pub alias: Vec<String>,
@@ -59,8 +75,21 @@ pub struct InstallSettings {
     pub default_instance: Option<String>,
 }
 
+// One call, where a derived one is taken apart at each exit.
+impl Drop for InstallSettings {
+    fn drop(self) {
+        let InstallSettings {
+            alias: _alias,
+            wanted_by: _wanted_by,
+            required_by: _required_by,
+            also: _also,
+            default_instance: _default_instance,
+        } = self;
+    }
+}
+
 /// What a unit's files set.
-#[derive(Debug, Drop)]
+#[derive(Debug)]
 pub struct Settings {
     /// The text for people, empty where none is given (systemd.unit(5), `Description=`).
     pub description: String,
@@ -71,6 +100,18 @@ pub struct Settings {
     pub service: Rc<ServiceSettings>,
     /// What enabling it makes.
     pub install: InstallSettings,
+}
+
+// One call, where a derived one is taken apart at each exit.
+impl Drop for Settings {
+    fn drop(self) {
+        let Settings {
+            description: _description,
+            dependencies: _dependencies,
+            service: _service,
+            install: _install,
+        } = self;
+    }
 }
 
 impl InstallSettings {
