@@ -1,7 +1,7 @@
 //! What the trial does, a row a function. Each prints what it found.
 
 use crate::orders::Orders;
-use anyhow::{Context, bail};
+use anyhow::Context;
 use std::alloc::Global;
 use std::time::Duration;
 use std::{env, fs, thread};
@@ -10,7 +10,7 @@ use um_children::{
 };
 use um_keeper::SpawnOrder;
 
-/// Fates are asked so many times, and a file is looked for, every 10 ms.
+/// Fates are asked so many times, every 10 ms.
 const POLLS: u32 = 500;
 
 /// So many times it is looked whether a process starts that must not.
@@ -112,9 +112,9 @@ fn is_there(rt: &HostRuntime, path: &str) -> bool {
     fs::symlink_metadata(rt, path).is_ok()
 }
 
-/// Whether something stands at the path, or comes there while it is looked so many times.
-fn comes(rt: &HostRuntime, path: &str, polls: u32) -> bool {
-    for _ in 0..polls {
+/// Whether something stands at the path, or comes there.
+fn comes(rt: &HostRuntime, path: &str) -> bool {
+    for _ in 0..FEW_POLLS {
         if is_there(rt, path) {
             return true;
         }
@@ -217,7 +217,7 @@ fn starts_late(
     order: Box<SpawnOrder>,
 ) -> anyhow::Result<bool> {
     children.spawn(Box::into_inner(order))?;
-    Ok(comes(rt, "late", FEW_POLLS))
+    Ok(comes(rt, "late"))
 }
 
 const LATE: &str = "ExecStart=/bin/sh -c 'echo x >>late'";
@@ -244,7 +244,7 @@ fn claimed(
 
 const TWO: &str = "ExecStart=/bin/sh -c 'echo x >>two; sleep 1'";
 
-/// A number that one runner has claimed when another one comes to it.
+/// A number that two runners claim.
 fn claimed_twice(
     rt: &HostRuntime,
     orders: &mut Orders,
@@ -256,9 +256,6 @@ fn claimed_twice(
     let second = others.order(TWO)?;
     let same = number == second.as_ref().number();
     children.spawn(Box::into_inner(first))?;
-    if !comes(rt, "twice/2.claim", POLLS) {
-        bail!("no runner claims the number");
-    }
     children.spawn(Box::into_inner(second))?;
     let fate = fate_of(rt, children, number, true)?;
     let size = fs::metadata(rt, "two")?.len();

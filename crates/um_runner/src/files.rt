@@ -1,6 +1,6 @@
 //! Small files: read up to a few bytes, and written whole or not at all.
 
-ghost use Rattle.std.specs.Prelude.{◌≡◌, ◌≤◌, ◌≢◌, length, None, IfOk};
+ghost use Rattle.std.specs.Prelude.{◌≡◌, ◌≤◌, length, None, IfOk};
 
 use crate::fault::FolderFault;
 use crate::paths::file_path;
@@ -176,8 +176,18 @@ pub fn replace_file<R: Files>(
     Ok(fs::rename(rt, draft.as_str(), path.as_str())?)
 }
 
-/// Makes a file with its text, whole, where none stands there: by its draft, to which the file is linked. False where one stood
-/// there, which is left as it was.
+/// What came of making a file where none stood.
+#[derive(Clone, Copy, Debug, PartialEq, Eq)]
+pub enum Creation {
+    /// It is new.
+    New,
+    /// One stood there, which is left as it was.
+    Stands,
+    /// Its draft was taken away meanwhile by someone who makes the same file.
+    DraftTaken,
+}
+
+/// Makes a file with its text, whole, where none stands there: by its draft, to which the file is linked.
 pub fn create_file<R: Files>(
     rt: &R,
     alloc: Global,
@@ -185,7 +195,7 @@ pub fn create_file<R: Files>(
     number: ProcessNumber,
     file: (RunnerFile, RunnerFile),
     text: &str,
-) -> Result<bool, FolderFault> {
+) -> Result<Creation, FolderFault> {
     let (file, draft) = file;
     let path = file_path(alloc, folder, number, file)?;
     let draft = file_path(alloc, folder, number, draft)?;
@@ -194,8 +204,9 @@ pub fn create_file<R: Files>(
     // A draft that is left costs a name in the folder and nothing else.
     let _left = fs::remove_file(rt, draft.as_str());
     match linked {
-        Ok(()) => Ok(true),
-        Err(e) if e.kind() == ErrorKind::AlreadyExists => Ok(false),
+        Ok(()) => Ok(Creation::New),
+        Err(e) if e.kind() == ErrorKind::AlreadyExists => Ok(Creation::Stands),
+        Err(e) if e.kind() == ErrorKind::NotFound => Ok(Creation::DraftTaken),
         Err(e) => Err(FolderFault::System(e)),
     }
 }

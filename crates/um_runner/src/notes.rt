@@ -1,11 +1,13 @@
 //! What the files of a process number tell.
 
 use crate::fault::FolderFault;
-use crate::files::{create_file, read_file};
+use crate::files::{Creation, create_file, read_file};
 use crate::runner_file::{Claimant, RunnerFile};
 use crate::texts::{read_claim, read_pid, read_status};
 use std::alloc::Global;
 use std::fs::Files;
+use std::io;
+use std::io::ErrorKind;
 use um_model::{End, ProcessNumber};
 
 /// What came of claiming a number.
@@ -38,10 +40,24 @@ fn claimant_in<R: Files>(
     Ok(beginning.map(|beginning| read_claim(beginning.bytes())))
 }
 
+/// The claim that stood there a moment ago: nobody removes one.
+fn standing_in<R: Files>(
+    rt: &R,
+    alloc: Global,
+    folder: &str,
+    number: ProcessNumber,
+) -> Result<Claiming, FolderFault> {
+    let standing = claimant_in(rt, alloc, folder, number)?.unwrap_or(Claimant::Runner);
+    Ok(Claiming::Stands(standing))
+}
+
+/// So often a claim is tried again whose draft another one has taken away, who claims the same number at the same time.
+const TRIES: u32 = 64;
+
 /// Claims the number for this one. A claim that stands there is left as it was, and read.
 ///
-/// `NoMemory` where memory is wanting, before the folder is touched; `System` where the folder can't be written or read. No claim
-/// is there then, but where it was made and couldn't be read.
+/// `NoMemory` where memory is wanting, before the folder is touched; `System` where the folder can't be written or read, or all drafts
+/// were taken away. No claim is there then, but where it was made and couldn't be read, or by another one.
 pub fn claim<R: Files>(
     rt: &R,
     alloc: Global,
@@ -53,17 +69,19 @@ pub fn claim<R: Files>(
         Claimant::Manager => RunnerFile::ManagerDraft,
         Claimant::Runner => RunnerFile::RunnerDraft,
     };
-    // A draft that was left may be the claim under another name, so it is written only while no claim stands.
-    if let Some(standing) = claimant_in(rt, alloc, folder, number)? {
-        return Ok(Claiming::Stands(standing));
-    }
     let files = (RunnerFile::Claim, draft);
-    if create_file(rt, alloc, folder, number, files, claimant.text())? {
-        return Ok(Claiming::New);
+    for _ in 0..TRIES {
+        // A draft that was left may be the claim under another name, so it is written only while no claim stands.
+        if let Some(standing) = claimant_in(rt, alloc, folder, number)? {
+            return Ok(Claiming::Stands(standing));
+        }
+        match create_file(rt, alloc, folder, number, files, claimant.text())? {
+            Creation::New => return Ok(Claiming::New),
+            Creation::Stands => return standing_in(rt, alloc, folder, number),
+            Creation::DraftTaken => {}
+        }
     }
-    // It stood there a moment ago, and nobody removes a claim.
-    let standing = claimant_in(rt, alloc, folder, number)?.unwrap_or(Claimant::Runner);
-    Ok(Claiming::Stands(standing))
+    Err(FolderFault::System(io::Error::from(ErrorKind::NotFound)))
 }
 
 /// How the process ended, by its status file: `End::Lost` where the file tells no end, and None where there is no file.
