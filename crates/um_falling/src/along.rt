@@ -6,7 +6,6 @@ ghost use Rattle.um_falling.specs.Falling.{KeepsSubs};
 ghost use Rattle.um_falling.specs.Work.{Keeps};
 ghost use Rattle.um_graph.specs.Graph.{IsNumberOf, row_of};
 ghost use Rattle.um_model.specs.Waiting.{NoMoreWait};
-ghost use Rattle.um_model.specs.Jobs as model;
 ghost use Rattle.um_model.specs.Jobs.{AreTidyJobs};
 ghost use Rattle.um_model.specs.Machine.{TakesAlong};
 ghost use Rattle.um_model.specs.Service.{AreTidyUnits};
@@ -15,8 +14,8 @@ ghost use Rattle.um_state.specs.View.{state_of};
 use crate::work::Work;
 use std::alloc::AllocError;
 use um_graph::Neighbour;
-use um_jobs::is_waiting;
-use um_model::{DependencyKind, UnitJobs, UnitResult, UnitState};
+use um_jobs::{is_waiting, without_start};
+use um_model::{DependencyKind, UnitResult, UnitState};
 
 /// Whether the neighbour requires the unit or is bound to it.
 fn needs_it(neighbour: Neighbour) -> bool
@@ -43,16 +42,6 @@ fn goes_before(row: &[Neighbour], unit: usize) -> bool
         }
     }
     false
-}
-
-/// Without the start job.
-fn without_start(jobs: UnitJobs) -> UnitJobs
-    ensures { result ≡ model.without_start jobs }
-{
-    UnitJobs {
-        start: None,
-        ..jobs
-    }
 }
 
 /// The start of the unit with this number is gone, and its result tells so. It takes no memory.

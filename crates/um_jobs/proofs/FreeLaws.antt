@@ -14,7 +14,7 @@ use Rattle.um_jobs.specs.Counts.{IsKept, ahead, before_start, before_stop, count
 use Rattle.um_jobs.specs.Jobs.{IsReadyIn, JobsView, held_at, job_named}
 use Rattle.um_jobs.specs.Least.{IsLeastIn, IsNone}
 use Rattle.um_jobs.specs.Named.{jobs_at}
-use Rattle.um_jobs.proofs.RowReady.{holds_start, holds_stop, is_start_ready, is_stop_ready, ready_kind}
+use Rattle.um_jobs.specs.RowReady.{holds_start, holds_stop, is_start_ready, is_stop_ready, ready_kind}
 use Rattle.um_jobs.proofs.ReadyLaws.{none_ready, ready_least}
 use Rattle.um_jobs.proofs.SumLaws.{counts_none, other_number, same_number}
 

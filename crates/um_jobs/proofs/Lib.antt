@@ -1,6 +1,5 @@
 pub mod NamedLaws
 pub mod DropLaws
-pub mod RowReady
 pub mod ReadyLaws
 pub mod LeastLaws
 pub mod SumLaws

@@ -19,7 +19,7 @@ use Rattle.um_graph.proofs.NamedLaws.{AreOnce, IsAmong, among_or_apart, got_with
 use Rattle.um_graph.proofs.StandLaws.{stands_within}
 use Rattle.um_jobs.specs.Jobs.{IsReadyIn, JobsView, held_at, job_named}
 use Rattle.um_jobs.specs.Named.{jobs_at, jobs_by}
-use Rattle.um_jobs.proofs.RowReady.{holds_start, holds_stop, is_start_ready, is_stop_ready, ready_kind}
+use Rattle.um_jobs.specs.RowReady.{holds_start, holds_stop, is_start_ready, is_stop_ready, ready_kind}
 use Rattle.um_jobs.proofs.NamedLaws.{jobs_by_at, jobs_by_none}
 
 -- ---- tests

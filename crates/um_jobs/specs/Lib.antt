@@ -3,3 +3,4 @@ pub mod Drops
 pub mod Jobs
 pub mod Least
 pub mod Counts
+pub mod RowReady

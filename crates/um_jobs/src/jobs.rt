@@ -16,7 +16,7 @@ ghost use Rattle.um_wire.specs.declared.refusal.Refusal.TheVariants.{NoMemory};
 use crate::counts::Blockers;
 use crate::least::LeastSet;
 use crate::marks::{change, change_all, is_stop_free, mark};
-use crate::table::{has_waiting, jobs_of, with_job};
+use crate::table::{has_waiting, jobs_of, with_job, without_waiting};
 use std::alloc::{AllocError, Global};
 use std::marker::Model;
 use um_graph::Graph;
@@ -244,23 +244,5 @@ fn without_job(kind: JobKind, jobs: UnitJobs) -> UnitJobs
             start: None,
             ..jobs
         },
-    }
-}
-
-fn unless_waiting(job: Option<JobState>) -> Option<JobState>
-    ensures { result ≡ model.unless_waiting job }
-{
-    match job {
-        Some(JobState::Waiting) => None,
-        other => other,
-    }
-}
-
-fn without_waiting(jobs: UnitJobs) -> UnitJobs
-    ensures { result ≡ model.cancelled jobs }
-{
-    UnitJobs {
-        stop: unless_waiting(jobs.stop),
-        start: unless_waiting(jobs.start),
     }
 }

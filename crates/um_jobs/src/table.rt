@@ -172,3 +172,33 @@ pub fn jobs_left(start: StartJob, stop_ends: bool, now: UnitJobs) -> UnitJobs
         start: start_left(start, now.start),
     }
 }
+
+/// The job, unless it waits.
+fn unless_waiting(job: Option<JobState>) -> Option<JobState>
+    ensures { result ≡ model.unless_waiting job }
+{
+    match job {
+        Some(JobState::Waiting) => None,
+        other => other,
+    }
+}
+
+/// The jobs of a unit without those that wait.
+pub fn without_waiting(jobs: UnitJobs) -> UnitJobs
+    ensures { result ≡ model.cancelled jobs }
+{
+    UnitJobs {
+        stop: unless_waiting(jobs.stop),
+        start: unless_waiting(jobs.start),
+    }
+}
+
+/// The jobs of a unit without its start job.
+pub fn without_start(jobs: UnitJobs) -> UnitJobs
+    ensures { result ≡ model.without_start jobs }
+{
+    UnitJobs {
+        start: None,
+        ..jobs
+    }
+}

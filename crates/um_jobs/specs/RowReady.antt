@@ -1,4 +1,6 @@
--- Which job is ready, by the numbers of the units: what the row of a unit says. It stands between the counts and the definition.
+-- Which job of a unit is ready, as the unit's own row says it: by what is pending of the neighbours.
+-- Follows systemd.unit(5), "Before=, After="; it is what the definition of ready jobs comes to for one unit.
+-- The search for the next job stands on this file, and what is proved of the counts.
 use Rattle.std.specs.Prelude.{ℕ, Bool, not, ◌&&◌, ◌||◌, if◌then◌else◌, List, Option, Some, None, is_none, is_some}
 use Rattle.std.specs.List.{list_any}
 use Rattle.um_model.specs.Machine.{is_waiting}
@@ -22,10 +24,18 @@ holds_start jobs n =
     || ((has before_bit n.kinds || has after_bit n.kinds) && is_some (jobs_at jobs n.unit).stop)
 
 -- the stop of the unit waits, and for no other job
-abbrev pub is_stop_ready : GraphView → JobsView → ℕ → Bool
-is_stop_ready g v u = is_waiting (jobs_at v.units u).stop && not (list_any (holds_stop v.units) (row_of g.rows u))
+abbrev pub is_stop_clear : GraphView → List UnitJobs → ℕ → Bool
+is_stop_clear g units u = is_waiting (jobs_at units u).stop && not (list_any (holds_stop units) (row_of g.rows u))
 
--- the start of the unit waits, for no other job, nor for the unit's own stop or its being deactivating
+-- the start of the unit waits, for no other job, nor for the unit's own stop
+abbrev pub is_start_clear : GraphView → List UnitJobs → ℕ → Bool
+is_start_clear g units u = is_waiting (jobs_at units u).start && (is_none (jobs_at units u).stop && not (list_any (holds_start units) (row_of g.rows u)))
+
+-- the stop of the unit is ready
+abbrev pub is_stop_ready : GraphView → JobsView → ℕ → Bool
+is_stop_ready g v u = is_stop_clear g v.units u
+
+-- the start of the unit waits, for no other job, nor for the unit's own stop or the end of its being deactivating
 abbrev pub is_start_ready : GraphView → JobsView → ℕ → Bool
 is_start_ready g v u =
     is_waiting (jobs_at v.units u).start
