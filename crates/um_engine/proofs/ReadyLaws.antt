@@ -1,5 +1,5 @@
 -- The job that begins next by the graph is the one that begins next by the tree.
-use Rattle.std.proofs.Common.{◌≡◌, ◌≢◌, ◌∙◌, ◌+◌, ◌<◌, ◌≤◌, ℕ, Bool, true, false, ◌||◌, true≢false, List, length, set, sum_by, Contains, Option, Some, None, slice_get, unwrap_or, refl, sym, ap, subst, inl, inr, arith}
+use Rattle.std.proofs.Common.{◌≡◌, ◌≢◌, ◌∙◌, ◌+◌, ◌<◌, ◌≤◌, ℕ, Bool, true, false, true≢false, List, length, set, sum_by, Contains, Option, Some, None, slice_get, unwrap_or, refl, sym, ap, subst, inl, inr, arith}
 use Rattle.std.proofs.lemmas.Bool.{cases_lt}
 use Rattle.std.proofs.lemmas.Grind.{get_or-set_at}
 use Rattle.std.proofs.lemmas.List.{get_or-set_other, length-set}
@@ -7,7 +7,7 @@ use Rattle.std.proofs.lemmas.Option.{none-some, same_Some}
 use Rattle.std.specs.FinMap as map
 use Rattle.um_model.specs.Jobs.{Job, BeginsNext, ComesBefore, GoesBefore, IsReady, IsToldBefore, job_of, jobs_of_unit, no_jobs, with_job, with_jobs, of_one_unit, starts, state_of_job, stops, stops_then_starts, stops_then_starts_before}
 use Rattle.um_model.specs.Least.{IsLeast}
-use Rattle.um_model.specs.Machine.{State, IsBefore, IsStill, begun, is_waiting}
+use Rattle.um_model.specs.Machine.{State, IsBefore, IsStill, begun}
 use Rattle.um_model.specs.Service.{active_state_of, state_of_unit}
 use Rattle.um_model.specs.declared.jobs.JobKind.{JobKind}
 use Rattle.um_model.specs.declared.jobs.JobKind.TheVariants.{Stop, Start}
@@ -18,7 +18,7 @@ use Rattle.um_model.specs.declared.service.ActiveState.{ActiveState}
 use Rattle.um_model.specs.declared.service.ActiveState.TheVariants.{Deactivating}
 use Rattle.um_model.proofs.TimersLaws.{same_name}
 use Rattle.um_model.proofs.UnitLaws.{jobs_apart, jobs_here}
-use Rattle.um_model.specs.Waiting.{NoMoreWait, has_waiting, waits, waits_in}
+use Rattle.um_model.specs.Waiting.{NoMoreWait, waits, waits_in}
 use Rattle.um_model.proofs.Forms.{with_running}
 use Rattle.um_graph.specs.Graph.{GraphView, IsGraph, IsNumberOf}
 use Rattle.um_graph.specs.Kinds.{before_bit}
@@ -29,7 +29,7 @@ use Rattle.um_jobs.specs.Named.{jobs_at, jobs_by}
 use Rattle.um_jobs.proofs.NamedLaws.{jobs_by_at, jobs_by_none}
 use Rattle.um_falling.specs.Carrying.{KeepsOthers}
 use Rattle.um_engine.specs.Planned.{ArePending}
-use Rattle.um_engine.specs.Filled.{NoneWaits, Tells, TellsBelow, deactivates, is_deactivating, told_of}
+use Rattle.um_engine.specs.Filled.{Tells, TellsBelow, deactivates, is_deactivating, told_of}
 use Rattle.um_falling.specs.Over.{Serves}
 use Rattle.um_falling.proofs.AlongLaws.{number_by, sum_drops}
 use Rattle.um_falling.proofs.TakenLaws.{before_by, stands_by}
@@ -197,24 +197,6 @@ module _ (g : GraphView) (s : State) (serves : Serves g s) (v : JobsView) (tells
     has = ready_here (job_named g u kind) least.has;
     first = λ other ready apart. least.first other (ready_there other ready) apart;
   })
-
--- ---- where no job waits none is ready
-
-or_true : (b : Bool) → (b || true) ≡ true
-or_true true = refl
-or_true false = refl
-
-one_waits : (kind : JobKind) (jobs : UnitJobs) → job_of kind jobs ≡ Some Waiting → has_waiting jobs ≡ true
-one_waits Stop jobs is = ap (λ o. is_waiting o || is_waiting jobs.start) is
-one_waits Start jobs is = ap (λ o. is_waiting jobs.stop || is_waiting o) is ∙ or_true (is_waiting jobs.stop)
-
-pub still_waitless : (g : GraphView) (s : State) → Serves g s → NoneWaits g s → IsStill s
-still_waitless g s serves none j ready =
-    let (i, number) = number_by g j.unit (serves.held j.unit (inr pends)) in
-    absurd (true≢false (sym (one_waits j.kind (jobs_of_unit s.pending j.unit) ready.waits) ∙ none i j.unit number))
-  where
-    pends : map.get s.pending j.unit ≢ None
-    pends e = none-some Waiting (sym (ap (λ o. job_of j.kind (unwrap_or o no_jobs)) e ∙ no_job j.kind) ∙ ready.waits)
 
 -- ---- a job that begins is one fewer that waits
 

@@ -7,7 +7,6 @@ use Rattle.um_model.specs.Machine.{State, IsHeld}
 use Rattle.um_model.specs.Service.{active_state_of, state_of_unit}
 use Rattle.um_model.specs.declared.service.ActiveState.{ActiveState}
 use Rattle.um_model.specs.declared.service.ActiveState.TheVariants.{Deactivating}
-use Rattle.um_model.specs.Waiting.{has_waiting}
 use Rattle.um_graph.specs.Graph.{GraphView, IsGraph, IsNumberOf}
 use Rattle.um_jobs.specs.Jobs.{JobsView, held_at, with_held_at, with_jobs_at}
 use Rattle.um_jobs.specs.Named.{jobs_at}
@@ -19,10 +18,6 @@ is_deactivating other = false
 -- the unit counts as deactivating
 abbrev pub deactivates : State → List ℕ → Bool
 deactivates s unit = is_deactivating (active_state_of (state_of_unit s.units unit).sub)
-
--- no job of the graph's units waits
-abbrev pub NoneWaits : GraphView → State → Type 0
-NoneWaits g s = (i : ℕ) (unit : List ℕ) → IsNumberOf g i unit → has_waiting (jobs_of_unit s.pending unit) ≡ false
 
 -- with what the state tells of the unit of this number and name
 abbrev pub told_of : State → ℕ → List ℕ → JobsView → JobsView

@@ -1,7 +1,7 @@
 -- What the engine knows of the units of a tree: the graph, the units for which it was made, and those that are known without the entries under `run/`.
 -- Follows no manual page: it is how the engine keeps what it knows of units.
 -- Commands and the room that a state takes stand on this file.
-use Rattle.std.specs.Prelude.{◌≡◌, ◌⊎◌, ◌↔◌, ℕ, List, Contains, Option, Some, None}
+use Rattle.std.specs.Prelude.{◌≡◌, ◌⊎◌, ◌↔◌, ℕ, List, Contains, Option, Some, None, slice_get}
 use Rattle.um_model.specs.Dependencies.{CountsFor, IsKnown, KnowsTooMany}
 use Rattle.um_model.specs.Machine.{State, IsHeld, IsHeldOr}
 use Rattle.um_model.specs.Tree.{Tree, without_run}
@@ -33,6 +33,10 @@ pub record KnownView : Type 0 where
 abbrev pub AreLasting : Tree → List (List ℕ) → Option (List (List ℕ)) → Type 0
 AreLasting tree extra None = without_run tree ≡ tree
 AreLasting tree extra (Some names) = (unit : List ℕ) → Contains names unit ↔ IsKnown (without_run tree) (Contains extra) unit
+
+-- among these numbers stands that of each unit of these names that isn't among those that are known without the entries under `run/`
+abbrev pub ArePassing : (names lasting : List (List ℕ)) → List ℕ → Type 0
+ArePassing names lasting passing = (i : ℕ) (unit : List ℕ) → slice_get names i ≡ Some unit → Contains lasting unit ⊎ Contains passing i
 
 -- it was made for the state's loaded tree, tells which of its units are known without the entries under `run/`, and the state holds units of
 -- the graph alone

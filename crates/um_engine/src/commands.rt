@@ -18,7 +18,6 @@ ghost use Rattle.um_wire.specs.Gives.{RefusesBy};
 ghost use Rattle.um_wire.specs.Refusal.{refused_of};
 ghost use Rattle.um_wire.specs.declared.refusal.Refusal.TheVariants.{NoMemory};
 
-use crate::jobs::unless_waiting;
 use crate::known::Known;
 use crate::loading::{check_order, known_of_loaded};
 use crate::planning::planned;
@@ -62,7 +61,7 @@ fn cancel_waiting(work: &mut Work<'_>, unit: &UnitName) -> Result<(), Refusal>
         return Err(no_such_job(work.alloc(), unit.as_str())?);
     };
     let jobs = work.jobs(number);
-    work.set_jobs(number, unless_waiting(jobs));
+    work.set_jobs(number, um_jobs::without_waiting(jobs));
     Ok(())
 }
 

@@ -1,4 +1,3 @@
-ghost use Rattle.um_falling.specs.Carrying.{Adds};
 ghost use Rattle.std.specs.Prelude.{◌≡◌, ◌≢◌, ◌↔◌, [], true, false, None, is_some, map, IfOk, IfErr, IfSome, IsTrue, MatchOption, OnOk};
 ghost use Rattle.um_engine.specs.Engine.{DiffersInRows, HasSameTables, LacksEffect, LeadsTo, Obeys, Settled, SettlesTooHeavy, changed, is_change, rows_of, standing_in, state_in, size_in, has_effect_in, rows_in, state_after, reply_in, actions_in, state_before};
 ghost use Rattle.um_engine.specs.OfStore.{is_of_store};
@@ -265,7 +264,8 @@ impl Engine {
         }
     }
 
-    /// Takes a step that this engine planned in the state in which it stands. It takes no memory and always succeeds.
+    /// Takes a step that this engine planned in the state in which it stands. It needs no memory and always succeeds: where the system refuses
+    /// some to the tables by which rows are found, all rows are looked through from then on.
     pub fn commit(&mut self, next: Next) -> (Reply, Vec<Action>, Back)
         ensures state { standing_in self.new ≡ state_after next (standing_in self.old) }
         ensures size { size_in self.new ≡ size_in self.old }
@@ -289,7 +289,7 @@ impl Engine {
         (reply, actions, Back { change })
     }
 
-    /// Takes back the step that the last commit of this engine took. It takes no memory and always succeeds.
+    /// Takes back the step that the last commit of this engine took. It needs no memory and always succeeds, as `commit`.
     pub fn back(&mut self, back: Back)
         ensures state { standing_in self.new ≡ state_before back (standing_in self.old) }
         ensures size { size_in self.new ≡ size_in self.old }

@@ -1,11 +1,10 @@
-//! What a command demands of a unit, what a job that begins is for it, and which jobs a cancel leaves.
+//! What a command demands of a unit, and what a job that begins is for it.
 
 ghost use Rattle.std.specs.Prelude.{◌≡◌};
-ghost use Rattle.um_model.specs.Jobs.{cancelled, unless_waiting};
 ghost use Rattle.um_model.specs.Machine.{begins, demand_of};
 
 use um_jobs::is_active;
-use um_model::{ActiveState, Demand, JobKind, JobState, UnitEvent, UnitJobs, UnitVerb};
+use um_model::{ActiveState, Demand, JobKind, UnitEvent, UnitVerb};
 
 /// What a command demands of its unit: a try-restart nothing where that isn't active.
 pub fn demand_of(verb: UnitVerb, active: ActiveState) -> Option<Demand>
@@ -27,25 +26,5 @@ pub fn begins(kind: JobKind) -> UnitEvent
     match kind {
         JobKind::Start => UnitEvent::StartBegins,
         JobKind::Stop => UnitEvent::StopBegins,
-    }
-}
-
-/// The job, unless it waits.
-fn job_unless_waiting(job: Option<JobState>) -> Option<JobState>
-    ensures { result ≡ unless_waiting job }
-{
-    match job {
-        Some(JobState::Waiting) => None,
-        other => other,
-    }
-}
-
-/// The jobs of a unit without those that wait.
-pub fn unless_waiting(jobs: UnitJobs) -> UnitJobs
-    ensures { result ≡ cancelled jobs }
-{
-    UnitJobs {
-        stop: job_unless_waiting(jobs.stop),
-        start: job_unless_waiting(jobs.start),
     }
 }

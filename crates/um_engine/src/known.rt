@@ -1,7 +1,7 @@
 //! What is known of the units of a tree.
 
 ghost use Rattle.std.specs.Prelude.{◌≡◌, ◌↔◌, ℕ, List, Contains, IfOk, IfErr, IsTrue, Option, Some, option_copied, option_map, unwrap_or};
-ghost use Rattle.um_engine.specs.Known.{AreLasting, IsFull, IsGraphFor, IsHeldWith, KnowsFor, KnownView};
+ghost use Rattle.um_engine.specs.Known.{AreLasting, ArePassing, IsFull, IsGraphFor, IsHeldWith, KnowsFor, KnownView};
 ghost use Rattle.um_model.specs.Dependencies.{IsKnown};
 ghost use Rattle.um_model.specs.Tree.{without_run};
 ghost use Rattle.um_graph.specs.Graph.{IsGraphOf, IsNumberOf};
@@ -29,6 +29,8 @@ pub struct Known {
     extra: Vec<UnitName>,
     /// In the order of their names; None where no entry stands under `run/`, since they are those of the graph then.
     lasting: Option<Vec<UnitName>>,
+    /// The numbers of the graph's units that aren't among them: those that only entries under `run/` name, and few as a rule.
+    passing: Vec<usize>,
 }
 
 impl Model for Known {
@@ -36,7 +38,8 @@ impl Model for Known {
 
     ghost view = { λ k. record { graph = k.graph; extra = k.extra.items; lasting = unwrap_or (option_map (λ names. names.items) k.lasting) k.graph.names } };
 
-    ghost invariant = { λ k. k.names ≡ k.graph.names };
+    ghost invariant = { λ k. (k.names ≡ k.graph.names)
+        × ArePassing k.graph.names (unwrap_or (option_map (λ names. names.items) k.lasting) k.graph.names) k.passing.items };
 }
 
 // One call, where a derived one is taken apart at each exit.
@@ -47,6 +50,7 @@ impl Drop for Known {
             names: _names,
             extra: _extra,
             lasting: _lasting,
+            passing: _passing,
         } = self;
     }
 }
@@ -121,6 +125,43 @@ fn is_among(names: &[UnitName], unit: &UnitName) -> bool
     }
 }
 
+/// Whether the graph's unit with this number is found among these, which stand in the order of their names.
+fn is_number_among(graph: &Graph, names: &[UnitName], number: usize) -> bool
+    ensures { IsTrue result → (unit : List ℕ) → IsNumberOf graph.now number unit → Contains names.now unit }
+{
+    match graph.name(number) {
+        Some(unit) => is_among(names, unit),
+        None => true,
+    }
+}
+
+/// The numbers of the graph's units that aren't among these, which stand in the order of their names.
+fn not_among(alloc: Global, graph: &Graph, names: &[UnitName]) -> Result<Vec<usize>, AllocError>
+    ensures { IfOk result (λ passing. ArePassing graph.now.names names.now passing.items) }
+{
+    let mut passing = Vec::new(alloc);
+    for number in 0..graph.len() {
+        if !is_number_among(graph, names, number) {
+            passing.push(number)?;
+        }
+    }
+    Ok(passing)
+}
+
+/// The numbers of the graph's units that aren't known without the entries under `run/`, by those that are.
+fn passing(
+    alloc: Global,
+    graph: &Graph,
+    lasting: &Option<Vec<UnitName>>,
+) -> Result<Vec<usize>, AllocError>
+    ensures { IfOk result (λ passing. ArePassing graph.now.names (unwrap_or (option_map (λ names. names.items) lasting.now) graph.now.names) passing.items) }
+{
+    match lasting {
+        Some(names) => not_among(alloc, graph, names),
+        None => Ok(Vec::new(alloc)),
+    }
+}
+
 impl Known {
     /// What is known of the units of the tree, with those that the state holds and one that is named. Refused are too many (E13
     /// `units`).
@@ -154,11 +195,13 @@ impl Known {
         let graph = Graph::of(alloc, tree, extra.as_slice())?;
         let names = names_of(alloc, &graph)?;
         let lasting = lasting(alloc, tree, extra.as_slice())?;
+        let passing = passing(alloc, &graph, &lasting)?;
         Ok(Known {
             graph,
             names,
             extra,
             lasting,
+            passing,
         })
     }
 
@@ -209,24 +252,13 @@ impl Known {
     }
 
     /// Whether each unit of the graph that the state holds, or that is named, is known without the entries under `run/` too: those
-    /// that only such entries name aren't.
+    /// that only such entries name aren't, and no other is looked at.
     pub fn lasts_for(&self, state: &State, named: Option<&UnitName>) -> bool
         ensures { IsTrue result → (unit : List ℕ) → Contains self.now.graph.names unit → IsHeldWith (state_of state.now) (option_copied named.entry) unit
             → Contains self.now.lasting unit }
     {
-        match &self.lasting {
-            Some(_) => self.all_last(state, named),
-            None => true,
-        }
-    }
-
-    /// The same, unit by unit.
-    fn all_last(&self, state: &State, named: Option<&UnitName>) -> bool
-        ensures { IsTrue result → (unit : List ℕ) → Contains self.now.graph.names unit → IsHeldWith (state_of state.now) (option_copied named.entry) unit
-            → Contains self.now.lasting unit }
-    {
-        for number in 0..self.graph.len() {
-            if !self.lasts_at(state, named, number) {
+        for number in &self.passing {
+            if !self.lasts_at(state, named, *number) {
                 return false;
             }
         }
@@ -272,19 +304,8 @@ impl Known {
         requires { work.now.graph ≡ self.now.graph }
         ensures { IsTrue result → (unit : List ℕ) → Contains self.now.graph.names unit → IsHeld (state_of work.now.now) unit → Contains self.now.lasting unit }
     {
-        match &self.lasting {
-            Some(_) => self.all_last_in(work),
-            None => true,
-        }
-    }
-
-    /// The same, unit by unit.
-    fn all_last_in(&self, work: &Work<'_>) -> bool
-        requires { work.now.graph ≡ self.now.graph }
-        ensures { IsTrue result → (unit : List ℕ) → Contains self.now.graph.names unit → IsHeld (state_of work.now.now) unit → Contains self.now.lasting unit }
-    {
-        for number in 0..self.graph.len() {
-            if !self.lasts_at_in(work, number) {
+        for number in &self.passing {
+            if !self.lasts_at_in(work, *number) {
                 return false;
             }
         }

@@ -1,26 +1,27 @@
-ghost use Rattle.std.specs.Prelude.{◌≡◌, ℕ, List, false, Some, IfOk, IfSome, OnOk, MatchOption};
+ghost use Rattle.std.specs.Prelude.{◌≡◌, ℕ, List, false, Some, IfOk, OnOk, MatchOption};
 ghost use Rattle.um_engine.specs.Engine.{waits_to_restart, IsDue, NoneIsDue};
 ghost use Rattle.um_engine.specs.Filled.{Tells};
 ghost use Rattle.um_falling.specs.Carrying.{KeepsOthers};
 ghost use Rattle.um_falling.specs.Over.{Serves};
 ghost use Rattle.um_falling.specs.Work.{Goes, Keeps};
 ghost use Rattle.um_graph.specs.Graph.{IsNumberOf};
-ghost use Rattle.um_jobs.specs.Jobs.{JobsView, job_named};
-ghost use Rattle.um_model.specs.Jobs.{BeginsNext, state_of_job};
 ghost use Rattle.um_model.specs.Machine as model;
-ghost use Rattle.um_model.specs.Machine.{begun, IsBefore, IsStill};
-ghost use Rattle.um_model.specs.declared.jobs.JobState.TheVariants.{Waiting};
+ghost use Rattle.um_model.specs.Machine.{begins, begun};
 ghost use Rattle.um_state.specs.View.{state_of};
 
 use crate::jobs::begins;
-use crate::numbered::{jobs_in, none_waits, tell, tell_all};
+use crate::numbered::{jobs_in, next_ready, tell, tell_all};
 use crate::restarting::restart;
 use std::alloc::AllocError;
 use um_falling::{Work, happen};
-use um_jobs::Jobs;
-use um_model::{Deadline, JobKind, Moment, SubState, UnitEvent};
+use um_jobs::{Jobs, with_job};
+use um_model::{Deadline, JobKind, JobState, Moment, SubState, UnitEvent};
 use um_name::UnitName;
 use um_timer::Timers;
+
+/// So many jobs that begin one after another are found by going over the units, each by itself: as a rule an input lets one begin or none.
+/// Where more begin, what they wait for is counted.
+const FEW: u32 = 4;
 
 /// The job runs from now on.
 fn begin_job(jobs: &mut Jobs<'_>, work: &mut Work<'_>, unit: usize, kind: JobKind)
@@ -63,6 +64,18 @@ fn begin_all(jobs: &mut Jobs<'_>, work: &mut Work<'_>) -> Result<(), AllocError>
     Ok(())
 }
 
+/// The job of the unit with this number begins. Where memory is refused the work is of no use.
+fn begin(work: &mut Work<'_>, unit: usize, kind: JobKind) -> Result<(), AllocError>
+    ensures happens { OnOk result ((name : List ℕ) → IsNumberOf work.old.graph unit name
+        → Goes (model.Happens work.old.moment name (begins kind) (begun (state_of work.old.now) (record { unit = name; kind = kind }))) work.old work.new) }
+    ensures keeps { OnOk result (Keeps work.old work.new) }
+{
+    let jobs = work.jobs(unit);
+    work.set_jobs(unit, with_job(kind, JobState::Running, jobs));
+    happen(work, unit, begins(kind))?;
+    Ok(())
+}
+
 /// Lets jobs begin, one after another, until none is ready. Where memory is refused the work is of no use.
 pub fn settle(work: &mut Work<'_>) -> Result<(), AllocError>
     ensures settles { OnOk result (Goes (model.Settles work.old.moment (state_of work.old.now)) work.old work.new) }
@@ -70,12 +83,15 @@ pub fn settle(work: &mut Work<'_>) -> Result<(), AllocError>
 {
     // the proof reads here that the graph serves
     let _ = work.graph();
-    // where no job waits none is ready, so nothing needs to be counted
-    if none_waits(work) {
-        return Ok(());
+    'few: for _ in 0..FEW {
+        let Some((unit, kind)) = next_ready(work) else {
+            return Ok(());
+        };
+        begin(work, unit, kind)?;
     }
     let mut jobs = jobs_in(work)?;
-    begin_all(&mut jobs, work)
+    begin_all(&mut jobs, work)?;
+    Ok(())
 }
 
 /// A timer: its deadline and its unit.

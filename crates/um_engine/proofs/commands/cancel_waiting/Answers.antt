@@ -12,7 +12,7 @@ pub returns-clause-state : goal.returns-clause-state
 returns-clause-state c =
     let unit = c.args.unit.now in
     let number = c.in-Some.ensures.0 in
-    c.set_jobs.ensures.state unit number ∙ ap (with_plan (state_of c.args.work.now.now) unit) (c.unless_waiting.ensures ∙ ap cancelled (c.jobs-jobs.ensures.jobs unit number))
+    c.set_jobs.ensures.state unit number ∙ ap (with_plan (state_of c.args.work.now.now) unit) (c.without_waiting.ensures ∙ ap cancelled (c.jobs-jobs.ensures.jobs unit number))
 
 pub returns-clause-refused : goal.returns-clause-refused
 returns-clause-refused c = λ r none. true≢false (sym c.in-Some.ensures.1 ∙ none.0)

@@ -1,0 +1,30 @@
+use Rattle.std.proofs.Common.{◌≡◌, ◌∙◌, ◌<◌, None, Some, length, rules, sym, ap, subst, inl, inr, arith}
+use Rattle.std.proofs.lemmas.Bool.{cases_lt}
+use Rattle.um_graph.specs.Graph.{GraphView}
+use Rattle.um_jobs.specs.RowReady.{ready_kind}
+use Rattle.um_jobs.proofs.ReadyLaws.{none_ready, ready_least}
+use Rattle.um_engine.proofs.numbered.next_ready.Goals as goal
+
+pub returns-in-Some-clause-least : goal.returns-in-Some-clause-least
+returns-in-Some-clause-least c = λ v tells.
+    let g = c.args.work.now.graph in
+    let within : c.loop-unit.unit < length g.names = omega (arith, c.loop-unit-test.true, c.len-unit-end.ensures.len, ap (λ (g : GraphView). length g.names) c.graph.ensures.graph) in
+    ready_least g tells.graph v c.loop-unit.unit within c.in-Some.kind (sym (c.ready_kind.ensures v tells within) ∙ c.in-Some.is) (c.loop-unit.invariant v tells)
+
+pub loop-unit-preserved : goal.loop-unit-preserved
+loop-unit-preserved c = λ v tells u below.
+    let g = c.args.work.now.graph in
+    let within : c.loop-unit.unit < length g.names = omega (arith, c.loop-unit-test.true, c.len-unit-end.ensures.len, ap (λ (g : GraphView). length g.names) c.graph.ensures.graph) in
+    let none : c.ready_kind.result ≡ None = search rules in
+    elim (cases_lt u c.loop-unit.unit) as (λ _. ready_kind g v u ≡ None) [
+      | inl lower ↦ c.loop-unit.invariant v tells u lower
+      | inr past ↦
+          let same : c.loop-unit.unit ≡ u = omega (arith, below, past) in
+          subst (λ k. ready_kind g v k ≡ None) same (sym (c.ready_kind.ensures v tells within) ∙ none)
+    ]
+
+pub returns-clause-least : goal.returns-clause-least
+returns-clause-least c = λ v tells.
+    let g = c.args.work.now.graph in
+    none_ready g tells.graph v (λ w within.
+    c.loop-unit.invariant v tells w (omega (arith, within, c.loop-unit-test.false, c.len-unit-end.ensures.len, ap (λ (g : GraphView). length g.names) c.graph.ensures.graph)))
