@@ -1,5 +1,5 @@
 ghost use Rattle.std.specs.Prelude.{◌≡◌};
-ghost use Rattle.um_model.specs.Jobs.{has_job, job_kind_text, job_state_text};
+ghost use Rattle.um_model.specs.Jobs.{has_job, job_kind_text, job_state_text, with_job};
 
 /// What a job does to its unit (systemctl(1), "list-jobs").
 #[derive(Clone, Copy, Debug, PartialEq, Eq)]
@@ -58,5 +58,21 @@ impl UnitJobs {
         ensures { result ≡ has_job self.now }
     {
         self.stop.is_some() || self.start.is_some()
+    }
+
+    /// The jobs with the one of this kind in that state.
+    pub fn with_job(self, kind: JobKind, state: JobState) -> UnitJobs
+        ensures { result ≡ with_job kind state self }
+    {
+        match kind {
+            JobKind::Stop => UnitJobs {
+                stop: Some(state),
+                ..self
+            },
+            JobKind::Start => UnitJobs {
+                start: Some(state),
+                ..self
+            },
+        }
     }
 }
