@@ -12,11 +12,11 @@ use Rattle.um_model.specs.declared.service.Signal.TheVariants.{Term, Kill}
 -- what the shell runs: its words as a command of its own, which goes on by itself, with no stream of the manager; where the first word
 -- names no file that it can execute, it ends with 126 and runs nothing
 abbrev pub detaching : List ℕ
-detaching = codes "p=$(command -v \"$1\") && test -f \"$p\" && test -x \"$p\" || exit 126; \"$@\" </dev/null >/dev/null 2>&1 &"
+detaching = codes "case $1 in */*) p=$1;; *) p=$(command -v \"$1\");; esac && test -f \"$p\" && test -x \"$p\" || exit 126; \"$@\" </dev/null >/dev/null 2>&1 &"
 
 -- what the shell runs: nothing, and it fails where its word names no file that it can execute
 abbrev pub finding : List ℕ
-finding = codes "p=$(command -v \"$1\") && test -f \"$p\" && test -x \"$p\""
+finding = codes "case $1 in */*) p=$1;; *) p=$(command -v \"$1\");; esac && test -f \"$p\" && test -x \"$p\""
 
 -- what the shell runs: the signal of its first word to the pid of its second
 abbrev pub signalling : List ℕ

@@ -10,12 +10,13 @@ use um_keeper::SpawnOrder;
 use um_model::Signal;
 
 /// Its words become a command of its own, with no stream of the manager; nobody waits for it. One that isn't there, or that nobody can
-/// execute, is told by the status.
+/// execute, is told by the status. A path is looked at as it stands, since each `$(..)` is one process more.
 const DETACHING: &str =
-    "p=$(command -v \"$1\") && test -f \"$p\" && test -x \"$p\" || exit 126; \"$@\" </dev/null >/dev/null 2>&1 &";
+    "case $1 in */*) p=$1;; *) p=$(command -v \"$1\");; esac && test -f \"$p\" && test -x \"$p\" || exit 126; \"$@\" </dev/null >/dev/null 2>&1 &";
 
 /// Fails where its word names no file that can be executed.
-const FINDING: &str = "p=$(command -v \"$1\") && test -f \"$p\" && test -x \"$p\"";
+const FINDING: &str =
+    "case $1 in */*) p=$1;; *) p=$(command -v \"$1\");; esac && test -f \"$p\" && test -x \"$p\"";
 
 const SIGNALLING: &str = "kill -s \"$1\" \"$2\"";
 

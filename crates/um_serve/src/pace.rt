@@ -8,7 +8,7 @@ use std::time::Duration;
 use um_model::{Deadline, Moment};
 
 /// Behind a start, a signal or an end it looks again after so many microseconds.
-const SOONEST: u64 = 250;
+const SOONEST: u64 = 60;
 
 /// While processes are live it looks again after so many microseconds at most.
 const LATEST: u64 = 40_000;
@@ -40,14 +40,14 @@ fn until(now: Moment, deadline: Deadline) -> u64
 impl Pace {
     /// Behind a start.
     pub fn new() -> Pace
-        ensures { result.wait ≡ 250 }
+        ensures { result.wait ≡ 60 }
     {
         Pace { wait: SOONEST }
     }
 
     /// A process was started or signalled, or ended.
     pub fn begin(&mut self)
-        ensures { self.new.wait ≡ 250 }
+        ensures { self.new.wait ≡ 60 }
     {
         self.wait = SOONEST;
     }
