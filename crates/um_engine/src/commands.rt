@@ -1,11 +1,10 @@
 //! What a command does, and why it is refused.
 
-ghost use Rattle.std.specs.Prelude.{◌≡◌, [], false, true, Err, IfOk, IfErr, MatchOption, OnOk};
+ghost use Rattle.std.specs.Prelude.{◌≡◌, [], false, Err, IfOk, IfErr, OnOk};
 ghost use Rattle.um_engine.specs.Known.{KnowsFor};
 ghost use Rattle.um_engine.specs.Outcomes.{IsBasedOn, actions_by, reply_by, state_by};
 ghost use Rattle.um_engine.specs.Served.{WorksOn};
 ghost use Rattle.um_falling.specs.Work.{Keeps};
-ghost use Rattle.um_graph.specs.Graph.{IsNumberOf};
 ghost use Rattle.um_model.specs.Install.{paths_beyond};
 ghost use Rattle.um_model.specs.Jobs.{cancelled, jobs_of_unit};
 ghost use Rattle.um_model.specs.Live.{HoldsNoMore};
@@ -20,6 +19,7 @@ ghost use Rattle.um_wire.specs.declared.refusal.Refusal.TheVariants.{NoMemory};
 
 use crate::known::Known;
 use crate::loading::{check_order, known_of_loaded};
+use crate::numbered::jobs_in;
 use crate::planning::planned;
 use crate::resetting::{asked_unit, without_failures};
 use crate::served::Served;
@@ -27,27 +27,11 @@ use std::alloc::{AllocError, Global};
 use std::rc::Rc;
 use um_falling::Work;
 use um_install::{Installed, check_units, relink};
-use um_jobs::has_waiting;
 use um_model::{InstallVerb, Moment};
 use um_name::UnitName;
 use um_state::{Command, Reply, State};
 use um_tree::Tree;
 use um_wire::{Refusal, no_such_job};
-
-/// The number of the unit, if a job of it waits.
-fn waiting_number(work: &Work<'_>, unit: &UnitName) -> Option<usize>
-    ensures { MatchOption result (has_waiting (jobs_of_unit (state_of work.now.now).pending unit.now) ≡ false)
-        (λ number. IsNumberOf work.now.graph number unit.now × (has_waiting (jobs_of_unit (state_of work.now.now).pending unit.now) ≡ true)) }
-{
-    let Some(number) = work.graph().number(unit) else {
-        return None;
-    };
-    if has_waiting(work.jobs(number)) {
-        Some(number)
-    } else {
-        None
-    }
-}
 
 /// Takes out the jobs of the unit that wait. Where none of them waits it is refused (E21).
 fn cancel_waiting(work: &mut Work<'_>, unit: &UnitName) -> Result<(), Refusal>
@@ -57,11 +41,12 @@ fn cancel_waiting(work: &mut Work<'_>, unit: &UnitName) -> Result<(), Refusal>
     ensures actions { OnOk result (work.new.actions ≡ work.old.actions) }
     ensures refused { RefusesBy (λ r. (has_waiting (jobs_of_unit (state_of work.old.now).pending unit.now) ≡ false) × (r ≡ told.no_such_job unit.now)) result }
 {
-    let Some(number) = waiting_number(work, unit) else {
+    let Some(number) = work.number(unit) else {
         return Err(no_such_job(work.alloc(), unit.as_str())?);
     };
-    let jobs = work.jobs(number);
-    work.set_jobs(number, um_jobs::without_waiting(jobs));
+    let mut jobs = jobs_in(work)?;
+    jobs.cancel(work.alloc(), number, unit)?;
+    work.set_jobs(number, jobs.get(number));
     Ok(())
 }
 

@@ -1,14 +1,12 @@
 //! The pending jobs of a state by the numbers of a graph's units, with what of them counts as deactivating.
 
-ghost use Rattle.std.specs.Prelude.{◌≡◌, ◌<◌, ℕ, List, Contains, IfOk, IfSome, MatchOption, length};
+ghost use Rattle.std.specs.Prelude.{◌≡◌, ℕ, List, Contains, IfOk, MatchOption, length};
 ghost use Rattle.um_engine.specs.Filled.{Tells, is_deactivating, told_of};
 ghost use Rattle.um_engine.specs.Planned.{ArePending};
 ghost use Rattle.um_graph.specs.Graph.{IsGraph, IsNumberOf};
-ghost use Rattle.um_jobs.specs.Jobs.{IsReadyIn, JobsView, job_named, with_jobs_at, without_job};
+ghost use Rattle.um_jobs.specs.Jobs.{with_jobs_at, without_job};
 ghost use Rattle.um_jobs.specs.Named.{jobs_at};
-ghost use Rattle.um_jobs.specs.RowReady.{ready_kind};
-ghost use Rattle.um_model.specs.Jobs.{IsToldBefore, Job, jobs_of_unit, with_job};
-ghost use Rattle.um_model.specs.Least.{IsLeast};
+ghost use Rattle.um_model.specs.Jobs.{jobs_of_unit, with_job};
 ghost use Rattle.um_model.specs.Machine as model;
 ghost use Rattle.um_model.specs.Service.{active_state_of};
 ghost use Rattle.um_state.specs.View.{state_of};
@@ -16,7 +14,7 @@ ghost use Rattle.um_state.specs.View.{state_of};
 use std::alloc::{AllocError, Global};
 use um_falling::Work;
 use um_graph::Graph;
-use um_jobs::{Jobs, is_start_clear, is_stop_clear};
+use um_jobs::Jobs;
 use um_model::{ActiveState, JobKind, JobState, UnitJobs, UnitState};
 use um_name::UnitName;
 use um_state::State;
@@ -53,39 +51,6 @@ fn is_deactivating(stands: UnitState) -> bool
     ensures { result ≡ is_deactivating (active_state_of stands.sub) }
 {
     matches!(stands.sub.active_state(), ActiveState::Deactivating)
-}
-
-/// The job of the unit with this number that is ready, its stop before its start; None where none is. It takes no memory.
-fn ready_kind(work: &Work<'_>, unit: usize) -> Option<JobKind>
-    ensures { (v : JobsView) → Tells work.now.graph (state_of work.now.now) v → unit < length work.now.graph.names → result ≡ ready_kind work.now.graph v unit }
-{
-    let graph = work.graph();
-    let pending = work.pending();
-    if is_stop_clear(graph, pending, unit) {
-        return Some(JobKind::Stop);
-    }
-    if !is_start_clear(graph, pending, unit) {
-        return None;
-    }
-    if is_deactivating(work.unit(unit)) {
-        return None;
-    }
-    Some(JobKind::Start)
-}
-
-/// The job that begins next, with the number of its unit: the least ready one, found by going over the units; None where none is ready.
-/// It takes no memory, and counts nothing.
-pub fn next_ready(work: &Work<'_>) -> Option<(usize, JobKind)>
-    ensures least { (v : JobsView) → Tells work.now.graph (state_of work.now.now) v → MatchOption result ((job : Job) → ¬ IsReadyIn work.now.graph v job)
-        (λ r. IsLeast IsToldBefore (IsReadyIn work.now.graph v) (job_named work.now.graph r.0 r.1)) }
-    ensures within { IfSome result (λ r. r.0 < length work.now.graph.names) }
-{
-    for unit in 0..work.graph().len() {
-        if let Some(kind) = ready_kind(work, unit) {
-            return Some((unit, kind));
-        }
-    }
-    None
 }
 
 /// The pending jobs of the units by their numbers, and which of the units count as deactivating.

@@ -24,7 +24,7 @@ ghost use Rattle.um_wire.specs.declared.refusal.Refusal.TheVariants.{NoMemory};
 use crate::commands::Outcome;
 use crate::jobs::demand_of;
 use crate::known::Known;
-use crate::numbered::number_of;
+use crate::numbered::{jobs_in, number_of};
 use crate::room::held_in;
 use crate::served::Served;
 use std::alloc::{AllocError, Global};
@@ -100,8 +100,8 @@ fn transaction<'t>(
     )
 }
 
-/// Puts the jobs of the plan, of each unit by its number. It takes no memory.
-fn put_plan(work: &mut Work<'_>, jobs: &[UnitJobs])
+/// Puts these jobs, of each unit by its number. It takes no memory.
+fn put_jobs(work: &mut Work<'_>, jobs: &[UnitJobs])
     requires long { length jobs.now ≡ length work.old.graph.names }
     requires tidy { AreTidyJobs (state_of work.old.now).pending }
     ensures state { state_of work.new.now ≡ record (state_of work.old.now) { pending = jobs_by work.old.graph.names jobs.now } }
@@ -111,6 +111,20 @@ fn put_plan(work: &mut Work<'_>, jobs: &[UnitJobs])
     for unit in 0..work.graph().len() {
         work.set_jobs(unit, jobs[unit]);
     }
+}
+
+/// Puts the jobs of the plan, of each unit by its number. Where memory is refused all is as before.
+fn put_plan(work: &mut Work<'_>, plan: &[UnitJobs]) -> Result<(), AllocError>
+    requires long { length plan.now ≡ length work.old.graph.names }
+    requires tidy { AreTidyJobs (state_of work.old.now).pending }
+    ensures state { OnOk result (state_of work.new.now ≡ record (state_of work.old.now) { pending = jobs_by work.old.graph.names plan.now }) }
+    ensures keeps { OnOk result (Keeps work.old work.new) }
+    ensures actions { OnOk result (work.new.actions ≡ work.old.actions) }
+{
+    let mut jobs = jobs_in(work)?;
+    jobs.install(plan);
+    put_jobs(work, jobs.as_slice());
+    Ok(())
 }
 
 /// What a command demands of the unit.
@@ -190,7 +204,7 @@ fn put_checked(
         → Demands served.now.state wanted.now.verb wanted.now.asked.now wanted.now.is_found demand unit → IsTransactionFor served.now.state (demand, unit) transaction.now
         → RefusesBy (model.Refuses served.now.state (model.ForUnit wanted.now.verb wanted.now.asked.now wanted.now.mode)) result }
 {
-    put_plan(work, transaction.plan().as_slice());
+    put_plan(work, transaction.plan().as_slice())?;
     check_crowded(alloc, served, work)?;
     check_there(
         alloc,

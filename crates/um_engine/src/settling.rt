@@ -10,17 +10,17 @@ ghost use Rattle.um_model.specs.Machine.{begins, begun};
 ghost use Rattle.um_state.specs.View.{state_of};
 
 use crate::jobs::begins;
-use crate::numbered::{jobs_in, next_ready, tell, tell_all};
+use crate::numbered::{jobs_in, tell, tell_all};
 use crate::restarting::restart;
-use std::alloc::AllocError;
+use std::alloc::{AllocError, Global};
 use um_falling::{Work, happen};
-use um_jobs::{Jobs, with_job};
-use um_model::{Deadline, JobKind, JobState, Moment, SubState, UnitEvent};
+use um_jobs::Jobs;
+use um_model::{Deadline, JobKind, Moment, SubState, UnitEvent};
 use um_name::UnitName;
 use um_timer::Timers;
 
-/// So many jobs that begin one after another are found by going over the units, each by itself: as a rule an input lets one begin or none.
-/// Where more begin, what they wait for is counted.
+/// Behind so many jobs that begin one after another, what the others wait for is counted. As a rule an input lets one begin or none, and going
+/// over the units once for each of a few costs less than the counts.
 const FEW: u32 = 4;
 
 /// The job runs from now on.
@@ -49,6 +49,18 @@ fn tell_anew(jobs: &mut Jobs<'_>, work: &Work<'_>, unit: usize, spreads: bool)
     }
 }
 
+/// One more job has begun, behind so many others. Once those are a few, what comes before each job is counted from now on. The result is
+/// how many have begun.
+fn count_behind(jobs: &mut Jobs<'_>, alloc: Global, begun: u32) -> Result<u32, AllocError>
+    ensures { jobs.new ≡ jobs.old }
+{
+    let begun = begun.saturating_add(1);
+    if begun == FEW {
+        jobs.count(alloc)?;
+    }
+    Ok(begun)
+}
+
 /// Lets these jobs begin, one after another, until none is ready. Where memory is refused the work is of no use.
 fn begin_all(jobs: &mut Jobs<'_>, work: &mut Work<'_>) -> Result<(), AllocError>
     requires serves { Serves work.old.graph (state_of work.old.now) }
@@ -56,23 +68,13 @@ fn begin_all(jobs: &mut Jobs<'_>, work: &mut Work<'_>) -> Result<(), AllocError>
     ensures settles { OnOk result (Goes (model.Settles work.old.moment (state_of work.old.now)) work.old work.new) }
     ensures keeps { OnOk result (Keeps work.old work.new) }
 {
+    let mut begun = 0;
     'jobs: while let Some((unit, kind)) = jobs.ready() {
         begin_job(jobs, work, unit, kind);
         let spreads = happen(work, unit, begins(kind))?;
         tell_anew(jobs, work, unit, spreads);
+        begun = count_behind(jobs, work.alloc(), begun)?;
     }
-    Ok(())
-}
-
-/// The job of the unit with this number begins. Where memory is refused the work is of no use.
-fn begin(work: &mut Work<'_>, unit: usize, kind: JobKind) -> Result<(), AllocError>
-    ensures happens { OnOk result ((name : List ℕ) → IsNumberOf work.old.graph unit name
-        → Goes (model.Happens work.old.moment name (begins kind) (begun (state_of work.old.now) (record { unit = name; kind = kind }))) work.old work.new) }
-    ensures keeps { OnOk result (Keeps work.old work.new) }
-{
-    let jobs = work.jobs(unit);
-    work.set_jobs(unit, with_job(kind, JobState::Running, jobs));
-    happen(work, unit, begins(kind))?;
     Ok(())
 }
 
@@ -83,15 +85,8 @@ pub fn settle(work: &mut Work<'_>) -> Result<(), AllocError>
 {
     // the proof reads here that the graph serves
     let _ = work.graph();
-    'few: for _ in 0..FEW {
-        let Some((unit, kind)) = next_ready(work) else {
-            return Ok(());
-        };
-        begin(work, unit, kind)?;
-    }
     let mut jobs = jobs_in(work)?;
-    begin_all(&mut jobs, work)?;
-    Ok(())
+    begin_all(&mut jobs, work)
 }
 
 /// A timer: its deadline and its unit.

@@ -43,22 +43,22 @@ module _ (g : GraphView) (units : List UnitJobs) (held : List Bool) (counts : Li
   abbrev v : JobsView
   v = record { graph = g; units = units; held = held }
 
-  stop_same : (u : ℕ) → is_stop_free units counts u ≡ is_stop_ready g v u
+  stop_same : (u : ℕ) → is_stop_free units counts u ≡ is_stop_ready g v.units u
   stop_same u = ap (λ b. is_waiting (jobs_at units u).stop && b)
       (ap (λ n. n == 0) (k.stops u) ∙ zero_told (list_any (holds_stop units) (row_of g.rows u)) (count_before before_stop g units u)
       (counts_none (λ n. ahead before_stop (jobs_at units n.unit) n) (holds_stop units) (λ n. one_tells (holds_stop units n)) (row_of g.rows u)))
 
-  start_same : (u : ℕ) → is_start_free units held counts u ≡ is_start_ready g v u
+  start_same : (u : ℕ) → is_start_free units held counts u ≡ is_start_ready g v.units v.held u
   start_same u = ap (λ b. is_waiting (jobs_at units u).start && (is_none (jobs_at units u).stop && (not (held_at held u) && b)))
       (ap (λ n. n == 0) (k.starts u) ∙ zero_told (list_any (holds_start units) (row_of g.rows u)) (count_before before_start g units u)
       (counts_none (λ n. ahead before_start (jobs_at units n.unit) n) (holds_start units)
       (λ n. two_tell (has after_bit n.kinds && is_some (jobs_at units n.unit).start) ((has before_bit n.kinds || has after_bit n.kinds) && is_some (jobs_at units n.unit).stop)) (row_of g.rows u)))
 
-  marked : (u : ℕ) → get_or ready u false ≡ (is_stop_ready g v u || is_start_ready g v u)
+  marked : (u : ℕ) → get_or ready u false ≡ (is_stop_ready g v.units u || is_start_ready g v.units v.held u)
   marked u = k.exact u ∙ (λ i. stop_same u i || start_same u i)
 
   unmarked : (u : ℕ) → get_or ready u false ≡ false → ready_kind g v u ≡ None
-  unmarked u e = by (is_stop_ready g v u) (is_start_ready g v u) (sym (marked u) ∙ e)
+  unmarked u e = by (is_stop_ready g v.units u) (is_start_ready g v.units v.held u) (sym (marked u) ∙ e)
     where
       by : (a b : Bool) → (a || b) ≡ false → kind_by a b ≡ None
       by true b f = absurd (true≢false f)
@@ -66,10 +66,10 @@ module _ (g : GraphView) (units : List UnitJobs) (held : List Bool) (counts : Li
       by false false f = refl
 
   kind_stop : (u : ℕ) → is_stop_free units counts u ≡ true → ready_kind g v u ≡ Some Stop
-  kind_stop u e = ap (λ a. kind_by a (is_start_ready g v u)) (sym (stop_same u) ∙ e)
+  kind_stop u e = ap (λ a. kind_by a (is_start_ready g v.units v.held u)) (sym (stop_same u) ∙ e)
 
   kind_start : (u : ℕ) → is_stop_free units counts u ≡ false → get_or ready u false ≡ true → ready_kind g v u ≡ Some Start
-  kind_start u e f = by (is_stop_ready g v u) (is_start_ready g v u) (sym (stop_same u) ∙ e) (sym (marked u) ∙ f)
+  kind_start u e f = by (is_stop_ready g v.units u) (is_start_ready g v.units v.held u) (sym (stop_same u) ∙ e) (sym (marked u) ∙ f)
     where
       by : (a b : Bool) → a ≡ false → (a || b) ≡ true → kind_by a b ≡ Some Start
       by true b e f = absurd (true≢false e)

@@ -1,4 +1,4 @@
--- Where no job is pending nothing is counted and no job is ready.
+-- Where no job is pending nothing is counted and no job is ready, whichever units count as deactivating.
 use Rattle.std.proofs.Common.{◌≡◌, ◌∙◌, ℕ, Bool, true, false, List, length, get_or, replicate, refl, sym, ap, subst, inl, inr, arith}
 use Rattle.std.proofs.lemmas.Bool.{cases_lt}
 use Rattle.std.proofs.lemmas.List.{get_or-replicate, get_or_past, length-replicate}
@@ -32,28 +32,35 @@ no_start false false = refl
 abbrev none : Blockers
 none = record { stop = 0; start = 0 }
 
-module _ (g : GraphView) (is : IsGraph g) (m : ℕ) (e : m ≡ length g.names) where
+module _ (g : GraphView) (is : IsGraph g) (m : ℕ) (e : m ≡ length g.names) (held : List Bool) (wide : length held ≡ length g.names) where
   none_counted : (counting : Counting) → ((a b : Bool) → counting no_jobs a b ≡ 0) → (u : ℕ) → count_before counting g (replicate m no_jobs) u ≡ 0
   none_counted counting z u =
       let s = sum_most (λ (k : Neighbour). ahead counting (jobs_at (replicate m no_jobs) k.unit) k) 0 (λ k.
       let e : ahead counting (jobs_at (replicate m no_jobs) k.unit) k ≡ 0 = ap (λ j. ahead counting j k) (alike_at m no_jobs k.unit) ∙ z (has before_bit k.kinds) (has after_bit k.kinds) in omega arith) (row_of g.rows u) in omega arith
 
-  fresh_kept : IsKept g (replicate m no_jobs) (replicate m false) (replicate m none) (replicate m false)
+  fresh_kept : IsKept g (replicate m no_jobs) held (replicate m none) (replicate m false)
   fresh_kept = record {
     graph = is;
     units_long = length-replicate m no_jobs ∙ e;
-    held_long = length-replicate m false ∙ e;
+    held_long = wide;
     counts_long = length-replicate m none ∙ e;
     ready_long = length-replicate m false ∙ e;
     stops = λ u. ap (λ (b : Blockers). b.stop) (alike_at m none u) ∙ sym (none_counted before_stop no_stop u);
     starts = λ u. ap (λ (b : Blockers). b.start) (alike_at m none u) ∙ sym (none_counted before_start no_start u);
-    exact = λ u. alike_at m false u ∙ sym (ap (λ j. free_by j (get_or (replicate m false) u false) (stop_at (replicate m none) u) (start_at (replicate m none) u)) (alike_at m no_jobs u));
+    exact = λ u. alike_at m false u ∙ sym (ap (λ j. free_by j (get_or held u false) (stop_at (replicate m none) u) (start_at (replicate m none) u)) (alike_at m no_jobs u));
   }
 
-  pub kept_of_none : (units : List UnitJobs) (held : List Bool) (counts : List Blockers) (ready : List Bool)
-      → units ≡ replicate m no_jobs → held ≡ replicate m false → counts ≡ replicate m none → ready ≡ replicate m false → IsKept g units held counts ready
-  kept_of_none units held counts ready a b c d =
+  pub kept_of_none : (units : List UnitJobs) (counts : List Blockers) (ready : List Bool)
+      → units ≡ replicate m no_jobs → counts ≡ replicate m none → ready ≡ replicate m false → IsKept g units held counts ready
+  kept_of_none units counts ready a c d =
       subst (λ us. IsKept g us held counts ready) (sym a)
-      (subst (λ hs. IsKept g (replicate m no_jobs) hs counts ready) (sym b)
-      (subst (λ cs. IsKept g (replicate m no_jobs) (replicate m false) cs ready) (sym c)
-      (subst (IsKept g (replicate m no_jobs) (replicate m false) (replicate m none)) (sym d) fresh_kept)))
+      (subst (λ cs. IsKept g (replicate m no_jobs) held cs ready) (sym c)
+      (subst (IsKept g (replicate m no_jobs) held (replicate m none)) (sym d) fresh_kept))
+
+-- what is kept of jobs is kept of the same ones
+pub kept_as : (g : GraphView) (units same_units : List UnitJobs) (held same_held : List Bool) (counts same_counts : List Blockers) (ready : List Bool)
+    → units ≡ same_units → held ≡ same_held → counts ≡ same_counts → IsKept g units held counts ready → IsKept g same_units same_held same_counts ready
+kept_as g units same_units held same_held counts same_counts ready a b d kept =
+    subst (λ us. IsKept g us same_held same_counts ready) a
+    (subst (λ hs. IsKept g units hs same_counts ready) b
+    (subst (λ cs. IsKept g units held cs ready) d kept))

@@ -146,7 +146,7 @@ module _ (g : GraphView) (is : IsGraph g) (v : JobsView) where
       let p : job_of Stop (jobs_of_unit pending s.0) ≢ None = subst (λ j. state_of_job pending j ≢ None) s.2 c.pends in
       not_false (list_any (holds_stop v.units) (row u)) f (stop_holds u w.0 w.3 (is_there Stop w.0 s.0 w.1 w.2 p))
 
-  stop_sound : (u : ℕ) → Inside u → is_stop_ready g v u ≡ true → IsReadyIn g v (stop_job (name u))
+  stop_sound : (u : ℕ) → Inside u → is_stop_ready g v.units u ≡ true → IsReadyIn g v (stop_job (name u))
   stop_sound u l t =
       let p = and_parts (is_waiting (jobs_at v.units u).stop) (not (list_any (holds_stop v.units) (row u))) t in
       record {
@@ -155,7 +155,7 @@ module _ (g : GraphView) (is : IsGraph g) (v : JobsView) where
         still = λ e. cc;
       }
 
-  stop_whole : (u : ℕ) → Inside u → IsReadyIn g v (stop_job (name u)) → is_stop_ready g v u ≡ true
+  stop_whole : (u : ℕ) → Inside u → IsReadyIn g v (stop_job (name u)) → is_stop_ready g v.units u ≡ true
   stop_whole u l r = and_from (is_waiting (jobs_at v.units u).stop) (not (list_any (holds_stop v.units) (row u))) (ap is_waiting (sym (held Stop u l) ∙ r.waits))
       (true_not (list_any (holds_stop v.units) (row u)) (λ t.
       let n = in_any (holds_stop v.units) (row u) t in
@@ -204,7 +204,7 @@ module _ (g : GraphView) (is : IsGraph g) (v : JobsView) where
   abbrev start_parts : ℕ → Bool × Bool × Bool
   start_parts u = (is_none (jobs_at v.units u).stop, not (held_at v.held u), not (list_any (holds_start v.units) (row u)))
 
-  start_sound : (u : ℕ) → Inside u → is_start_ready g v u ≡ true → IsReadyIn g v (start_job (name u))
+  start_sound : (u : ℕ) → Inside u → is_start_ready g v.units v.held u ≡ true → IsReadyIn g v (start_job (name u))
   start_sound u l t =
       let s = start_parts u in
       let p = and_parts (is_waiting (jobs_at v.units u).start) (s.0 && (s.1 && s.2)) t in
@@ -234,7 +234,7 @@ module _ (g : GraphView) (is : IsGraph g) (v : JobsView) where
         ]
   ]
 
-  start_whole : (u : ℕ) → Inside u → IsReadyIn g v (start_job (name u)) → is_start_ready g v u ≡ true
+  start_whole : (u : ℕ) → Inside u → IsReadyIn g v (start_job (name u)) → is_start_ready g v.units v.held u ≡ true
   start_whole u l r =
       let s = start_parts u in
       and_from (is_waiting (jobs_at v.units u).start) (s.0 && (s.1 && s.2)) (ap is_waiting (sym (held Start u l) ∙ r.waits))
@@ -249,9 +249,9 @@ module _ (g : GraphView) (is : IsGraph g) (v : JobsView) where
   kind_by a b = cond a (Some Stop) (cond b (Some Start) None)
 
   kind_sound : (u : ℕ) → Inside u → (k : JobKind) → ready_kind g v u ≡ Some k → IsReadyIn g v (job_named g u k)
-  kind_sound u l k e = by (is_stop_ready g v u) (is_start_ready g v u) refl refl k e
+  kind_sound u l k e = by (is_stop_ready g v.units u) (is_start_ready g v.units v.held u) refl refl k e
     where
-      by : (a b : Bool) → is_stop_ready g v u ≡ a → is_start_ready g v u ≡ b → (k : JobKind) → kind_by a b ≡ Some k → IsReadyIn g v (job_named g u k)
+      by : (a b : Bool) → is_stop_ready g v.units u ≡ a → is_start_ready g v.units v.held u ≡ b → (k : JobKind) → kind_by a b ≡ Some k → IsReadyIn g v (job_named g u k)
       by true b s t Stop e = stop_sound u l s
       by true b s t Start e = cc
       by false true s t Stop e = cc
@@ -259,14 +259,14 @@ module _ (g : GraphView) (is : IsGraph g) (v : JobsView) where
       by false false s t k e = cc
 
   stop_first_here : (u : ℕ) → Inside u → IsReadyIn g v (stop_job (name u)) → ready_kind g v u ≡ Some Stop
-  stop_first_here u l r = ap (λ a. kind_by a (is_start_ready g v u)) (stop_whole u l r)
+  stop_first_here u l r = ap (λ a. kind_by a (is_start_ready g v.units v.held u)) (stop_whole u l r)
 
   kind_whole : (u : ℕ) → Inside u → (k : JobKind) → IsReadyIn g v (job_named g u k) → ready_kind g v u ≡ None → ⊥
   kind_whole u l Stop r e = let f = sym (stop_first_here u l r) ∙ e in some_kind Stop f
     where
       some_kind : (k : JobKind) → Some k ≡ None → ⊥
       some_kind k f = cc
-  kind_whole u l Start r e = by (is_stop_ready g v u) (ap (kind_by (is_stop_ready g v u)) (sym (start_whole u l r)) ∙ e)
+  kind_whole u l Start r e = by (is_stop_ready g v.units u) (ap (kind_by (is_stop_ready g v.units u)) (sym (start_whole u l r)) ∙ e)
     where
       by : (a : Bool) → kind_by a true ≡ None → ⊥
       by true f = cc

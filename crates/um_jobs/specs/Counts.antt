@@ -86,6 +86,12 @@ pub record IsKept (g : GraphView) (units : List UnitJobs) (held : List Bool) (co
   pub starts : (u : ℕ) → start_at counts u ≡ count_before before_start g units u
   pub exact : (u : ℕ) → get_or ready u false ≡ is_free units held counts u
 
+-- the graph is one, and of each of its units there are jobs, and whether it counts as deactivating
+pub record IsTable (g : GraphView) (units : List UnitJobs) (held : List Bool) : Type 0 where
+  pub graph : IsGraph g
+  pub units_long : length units ≡ length g.names
+  pub held_long : length held ≡ length g.names
+
 -- ---- what a change of one unit's jobs changes of it
 
 -- both hold, or neither does

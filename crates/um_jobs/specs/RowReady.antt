@@ -24,23 +24,15 @@ holds_start jobs n =
     || ((has before_bit n.kinds || has after_bit n.kinds) && is_some (jobs_at jobs n.unit).stop)
 
 -- the stop of the unit waits, and for no other job
-abbrev pub is_stop_clear : GraphView → List UnitJobs → ℕ → Bool
-is_stop_clear g units u = is_waiting (jobs_at units u).stop && not (list_any (holds_stop units) (row_of g.rows u))
-
--- the start of the unit waits, for no other job, nor for the unit's own stop
-abbrev pub is_start_clear : GraphView → List UnitJobs → ℕ → Bool
-is_start_clear g units u = is_waiting (jobs_at units u).start && (is_none (jobs_at units u).stop && not (list_any (holds_start units) (row_of g.rows u)))
-
--- the stop of the unit is ready
-abbrev pub is_stop_ready : GraphView → JobsView → ℕ → Bool
-is_stop_ready g v u = is_stop_clear g v.units u
+abbrev pub is_stop_ready : GraphView → List UnitJobs → ℕ → Bool
+is_stop_ready g units u = is_waiting (jobs_at units u).stop && not (list_any (holds_stop units) (row_of g.rows u))
 
 -- the start of the unit waits, for no other job, nor for the unit's own stop or the end of its being deactivating
-abbrev pub is_start_ready : GraphView → JobsView → ℕ → Bool
-is_start_ready g v u =
-    is_waiting (jobs_at v.units u).start
-    && (is_none (jobs_at v.units u).stop && (not (held_at v.held u) && not (list_any (holds_start v.units) (row_of g.rows u))))
+abbrev pub is_start_ready : GraphView → List UnitJobs → List Bool → ℕ → Bool
+is_start_ready g units held u =
+    is_waiting (jobs_at units u).start
+    && (is_none (jobs_at units u).stop && (not (held_at held u) && not (list_any (holds_start units) (row_of g.rows u))))
 
 -- the first job of the unit that is ready
 abbrev pub ready_kind : GraphView → JobsView → ℕ → Option JobKind
-ready_kind g v u = if is_stop_ready g v u then Some Stop else (if is_start_ready g v u then Some Start else None)
+ready_kind g v u = if is_stop_ready g v.units u then Some Stop else (if is_start_ready g v.units v.held u then Some Start else None)

@@ -16,7 +16,8 @@ ghost use Rattle.um_wire.specs.declared.refusal.Refusal.TheVariants.{NoMemory};
 use crate::counts::Blockers;
 use crate::least::LeastSet;
 use crate::marks::{change, change_all, is_stop_free, mark};
-use crate::table::{has_waiting, jobs_of, with_job, without_waiting};
+use crate::rows::{is_held, next_ready};
+use crate::table::{has_waiting, jobs_of, put_all, without_waiting};
 use std::alloc::{AllocError, Global};
 use std::marker::Model;
 use um_graph::Graph;
@@ -24,27 +25,38 @@ use um_model::{JobKind, JobState, UnitJobs};
 use um_name::UnitName;
 use um_wire::{Refusal, no_such_job};
 
-/// The pending jobs of the units of a graph by their numbers, and which units count as deactivating. A number past the last unit
-/// is that of a unit without jobs, and nothing changes it.
-pub struct Jobs<'g> {
-    graph: &'g Graph,
-    units: Vec<UnitJobs>,
-    held: Vec<bool>,
+/// What is counted of pending jobs.
+#[derive(Drop)]
+struct Counted {
     /// Of each unit how many pending jobs of its neighbours come before its own.
-    counts: Vec<Blockers>,
+    blockers: Vec<Blockers>,
     /// The units that have a ready job.
     ready: LeastSet,
 }
 
+/// The pending jobs of the units of a graph by their numbers, and which units count as deactivating. A number past the last unit
+/// is that of a unit without jobs, and nothing changes it.
+///
+/// Which job is ready is found by going over the units, until `count` has counted what comes before each of them: that costs as much as
+/// a few such searches, and a change costs more from then on, but a search next to nothing.
+pub struct Jobs<'g> {
+    graph: &'g Graph,
+    units: Vec<UnitJobs>,
+    held: Vec<bool>,
+    counted: Option<Counted>,
+}
+
 impl<'g> Model for Jobs<'g> {
-    ghost use Rattle.um_jobs.specs.Counts.{IsKept};
+    ghost use Rattle.std.specs.Prelude.{IfSome};
+    ghost use Rattle.um_jobs.specs.Counts.{IsKept, IsTable};
     ghost use Rattle.um_jobs.specs.Jobs.{JobsView};
 
     ghost Value = { JobsView };
 
     ghost view = { λ j. record { graph = j.graph.now; units = j.units.items; held = j.held.items } };
 
-    ghost invariant = { λ j. IsKept j.graph.now j.units.items j.held.items j.counts.items j.ready };
+    ghost invariant = { λ j. IsTable j.graph.now j.units.items j.held.items
+        × IfSome j.counted (λ c. IsKept j.graph.now j.units.items j.held.items c.blockers.items c.ready) };
 }
 
 // One call, where a derived one is taken apart at each exit.
@@ -54,30 +66,24 @@ impl<'g> Drop for Jobs<'g> {
             graph: _,
             units: _units,
             held: _held,
-            counts: _counts,
-            ready: _ready,
+            counted: _counted,
         } = self;
     }
 }
 
 impl<'g> Jobs<'g> {
-    /// No job of the graph's units, none of which counts as deactivating.
+    /// No job of the graph's units, none of which counts as deactivating. Nothing is counted.
     pub fn new(alloc: Global, graph: &'g Graph) -> Result<Jobs<'g>, AllocError>
         ensures graph { IfOk result (λ j. j.graph ≡ graph.now) }
         ensures units { IfOk result (λ j. j.units ≡ replicate (length graph.now.names) no_jobs) }
         ensures held { IfOk result (λ j. j.held ≡ replicate (length graph.now.names) false) }
     {
         let len = graph.len();
-        let units = vec![in alloc; UnitJobs::NONE; len]?;
-        let held = vec![in alloc; false; len]?;
-        let counts = vec![in alloc; Blockers::NONE; len]?;
-        let ready = LeastSet::new(alloc, len)?;
         Ok(Jobs {
             graph,
-            units,
-            held,
-            counts,
-            ready,
+            units: vec![in alloc; UnitJobs::NONE; len]?,
+            held: vec![in alloc; false; len]?,
+            counted: None,
         })
     }
 
@@ -94,7 +100,7 @@ impl<'g> Jobs<'g> {
         Ok(jobs)
     }
 
-    /// The same jobs again.
+    /// The same jobs again, of which nothing is counted.
     pub fn copy(&self) -> Result<Jobs<'g>, AllocError>
         ensures { IfOk result (λ j. j ≡ self.now) }
     {
@@ -102,8 +108,7 @@ impl<'g> Jobs<'g> {
             graph: self.graph,
             units: self.units.clone()?,
             held: self.held.clone()?,
-            counts: self.counts.clone()?,
-            ready: self.ready.copy()?,
+            counted: None,
         })
     }
 
@@ -127,7 +132,7 @@ impl<'g> Jobs<'g> {
     pub fn is_held(&self, unit: usize) -> bool
         ensures { result ≡ held_at self.now.held unit }
     {
-        self.held.get(unit).copied().unwrap_or(false)
+        is_held(&self.held, unit)
     }
 }
 
@@ -140,14 +145,17 @@ impl Jobs<'_> {
         ensures held { self.new.held ≡ self.old.held }
         ensures graph { self.new.graph ≡ self.old.graph }
     {
-        change_all(
-            self.graph,
-            &mut self.units,
-            &self.held,
-            &mut self.counts,
-            &mut self.ready,
-            plan,
-        );
+        match &mut self.counted {
+            Some(counted) => change_all(
+                self.graph,
+                &mut self.units,
+                &self.held,
+                &mut counted.blockers,
+                &mut counted.ready,
+                plan,
+            ),
+            None => put_all(&mut self.units, plan),
+        }
     }
 
     /// The unit with this number counts as deactivating from now on, or no more.
@@ -156,25 +164,36 @@ impl Jobs<'_> {
     {
         if unit < self.held.len() && self.held[unit] != deactivating {
             self.held[unit] = deactivating;
-            mark(&mut self.ready, &self.units, &self.held, &self.counts, unit);
+            if let Some(counted) = &mut self.counted {
+                mark(
+                    &mut counted.ready,
+                    &self.units,
+                    &self.held,
+                    &counted.blockers,
+                    unit,
+                );
+            }
         }
     }
 
-    /// The unit with this number has just these jobs. It takes no memory, and goes over the unit's row only where not the same jobs of
-    /// it are pending as before.
+    /// The unit with this number has just these jobs. It takes no memory, and goes over the unit's row only where something is counted and
+    /// not the same jobs of it are pending as before.
     fn set(&mut self, unit: usize, jobs: UnitJobs)
         ensures { self.new ≡ with_jobs_at self.old unit jobs }
     {
         if unit < self.units.len() {
-            change(
-                self.graph,
-                &mut self.units,
-                &self.held,
-                &mut self.counts,
-                &mut self.ready,
-                unit,
-                jobs,
-            );
+            match &mut self.counted {
+                Some(counted) => change(
+                    self.graph,
+                    &mut self.units,
+                    &self.held,
+                    &mut counted.blockers,
+                    &mut counted.ready,
+                    unit,
+                    jobs,
+                ),
+                None => self.units[unit] = jobs,
+            }
         }
     }
 
@@ -182,14 +201,14 @@ impl Jobs<'_> {
     pub fn put(&mut self, unit: usize, kind: JobKind)
         ensures { self.new ≡ with_jobs_at self.old unit (model.with_job kind Waiting (jobs_at self.old.units unit)) }
     {
-        self.set(unit, with_job(kind, JobState::Waiting, self.get(unit)));
+        self.set(unit, self.get(unit).with_job(kind, JobState::Waiting));
     }
 
     /// That job of the unit runs from now on.
     pub fn begin(&mut self, unit: usize, kind: JobKind)
         ensures { self.new ≡ with_jobs_at self.old unit (model.with_job kind Running (jobs_at self.old.units unit)) }
     {
-        self.set(unit, with_job(kind, JobState::Running, self.get(unit)));
+        self.set(unit, self.get(unit).with_job(kind, JobState::Running));
     }
 
     /// That job of the unit is over.
@@ -216,6 +235,26 @@ impl Jobs<'_> {
 }
 
 impl Jobs<'_> {
+    /// Counts what comes before the jobs of each unit, from now on with each change. The jobs stay as they are, also where memory is refused.
+    pub fn count(&mut self, alloc: Global) -> Result<(), AllocError>
+        ensures { self.new ≡ self.old }
+    {
+        let len = self.units.len();
+        let mut units = vec![in alloc; UnitJobs::NONE; len]?;
+        let mut blockers = vec![in alloc; Blockers::NONE; len]?;
+        let mut ready = LeastSet::new(alloc, len)?;
+        change_all(
+            self.graph,
+            &mut units,
+            &self.held,
+            &mut blockers,
+            &mut ready,
+            &self.units,
+        );
+        self.counted = Some(Counted { blockers, ready });
+        Ok(())
+    }
+
     /// The job that begins next, with the number of its unit: the least ready one; none where none is ready. It takes no memory.
     ///
     /// A job is ready where it waits and no other comes before it by the rows of the graph, be that one waiting or running; a start
@@ -225,10 +264,13 @@ impl Jobs<'_> {
             (λ r. IsLeast IsToldBefore (IsReadyIn self.now.graph self.now) (job_named self.now.graph r.0 r.1)) }
         ensures within { IfSome result (λ r. r.0 < length self.now.graph.names) }
     {
-        let Some(unit) = self.ready.least() else {
+        let Some(counted) = &self.counted else {
+            return next_ready(self.graph, &self.units, &self.held);
+        };
+        let Some(unit) = counted.ready.least() else {
             return None;
         };
-        if is_stop_free(&self.units, &self.counts, unit) {
+        if is_stop_free(&self.units, &counted.blockers, unit) {
             return Some((unit, JobKind::Stop));
         }
         Some((unit, JobKind::Start))

@@ -11,8 +11,6 @@ mod table;
 
 pub use jobs::Jobs;
 pub use laws::one_ready_job_is_the_least;
-pub use rows::{is_start_clear, is_stop_clear};
 pub use table::{
-    drops_one, has_waiting, is_active, is_waiting, jobs_for, jobs_left, jobs_of, with_job,
-    without_start, without_waiting,
+    drops_one, has_waiting, is_active, is_waiting, jobs_for, jobs_left, jobs_of, without_start,
 };

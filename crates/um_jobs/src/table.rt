@@ -1,6 +1,6 @@
 //! What becomes of the jobs of one unit (systemctl(1), "start", "stop", "restart").
 
-ghost use Rattle.std.specs.Prelude.{◌≡◌, ◌||◌, Some, unwrap_or};
+ghost use Rattle.std.specs.Prelude.{◌≡◌, ◌||◌, ◌<◌, ℕ, Some, length, unwrap_or};
 ghost use Rattle.um_jobs.specs.Drops.{drops_one, is_dropped};
 ghost use Rattle.um_jobs.specs.Named.{jobs_at};
 ghost use Rattle.um_model.specs.Jobs as model;
@@ -8,13 +8,24 @@ ghost use Rattle.um_model.specs.Machine as machine;
 ghost use Rattle.um_model.specs.Waiting.{has_waiting};
 ghost use Rattle.um_model.specs.declared.jobs.JobState.TheVariants.{Waiting};
 
-use um_model::{ActiveState, Demand, JobKind, JobState, StartJob, UnitJobs};
+use um_model::{ActiveState, Demand, JobState, StartJob, UnitJobs};
 
 /// The pending jobs of the unit with this number; one past the last has none.
 pub fn jobs_of(pending: &[UnitJobs], unit: usize) -> UnitJobs
     ensures { result ≡ jobs_at pending.now unit }
 {
     pending.get(unit).copied().unwrap_or(UnitJobs::NONE)
+}
+
+/// Leaves of each unit just its jobs of the plan.
+pub fn put_all(units: &mut [UnitJobs], plan: &[UnitJobs])
+    ensures each { (u : ℕ) → u < length units.old → jobs_at units.new u ≡ jobs_at plan.now u }
+    ensures whole { length plan.now ≡ length units.old → units.new ≡ plan.now }
+    ensures len { length units.new ≡ length units.old }
+{
+    for unit in 0..units.len() {
+        units[unit] = jobs_of(plan, unit);
+    }
 }
 
 /// Whether a job is pending and waits.
@@ -122,22 +133,6 @@ pub fn drops_one(before: UnitJobs, after: UnitJobs) -> bool
     ensures { result ≡ drops_one before after }
 {
     is_dropped(before.stop, after.stop) || is_dropped(before.start, after.start)
-}
-
-/// The jobs with the one of this kind in that state.
-pub fn with_job(kind: JobKind, state: JobState, now: UnitJobs) -> UnitJobs
-    ensures { result ≡ model.with_job kind state now }
-{
-    match kind {
-        JobKind::Stop => UnitJobs {
-            stop: Some(state),
-            ..now
-        },
-        JobKind::Start => UnitJobs {
-            start: Some(state),
-            ..now
-        },
-    }
 }
 
 fn unless_running(job: Option<JobState>) -> Option<JobState>

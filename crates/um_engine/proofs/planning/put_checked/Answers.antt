@@ -21,8 +21,8 @@ put_plan-requires-clause-tidy c = c.requires.tidy
 
 pub check_crowded-requires : goal.check_crowded-requires
 check_crowded-requires c =
-    works_still c.args.served.now c.args.work.now c.put_plan.new.work c.requires.works c.put_plan.ensures.keeps (ap (λ (s : State). s.tree) c.put_plan.ensures.state)
-    (ap (λ (s : State). s.loaded) c.put_plan.ensures.state)
+    works_still c.args.served.now c.args.work.now c.put_plan.new.work c.requires.works c.in_ok-put_plan.ensures.keeps (ap (λ (s : State). s.tree) c.in_ok-put_plan.ensures.state)
+    (ap (λ (s : State). s.loaded) c.in_ok-put_plan.ensures.state)
 
 pub check_there-requires : goal.check_there-requires
 check_there-requires c = c.requires.finds ∙ sym (ap (λ (s : State). is_found (load s.loaded c.args.wanted.now.asked.now)) c.state.ensures.state)
@@ -35,9 +35,9 @@ returns-in_err-check_crowded-clause-refused c = λ demand unit demands is.
     let tr = c.args.transaction.now in
     let wanted = c.args.wanted.now in
     let so : state_of x.now ≡ record v.state { pending = jobs_by tr.graph.names tr.plan } =
-    so_here v w.moment w x w.graph c.as_slice.result.now tr c.requires.begins refl c.requires.graph (c.as_slice.ensures ∙ c.plan.ensures.plan) c.put_plan.ensures.state in
+    so_here v w.moment w x w.graph c.as_slice.result.now tr c.requires.begins refl c.requires.graph (c.as_slice.ensures ∙ c.plan.ensures.plan) c.in_ok-put_plan.ensures.state in
     let e = c.in_err-check_crowded.field-0.0 in
-    refuses_on (model.Refuses v.state (model.ForUnit wanted.verb wanted.asked.now wanted.mode)) c.from_residual.result e c.from_residual.ensures.1
+    refuses_on (model.Refuses v.state (model.ForUnit wanted.verb wanted.asked.now wanted.mode)) c.from_residual-in_err-check_crowded.result e c.from_residual-in_err-check_crowded.ensures.1
     (λ differs. full_here v.state (state_of x.now) wanted.verb wanted.asked.now wanted.is_found demand unit wanted.mode demands tr is so c.plan.ensures.planned (refused_of e)
     (c.in_err-check_crowded.ensures differs))
 
@@ -49,7 +49,7 @@ returns-in_err-check_there-clause-refused c = λ demand unit demands is.
     let tr = c.args.transaction.now in
     let wanted = c.args.wanted.now in
     let so : state_of x.now ≡ record v.state { pending = jobs_by tr.graph.names tr.plan } =
-    so_here v w.moment w x w.graph c.as_slice.result.now tr c.requires.begins refl c.requires.graph (c.as_slice.ensures ∙ c.plan.ensures.plan) c.put_plan.ensures.state in
+    so_here v w.moment w x w.graph c.as_slice.result.now tr c.requires.begins refl c.requires.graph (c.as_slice.ensures ∙ c.plan.ensures.plan) c.in_ok-put_plan.ensures.state in
     let e = c.in_err-check_there.field-0.0 in
     refuses_on (model.Refuses v.state (model.ForUnit wanted.verb wanted.asked.now wanted.mode)) c.from_residual-in_err-check_there.result e c.from_residual-in_err-check_there.ensures.1
     (λ differs. absent_here v.state (state_of x.now) wanted.verb wanted.asked.now wanted.is_found demand unit wanted.mode demands tr is so c.plan.ensures.planned c.in_ok-check_crowded.ensures (refused_of e)
@@ -63,7 +63,7 @@ returns-in_err-check-clause-refused c = λ demand unit demands is.
     let tr = c.args.transaction.now in
     let wanted = c.args.wanted.now in
     let so : state_of x.now ≡ record v.state { pending = jobs_by tr.graph.names tr.plan } =
-    so_here v w.moment w x w.graph c.as_slice.result.now tr c.requires.begins refl c.requires.graph (c.as_slice.ensures ∙ c.plan.ensures.plan) c.put_plan.ensures.state in
+    so_here v w.moment w x w.graph c.as_slice.result.now tr c.requires.begins refl c.requires.graph (c.as_slice.ensures ∙ c.plan.ensures.plan) c.in_ok-put_plan.ensures.state in
     let there : (q : Refused) → ¬ model.IsNotThere v.state wanted.verb wanted.asked.now q =
     subst (λ (s : State). (q : Refused) → ¬ model.IsNotThere s wanted.verb wanted.asked.now q) c.state.ensures.state c.in_ok-check_there.ensures in
     let e = c.in_err-check.field-0.0 in
@@ -79,7 +79,7 @@ returns-clause-refused c = λ demand unit demands is.
     let tr = c.args.transaction.now in
     let wanted = c.args.wanted.now in
     let so : state_of x.now ≡ record v.state { pending = jobs_by tr.graph.names tr.plan } =
-    so_here v w.moment w x w.graph c.as_slice.result.now tr c.requires.begins refl c.requires.graph (c.as_slice.ensures ∙ c.plan.ensures.plan) c.put_plan.ensures.state in
+    so_here v w.moment w x w.graph c.as_slice.result.now tr c.requires.begins refl c.requires.graph (c.as_slice.ensures ∙ c.plan.ensures.plan) c.in_ok-put_plan.ensures.state in
     let there : (q : Refused) → ¬ model.IsNotThere v.state wanted.verb wanted.asked.now q =
     subst (λ (s : State). (q : Refused) → ¬ model.IsNotThere s wanted.verb wanted.asked.now q) c.state.ensures.state c.in_ok-check_there.ensures in
     free_here v.state (state_of x.now) wanted.verb wanted.asked.now wanted.is_found demand unit wanted.mode demands tr is so c.plan.ensures.planned c.in_ok-check_crowded.ensures there
@@ -92,16 +92,16 @@ returns-clause-planned c = λ root is.
     let x = c.put_plan.new.work in
     let tr = c.args.transaction.now in
     let so : state_of x.now ≡ record v.state { pending = jobs_by tr.graph.names tr.plan } =
-    so_here v w.moment w x w.graph c.as_slice.result.now tr c.requires.begins refl c.requires.graph (c.as_slice.ensures ∙ c.plan.ensures.plan) c.put_plan.ensures.state in
+    so_here v w.moment w x w.graph c.as_slice.result.now tr c.requires.begins refl c.requires.graph (c.as_slice.ensures ∙ c.plan.ensures.plan) c.in_ok-put_plan.ensures.state in
     has_plan v.state (state_of x.now) root tr is so (c.plan.ensures.planned root.1 is.number)
 
 pub returns-clause-works : goal.returns-clause-works
 returns-clause-works c =
-    works_still c.args.served.now c.args.work.now c.put_plan.new.work c.requires.works c.put_plan.ensures.keeps (ap (λ (s : State). s.tree) c.put_plan.ensures.state)
-    (ap (λ (s : State). s.loaded) c.put_plan.ensures.state)
+    works_still c.args.served.now c.args.work.now c.put_plan.new.work c.requires.works c.in_ok-put_plan.ensures.keeps (ap (λ (s : State). s.tree) c.in_ok-put_plan.ensures.state)
+    (ap (λ (s : State). s.loaded) c.in_ok-put_plan.ensures.state)
 
 pub returns-clause-moment : goal.returns-clause-moment
-returns-clause-moment c = c.put_plan.ensures.keeps.moment
+returns-clause-moment c = c.in_ok-put_plan.ensures.keeps.moment
 
 pub returns-clause-actions : goal.returns-clause-actions
-returns-clause-actions c = c.put_plan.ensures.actions
+returns-clause-actions c = c.in_ok-put_plan.ensures.actions

@@ -1,7 +1,7 @@
 use Rattle.std.proofs.Common.{◌≡◌, ◌∙◌, ap, refl, length, arith}
 use Rattle.um_graph.specs.Graph.{GraphView}
 use Rattle.um_engine.proofs.PlannedLaws.{puts_all, puts_more, puts_none}
-use Rattle.um_engine.proofs.planning.put_plan.Goals as goal
+use Rattle.um_engine.proofs.planning.put_jobs.Goals as goal
 
 pub loop-unit-init : goal.loop-unit-init
 loop-unit-init c = puts_none c.args.work.now c.args.jobs.now c.requires.tidy
