@@ -1,11 +1,11 @@
 -- What a finder tells once a row is set, or each row was added; and what the row of a number says of the units.
-use Rattle.std.proofs.Common.{ℕ, ◌≡◌, ◌≢◌, ◌∙◌, ◌⊎◌, ◌<◌, ◌+◌, true, false, cond, List, [], ◌∷◌, length, Some, None, Option, MatchOption, set, get_or, refl, sym, ap, subst, arith, true≢false, is_some, unwrap_or, inl, inr}
+use Rattle.std.proofs.Common.{ℕ, ◌≡◌, ◌≢◌, ◌∙◌, ◌⊎◌, ◌<◌, ◌+◌, false, List, [], length, Some, None, Option, MatchOption, set, get_or, sym, ap, subst, arith, true≢false, is_some, unwrap_or, inl, inr}
 use Rattle.std.proofs.lemmas.Bool.{cases_lt}
 use Rattle.std.proofs.lemmas.List.{get_or-set_same, get_or-set_other, get_or_default, get_or_past}
 use Rattle.std.proofs.lemmas.Option.{none-some}
 use Rattle.um_model.specs.Least.{IsNamedBefore}
 use Rattle.um_model.specs.Machine.{IsProcessOf, IsOver}
-use Rattle.um_model.specs.Service.{ByUnit, state_of_unit, with_unit, dead_unit}
+use Rattle.um_model.specs.Service.{state_of_unit, with_unit, dead_unit}
 use Rattle.um_model.specs.Standing.{Table}
 use Rattle.um_model.specs.Transitions.{HasNumber}
 use Rattle.um_model.specs.declared.service.UnitState.{UnitState}

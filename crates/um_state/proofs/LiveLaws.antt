@@ -1,10 +1,10 @@
 -- What is told of live numbers in ascending order, once one is added or let go.
-use Rattle.std.proofs.Common.{ℕ, zero, suc, ◌≡◌, ◌≢◌, ◌∙◌, ◌<◌, ◌≤◌, ◌+◌, ◌-◌, ◌==◌, Bool, List, [], ◌∷◌, length, Some, None, Option, refl, sym, ap, subst, arith, true, false, cond, inl, inr}
+use Rattle.std.proofs.Common.{ℕ, zero, suc, ◌≡◌, ◌≢◌, ◌∙◌, ◌<◌, ◌≤◌, ◌+◌, ◌-◌, ◌==◌, Bool, List, [], ◌∷◌, length, Some, None, refl, sym, ap, subst, arith, true, false, cond, inl, inr}
 use Rattle.std.proofs.lemmas.Bool.{cases_lt, eq-eqb, ne_eqb}
 use Rattle.std.proofs.lemmas.Option.{none-some}
 use Rattle.std.proofs.lemmas.List.Edits.{get_or-insert_at, get_or-insert_below, get_or-insert_above, get_or-remove_below, get_or-remove_above, length-insert, length-remove}
 use Rattle.std.specs.List.{insert, remove}
-use Rattle.um_state.specs.LiveRows.{IsRising, live_at, live_number, live_row, told}
+use Rattle.um_state.specs.LiveRows.{IsRising, live_number, live_row, told}
 use Rattle.um_state.specs.declared.live.Live.{Live}
 
 -- what is told where the first has the number, and where it has another one
