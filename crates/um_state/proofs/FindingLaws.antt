@@ -1,21 +1,18 @@
--- What a finder tells once a row is set, a number is let go, or each row was added; and what the row of a number says of the units.
-use Rattle.std.proofs.Common.{ℕ, ◌≡◌, ◌≢◌, ◌∙◌, ◌⊎◌, ◌<◌, ◌+◌, true, false, cond, List, [], ◌∷◌, length, Some, None, Option, MatchOption, set, get_or, refl, sym, ap, subst, arith, true≢false, is_some, unwrap_or, inl, inr}
-use Rattle.std.specs.BTreeMap as tree
-use Rattle.std.specs.Ordering.{nat_cmp, eq_by_cmp}
+-- What a finder tells once a row is set, or each row was added; and what the row of a number says of the units.
+use Rattle.std.proofs.Common.{ℕ, ◌≡◌, ◌≢◌, ◌∙◌, ◌⊎◌, ◌<◌, ◌+◌, false, List, [], length, Some, None, Option, MatchOption, set, get_or, sym, ap, subst, arith, true≢false, is_some, unwrap_or, inl, inr}
 use Rattle.std.proofs.lemmas.Bool.{cases_lt}
 use Rattle.std.proofs.lemmas.List.{get_or-set_same, get_or-set_other, get_or_default, get_or_past}
-use Rattle.std.proofs.lemmas.Map.Views.{tells_apart}
-use Rattle.std.proofs.lemmas.Map.Lookups.{exact_unsigned}
 use Rattle.std.proofs.lemmas.Option.{none-some}
 use Rattle.um_model.specs.Least.{IsNamedBefore}
 use Rattle.um_model.specs.Machine.{IsProcessOf, IsOver}
-use Rattle.um_model.specs.Service.{ByUnit, state_of_unit, with_unit, dead_unit}
+use Rattle.um_model.specs.Service.{state_of_unit, with_unit, dead_unit}
 use Rattle.um_model.specs.Standing.{Table}
 use Rattle.um_model.specs.Transitions.{HasNumber}
 use Rattle.um_model.specs.declared.service.UnitState.{UnitState}
 use Rattle.um_name.specs.Names.{AreAscending, IsApart, name_at}
 use Rattle.um_name.proofs.NumberLaws.{among_or_apart, names_once}
 use Rattle.um_state.specs.declared.finder.Finder.{Finder}
+use Rattle.um_state.specs.LiveRows.{told}
 use Rattle.um_state.specs.Finding.{Tells, Finds, NoneHas, IsFirstWith, row_at}
 use Rattle.um_state.specs.Tables.{units_by}
 use Rattle.um_state.proofs.PutLaws.{units_put}
@@ -66,20 +63,6 @@ pub told_both : (f g : Finder) (i : ℕ) (u : UnitState) → ((n : ℕ) → u.ma
 told_both f g i u main keeps control n (inl e) = keeps n (main n e)
 told_both f g i u main keeps control n (inr e) = control n e
 
--- ---- a number is let go
-
-pub finds_left : (rows : List UnitState) (f g : Finder) (number : ℕ) → Finds rows f → g.is_partial ≡ f.is_partial → tree.Updates nat_cmp f.rows g.rows number None
-    → ((i : ℕ) → tree.get nat_cmp f.rows number ≡ Some i → ¬ HasNumber (row_at rows i) number) → Finds rows g
-finds_left rows f g number finds alone updates over i n has one = elim (eq_by_cmp nat_cmp number n) as (λ b. eq_by_cmp nat_cmp number n ≡ b → tree.get nat_cmp g.rows n ≡ Some i) [
-  | true ↦ λ e.
-      let same = tells_apart exact_unsigned number n e in
-      absurd (over i (subst (λ m. tree.get nat_cmp f.rows m ≡ Some i) (sym same) told) (subst (HasNumber (row_at rows i)) (sym same) has))
-  | false ↦ λ e. updates.0 n ∙ (ap (λ b. cond b None (tree.get nat_cmp f.rows n)) e ∙ told)
-] refl
-  where
-    told : tree.get nat_cmp f.rows n ≡ Some i
-    told = finds i n has (sym alone ∙ one)
-
 -- ---- each row was added
 
 -- the first rows are told
@@ -103,7 +86,7 @@ finds_all rows finder below i n has = elim (cases_lt i (length rows)) as (λ _. 
 
 -- ---- the row of a number
 
-pub found : (rows : List UnitState) (finder : Finder) (number i : ℕ) → Finds rows finder → finder.is_partial ≡ false → tree.get nat_cmp finder.rows number ≡ Some i
+pub found : (rows : List UnitState) (finder : Finder) (number i : ℕ) → Finds rows finder → finder.is_partial ≡ false → told finder.live.list.items number ≡ Some i
     → HasNumber (row_at rows i) number → IsFirstWith rows number i
 found rows finder number i finds alone told has = record {
   within = elim (cases_lt i (length rows)) as (λ _. i < length rows) [
@@ -116,17 +99,17 @@ found rows finder number i finds alone told has = record {
       absurd (omega (arith, below, same));
 }
 
-pub none_told : (rows : List UnitState) (finder : Finder) (number : ℕ) → Finds rows finder → finder.is_partial ≡ false → tree.get nat_cmp finder.rows number ≡ None → NoneHas rows number
+pub none_told : (rows : List UnitState) (finder : Finder) (number : ℕ) → Finds rows finder → finder.is_partial ≡ false → told finder.live.list.items number ≡ None → NoneHas rows number
 none_told rows finder number finds alone none i has = true≢false (ap is_some (sym (finds i number has alone) ∙ none))
 
-pub told_wrong : (rows : List UnitState) (finder : Finder) (number i : ℕ) → Finds rows finder → finder.is_partial ≡ false → tree.get nat_cmp finder.rows number ≡ Some i
+pub told_wrong : (rows : List UnitState) (finder : Finder) (number i : ℕ) → Finds rows finder → finder.is_partial ≡ false → told finder.live.list.items number ≡ Some i
     → ¬ HasNumber (row_at rows i) number → NoneHas rows number
 told_wrong rows finder number i finds alone told wrong j has =
     let same : j ≡ i = ap (λ o. unwrap_or o i) (sym (finds j number has alone) ∙ told) in
     wrong (subst (λ k. HasNumber (row_at rows k) number) same has)
 
 -- what the row of a number says where it is told of the number
-pub told_or_not : (rows : List UnitState) (finder : Finder) (number row : ℕ) → Finds rows finder → finder.is_partial ≡ false → tree.get nat_cmp finder.rows number ≡ Some row
+pub told_or_not : (rows : List UnitState) (finder : Finder) (number row : ℕ) → Finds rows finder → finder.is_partial ≡ false → told finder.live.list.items number ≡ Some row
     → (r : Option ℕ) → MatchOption r (¬ HasNumber (row_at rows row) number) (λ i. (i ≡ row) × HasNumber (row_at rows row) number) → MatchOption r (NoneHas rows number) (IsFirstWith rows number)
 told_or_not rows finder number row finds alone told None wrong = told_wrong rows finder number row finds alone told wrong
 told_or_not rows finder number row finds alone told (Some i) (is, has) = subst (IsFirstWith rows number) (sym is) (found rows finder number row finds alone told has)

@@ -11,6 +11,7 @@ pub mod HeldLaws
 pub mod InputArms
 pub mod JobLists
 pub mod JobsRead
+pub mod LiveLaws
 pub mod NameLists
 pub mod NumberLists
 pub mod OverlayLaws

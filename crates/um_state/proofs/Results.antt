@@ -17,3 +17,7 @@ on_ok_more (Err e) f p = tt
 pub if_ok_more : {T E : Type 0} {P Q : T → Type 0} (r : Result T E) → ((a : T) → P a → Q a) → IfOk r P → IfOk r Q
 if_ok_more (Ok a) f p = f a p
 if_ok_more (Err e) f p = tt
+
+pub if_ok_both : {T E : Type 0} {P Q R : T → Type 0} (r : Result T E) → ((a : T) → P a → Q a → R a) → IfOk r P → IfOk r Q → IfOk r R
+if_ok_both (Ok a) f p q = f a p q
+if_ok_both (Err e) f p q = tt

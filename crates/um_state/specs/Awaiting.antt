@@ -1,13 +1,12 @@
 -- For which reports units wait, and when numbers leave none of these out.
 -- Follows no manual page: it is how a report that nobody waits for is known without a look at any unit.
 -- The contracts of Awaited and of Units, and the ghost field of Units, cite it.
-use Rattle.std.specs.Prelude.{◌≡◌, ◌≢◌, ◌||◌, ℕ, Bool, true, if◌then◌else◌, List, Option, Some, None}
-use Rattle.std.specs.BTreeSet as sets
-use Rattle.std.specs.Ordering.{nat_cmp}
+use Rattle.std.specs.Prelude.{◌≡◌, ◌≢◌, ◌||◌, ℕ, Bool, true, if◌then◌else◌, List, Option, Some, None, is_some}
 use Rattle.um_model.specs.Ends.{waits_for_report}
 use Rattle.um_model.specs.Service.{ByUnit, state_of_unit}
 use Rattle.um_model.specs.declared.service.UnitState.{UnitState}
 use Rattle.um_state.specs.Finding.{row_at}
+use Rattle.um_state.specs.LiveRows.{told}
 use Rattle.um_state.specs.declared.awaited.Awaited.{Awaited}
 
 -- the number of the process whose report a unit that stands so may wait for
@@ -24,7 +23,7 @@ NoneAwaits rows number = (i : ℕ) → awaited_by (row_at rows i) ≢ Some numbe
 
 -- the number is one of them, or may be one that was left out
 abbrev pub may_have : Awaited → ℕ → Bool
-may_have awaited number = awaited.is_partial || sets.contains nat_cmp awaited.numbers number
+may_have awaited number = awaited.is_partial || is_some (told awaited.live.list.items number)
 
 abbrev pub Has : Awaited → ℕ → Type 0
 Has awaited number = may_have awaited number ≡ true

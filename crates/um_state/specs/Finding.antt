@@ -2,11 +2,10 @@
 -- Follows no manual page: it is how the code finds the unit of a process.
 -- The contracts of Finder and the ghost field of Units cite it.
 use Rattle.std.specs.Prelude.{◌≡◌, ◌<◌, ℕ, false, List, Some, length, slice_index_or}
-use Rattle.std.specs.BTreeMap as tree
-use Rattle.std.specs.Ordering.{nat_cmp}
 use Rattle.um_model.specs.Service.{dead_unit}
 use Rattle.um_model.specs.Transitions.{HasNumber}
 use Rattle.um_model.specs.declared.service.UnitState.{UnitState}
+use Rattle.um_state.specs.LiveRows.{told}
 use Rattle.um_state.specs.declared.finder.Finder.{Finder}
 
 -- the row with this number; past the last one a dead unit's
@@ -15,7 +14,7 @@ row_at rows i = slice_index_or rows i dead_unit
 
 -- unless numbers are left out, this row is told of the number
 abbrev pub Tells : Finder → ℕ → ℕ → Type 0
-Tells finder i number = finder.is_partial ≡ false → tree.get nat_cmp finder.rows number ≡ Some i
+Tells finder i number = finder.is_partial ≡ false → told finder.live.list.items number ≡ Some i
 
 -- each row is told of the numbers of its live processes
 abbrev pub Finds : List UnitState → Finder → Type 0

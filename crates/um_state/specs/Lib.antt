@@ -3,6 +3,7 @@ pub mod Awaiting
 pub mod Deltas
 pub mod Due
 pub mod Finding
+pub mod LiveRows
 pub mod Overlays
 pub mod Rows
 pub mod Short

@@ -1,12 +1,12 @@
 //! For which reports units may wait, known without a look at any unit.
 
-ghost use Rattle.std.specs.Prelude.{◌≡◌, ℕ, Some};
+ghost use Rattle.std.specs.Prelude.{◌≡◌, ℕ, Some, IfOk};
 ghost use Rattle.um_state.specs.Awaiting.{Has, HasAll, awaited_by, may_have};
 ghost use Rattle.um_state.specs.Finding.{Finds};
 
 use crate::finder::Finder;
-use std::alloc::Global;
-use std::collections::BTreeSet;
+use crate::live::LiveRows;
+use std::alloc::{AllocError, Global};
 use um_model::{ProcessNumber, UnitState};
 
 /// The number of the process whose report a unit that stands so may wait for.
@@ -23,8 +23,8 @@ pub(crate) fn awaited_by(state: &UnitState) -> Option<ProcessNumber>
 /// The numbers of processes whose reports units may wait for. Some may be among them that no unit waits for any more.
 #[derive(Drop)]
 pub(crate) struct Awaited {
-    pub(crate) numbers: BTreeSet<u64>,
-    /// Memory was refused: any number may be one.
+    pub(crate) live: LiveRows,
+    /// There was no room for one, as there is in a run: any number may be one.
     pub(crate) is_partial: bool,
 }
 
@@ -32,27 +32,30 @@ impl Awaited {
     /// None. It takes no memory.
     pub(crate) fn new(alloc: Global) -> Awaited {
         Awaited {
-            numbers: BTreeSet::new(alloc),
+            live: LiveRows::new(alloc),
             is_partial: false,
         }
     }
 
-    /// Whether the number may be one of them.
+    /// Whether the number may be one of them. It takes no memory.
     pub(crate) fn has(&self, number: u64) -> bool
         ensures { result ≡ may_have self.now number }
     {
-        self.is_partial || self.numbers.contains(&number)
+        self.is_partial || self.live.row(number).is_some()
     }
 
-    /// Adds the number that a unit that stands so may wait for.
-    pub(crate) fn note(&mut self, state: &UnitState)
+    /// Adds the number that the unit of a row that is to stand so may wait for. It takes no memory.
+    pub(crate) fn note(&mut self, row: usize, state: &UnitState)
         ensures keeps { (n : ℕ) → Has self.old n → Has self.new n }
         ensures has { (n : ℕ) → awaited_by state.now ≡ Some n → Has self.new n }
     {
         let Some(number) = awaited_by(state) else {
             return;
         };
-        if self.numbers.insert(number.get()).is_err() {
+        if self.has(number.get()) {
+            return;
+        }
+        if !self.live.add(number.get(), row) {
             self.is_partial = true;
         }
     }
@@ -69,17 +72,21 @@ impl Awaited {
         if finder.is_awaited(rows, number.get()) {
             return;
         }
-        self.numbers.remove(&number.get());
+        self.live.remove(number.get());
     }
 
-    /// Those that the units of these rows may wait for.
-    pub(crate) fn of(alloc: Global, rows: &[UnitState]) -> Awaited
-        ensures { HasAll rows.now result }
+    /// Those that the units of these rows may wait for. There is room for one of each, and for one more: a row's new one is noted before its old one
+    /// is left.
+    pub(crate) fn of(alloc: Global, rows: &[UnitState]) -> Result<Awaited, AllocError>
+        ensures { IfOk result (HasAll rows.now) }
     {
-        let mut awaited = Awaited::new(alloc);
+        let mut awaited = Awaited {
+            live: LiveRows::with_room(alloc, rows.len().saturating_add(1))?,
+            is_partial: false,
+        };
         for i in 0..rows.len() {
-            awaited.note(&rows[i]);
+            awaited.note(i, &rows[i]);
         }
-        awaited
+        Ok(awaited)
     }
 }

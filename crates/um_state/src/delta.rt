@@ -48,7 +48,7 @@ impl Delta {
         self.rows.len()
     }
 
-    /// Exchanges the delta for what the state has in its place: that is the way back. It needs no memory, and always succeeds.
+    /// Exchanges the delta for what the state has in its place: that is the way back. It takes no memory, and always succeeds.
     pub fn swap(&mut self, state: &mut State)
         ensures state { state.new ≡ delta_after self.old state.old }
         ensures back { delta_before self.new state.new ≡ state.old }
@@ -61,7 +61,7 @@ impl Delta {
         swap_rows(state, &mut self.rows);
     }
 
-    /// Takes the way back. It needs no memory, and always succeeds.
+    /// Takes the way back. It takes no memory, and always succeeds.
     pub fn undo(self, state: &mut State)
         ensures { state.new ≡ delta_before self state.old }
     {

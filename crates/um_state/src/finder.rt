@@ -1,15 +1,14 @@
 //! Which row a number is of, found without a look at all rows.
 
-ghost use Rattle.std.specs.Prelude.{◌≡◌, ℕ, [], true, false, Some, None, MatchOption};
-ghost use Rattle.std.specs.BTreeMap as tree;
-ghost use Rattle.std.specs.Ordering.{nat_cmp};
+ghost use Rattle.std.specs.Prelude.{◌≡◌, ℕ, [], true, false, Some, None, IfOk, MatchOption};
 ghost use Rattle.um_model.specs.Transitions.{HasNumber};
 ghost use Rattle.um_state.specs.Awaiting.{NoneAwaits};
 ghost use Rattle.um_state.specs.Finding.{Finds, IsFirstWith, NoneHas, Tells, row_at};
+ghost use Rattle.um_state.specs.LiveRows.{told};
 
 use crate::awaited::awaited_by;
-use std::alloc::Global;
-use std::collections::BTreeMap;
+use crate::live::LiveRows;
+use std::alloc::{AllocError, Global};
 use um_model::{ProcessNumber, UnitState};
 
 /// How the unit of the row with this number stands; past the last one it is dead. It takes no memory.
@@ -48,34 +47,23 @@ fn row_with(rows: &[UnitState], row: usize, number: u64) -> Option<usize>
 /// The row of each live number. What is told of a number that no row has any more may stay.
 #[derive(Drop)]
 pub(crate) struct Finder {
-    pub(crate) rows: BTreeMap<u64, usize>,
-    /// Numbers are left out: two units had one, which none of a run have, or memory was refused. The rows are looked through.
+    pub(crate) live: LiveRows,
+    /// Numbers are left out: two units had one, or there was no room for one; neither is so in a run. The rows are looked through.
     pub(crate) is_partial: bool,
 }
 
 impl Finder {
     /// That of no row. It takes no memory.
     pub(crate) fn new(alloc: Global) -> Finder
-        ensures { result.rows.entries ≡ [] }
+        ensures { result.live.list.items ≡ [] }
     {
         Finder {
-            rows: BTreeMap::new(alloc),
+            live: LiveRows::new(alloc),
             is_partial: false,
         }
     }
 
-    /// Whether this row is told of the number, or another one; None where none is.
-    fn tells(&self, row: usize, number: u64) -> Option<bool>
-        ensures none { result ≡ None → tree.get nat_cmp self.now.rows number ≡ None }
-        ensures this { result ≡ Some true → tree.get nat_cmp self.now.rows number ≡ Some row }
-    {
-        match self.rows.get(&number) {
-            Some(told) => Some(*told == row),
-            None => None,
-        }
-    }
-
-    /// Adds the row of a number. Where another one is told of it, or memory is refused, all rows are looked through from now on.
+    /// Adds the row of a number. Where another one is told of it, or there is no room, all rows are looked through from now on. It takes no memory.
     fn add_number(&mut self, row: usize, number: Option<ProcessNumber>)
         ensures keeps { (other n : ℕ) → Tells self.old other n → Tells self.new other n }
         ensures told { (n : ℕ) → number ≡ Some n → Tells self.new row n }
@@ -83,18 +71,21 @@ impl Finder {
         let Some(number) = number else {
             return;
         };
-        match self.tells(row, number.get()) {
-            Some(true) => {}
-            Some(false) => self.is_partial = true,
+        match self.live.row(number.get()) {
+            Some(told) => {
+                if told != row {
+                    self.is_partial = true;
+                }
+            }
             None => {
-                if self.rows.insert(number.get(), row).is_err() {
+                if !self.live.add(number.get(), row) {
                     self.is_partial = true;
                 }
             }
         }
     }
 
-    /// Adds the numbers of a row.
+    /// Adds the numbers of a row. It takes no memory.
     fn add(&mut self, row: usize, state: &UnitState)
         ensures keeps { (other n : ℕ) → Tells self.old other n → Tells self.new other n }
         ensures told { (n : ℕ) → HasNumber state.now n → Tells self.new row n }
@@ -105,10 +96,11 @@ impl Finder {
 
     /// Whether a row is told of the number that hasn't it.
     fn is_over(&self, rows: &[UnitState], number: u64) -> bool
-        ensures { result ≡ true → (i : ℕ) → tree.get nat_cmp self.now.rows number ≡ Some i → ¬ HasNumber (row_at rows.now i) number }
+        ensures over { result ≡ true → (i : ℕ) → told self.now.live.list.items number ≡ Some i → ¬ HasNumber (row_at rows.now i) number }
+        ensures held { result ≡ false → (i : ℕ) → told self.now.live.list.items number ≡ Some i → HasNumber (row_at rows.now i) number }
     {
-        match self.rows.get(&number) {
-            Some(row) => !row_in(rows, *row).has_number(number),
+        match self.live.row(number) {
+            Some(row) => !row_in(rows, row).has_number(number),
             None => false,
         }
     }
@@ -116,16 +108,18 @@ impl Finder {
     /// Lets a number go that its row hasn't any more. It takes no memory.
     fn let_go(&mut self, rows: &[UnitState], number: Option<ProcessNumber>)
         requires { Finds rows.now self.old }
-        ensures { Finds rows.now self.new }
+        ensures finds { Finds rows.now self.new }
+        ensures left { (i n : ℕ) → number ≡ Some n → told self.new.live.list.items n ≡ Some i → HasNumber (row_at rows.now i) n }
+        ensures others { (i n : ℕ) → told self.new.live.list.items n ≡ Some i → told self.old.live.list.items n ≡ Some i }
     {
         if let Some(number) = number {
             if self.is_over(rows, number.get()) {
-                self.rows.remove(&number.get());
+                self.live.remove(number.get());
             }
         }
     }
 
-    /// Notes the numbers of a row that is to stand so, once those are let go that another one may have left.
+    /// Notes the numbers of a row that is to stand so, once those are let go that another one may have left. It takes no memory.
     pub(crate) fn note(&mut self, rows: &[UnitState], row: usize, state: &UnitState)
         requires { Finds rows.now self.old }
         ensures finds { Finds rows.now self.new }
@@ -139,7 +133,8 @@ impl Finder {
     /// Lets the numbers go that a row had, but those that it has still. It takes no memory.
     pub(crate) fn leave(&mut self, rows: &[UnitState], before: &UnitState)
         requires { Finds rows.now self.old }
-        ensures { Finds rows.now self.new }
+        ensures finds { Finds rows.now self.new }
+        ensures left { (i n : ℕ) → HasNumber before.now n → told self.new.live.list.items n ≡ Some i → HasNumber (row_at rows.now i) n }
     {
         self.let_go(rows, before.main);
         self.let_go(rows, before.control);
@@ -153,8 +148,8 @@ impl Finder {
         if self.is_partial {
             return true;
         }
-        match self.rows.get(&number) {
-            Some(row) => awaited_by(&row_in(rows, *row)).is_some(),
+        match self.live.row(number) {
+            Some(row) => awaited_by(&row_in(rows, row)).is_some(),
             None => false,
         }
     }
@@ -167,20 +162,24 @@ impl Finder {
         if self.is_partial {
             return first_with(rows, number);
         }
-        match self.rows.get(&number) {
-            Some(row) => row_with(rows, *row, number),
+        match self.live.row(number) {
+            Some(row) => row_with(rows, row, number),
             None => None,
         }
     }
 
-    /// That of these rows.
-    pub(crate) fn of(alloc: Global, rows: &[UnitState]) -> Finder
-        ensures { Finds rows.now result }
+    /// That of these rows. There is room for the two numbers of each, and for two more: a row's new ones are noted before its old ones are left.
+    pub(crate) fn of(alloc: Global, rows: &[UnitState]) -> Result<Finder, AllocError>
+        ensures { IfOk result (Finds rows.now) }
     {
-        let mut finder = Finder::new(alloc);
+        let room = rows.len().saturating_mul(2).saturating_add(2);
+        let mut finder = Finder {
+            live: LiveRows::with_room(alloc, room)?,
+            is_partial: false,
+        };
         for i in 0..rows.len() {
             finder.add(i, &rows[i]);
         }
-        finder
+        Ok(finder)
     }
 }

@@ -8,7 +8,6 @@ ghost use Rattle.um_model.specs.Service.{ByUnit};
 ghost use Rattle.um_model.specs.StateSpellings.{FitPending, is_job_before, job_at, job_spelling, jobs_ascend, pending_at, pending_of, pending_spelling};
 ghost use Rattle.um_model.proofs.PendingSpellingsLaws.{canonical_job, canonical_pending};
 ghost use Rattle.um_model.specs.declared.jobs.UnitJobs as jobs;
-ghost use Rattle.um_model.specs.Jobs.{with_job};
 ghost use Rattle.um_model.specs.Spellings.{FitUnitName};
 ghost use Rattle.um_state.specs.Shown.{job_of};
 
@@ -77,22 +76,6 @@ fn ascend(jobs: &[JobShown]) -> bool
     true
 }
 
-/// With that job beside what is pending for the unit.
-fn with_job(kind: JobKind, state: JobState, held: UnitJobs) -> UnitJobs
-    ensures { result ≡ with_job kind state held }
-{
-    match kind {
-        JobKind::Stop => UnitJobs {
-            stop: Some(state),
-            start: held.start,
-        },
-        JobKind::Start => UnitJobs {
-            stop: held.stop,
-            start: Some(state),
-        },
-    }
-}
-
 /// The jobs of a list, by the names of their units.
 fn map_of(alloc: Global, jobs: Vec<JobShown>) -> Result<BTreeMap<UnitName, UnitJobs>, AllocError>
     ensures { IfOk result (λ m. maps.from_entries {R = slice_cmp nat_cmp} m.entries ≡ pending_of (map job_of jobs.items)) }
@@ -101,7 +84,7 @@ fn map_of(alloc: Global, jobs: Vec<JobShown>) -> Result<BTreeMap<UnitName, UnitJ
     let mut entries = BTreeMap::new(alloc);
     while let Some(job) = rest.pop() {
         let held = jobs_in(&entries, &job.unit);
-        hold_jobs(&mut entries, &job.unit, with_job(job.kind, job.state, held))?;
+        hold_jobs(&mut entries, &job.unit, held.with_job(job.kind, job.state))?;
     }
     Ok(entries)
 }

@@ -11,6 +11,7 @@ mod input;
 mod input_bytes;
 mod job_bytes;
 mod laws;
+mod live;
 mod maps;
 mod named;
 mod overlay;

@@ -335,7 +335,7 @@ impl State {
     }
 
     /// Exchanges what is held of the unit with the row's number for what the row tells; past the last one, and where units and jobs have no common
-    /// numbers, nothing changes. It needs no memory.
+    /// numbers, nothing changes. It takes no memory.
     pub fn swap_row(&mut self, row: &mut Row)
         ensures state { self.new ≡ put_row row.old self.old }
         ensures back { put_row row.new self.new ≡ self.old }
@@ -346,7 +346,7 @@ impl State {
         }
     }
 
-    /// Puts what the row tells of the unit with its number, as `swap_row` does.
+    /// Puts what the row tells of the unit with its number, as `swap_row` does. It takes no memory.
     pub fn put_row(&mut self, row: Row)
         ensures { self.new ≡ put_row row self.old }
     {

@@ -32,8 +32,8 @@ use um_model::{UnitJobs, UnitState};
 use um_name::{Names, UnitName};
 use um_timer::Timers;
 
-/// Puts a row in the place of another, so that it is found by the numbers of its processes, and known by the report that it waits for. It needs no
-/// memory: where it is refused, all rows are looked through from then on.
+/// Puts a row in the place of another, so that it is found by the numbers of its processes, and known by the report that it waits for. It takes no
+/// memory.
 fn put(
     states: &mut Vec<UnitState>,
     finder: &mut Finder,
@@ -50,7 +50,7 @@ fn put(
 {
     let before = states[i];
     finder.note(states.as_slice(), i, &state);
-    awaited.note(&state);
+    awaited.note(i, &state);
     states[i] = state;
     finder.leave(states.as_slice(), &before);
     awaited.leave(finder, states.as_slice(), &before);
@@ -105,19 +105,19 @@ impl Units {
     }
 
     /// These rows.
-    fn made(alloc: Global, names: Names, states: Vec<UnitState>) -> Units
+    fn made(alloc: Global, names: Names, states: Vec<UnitState>) -> Result<Units, AllocError>
         requires len { vec_len states ≡ length names }
         requires ascending { AreAscending names }
-        ensures names { result.names ≡ names }
-        ensures held { result.held ≡ units_by names states.items }
+        ensures names { IfOk result (λ u. u.names ≡ names) }
+        ensures held { IfOk result (λ u. u.held ≡ units_by names states.items) }
     {
-        Units {
+        Ok(Units {
             alloc,
             names,
-            finder: Finder::of(alloc, &states),
-            awaited: Awaited::of(alloc, &states),
+            finder: Finder::of(alloc, &states)?,
+            awaited: Awaited::of(alloc, &states)?,
             states,
-        }
+        })
     }
 
     /// What the map holds of units, by these names.
@@ -132,7 +132,7 @@ impl Units {
             → u.held ≡ maps.from_entries {R = slice_cmp nat_cmp} entries.now.entries) }
     {
         let states = unit_rows_in(alloc, &names, entries)?;
-        Ok(Units::made(alloc, names, states))
+        Units::made(alloc, names, states)
     }
 
     /// What the map holds of units, by the names that it has.
@@ -191,7 +191,7 @@ impl Units {
         row_in(&self.states, i)
     }
 
-    /// Exchanges how the unit with this number stands with what is given; past the last one nothing changes. It needs no memory.
+    /// Exchanges how the unit with this number stands with what is given; past the last one nothing changes. It takes no memory.
     pub fn swap(&mut self, i: usize, state: &mut UnitState)
         ensures names { self.new.names ≡ self.old.names }
         ensures held { self.new.held ≡ unit_put self.old.names self.old.held i state.old }
@@ -314,7 +314,7 @@ impl Units {
         ensures { IfOk result (λ u. u ≡ self.now) }
     {
         let names = self.names.copy()?;
-        Ok(Units::made(self.alloc, names, self.states.clone()?))
+        Units::made(self.alloc, names, self.states.clone()?)
     }
 }
 
