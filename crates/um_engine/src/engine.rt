@@ -264,8 +264,7 @@ impl Engine {
         }
     }
 
-    /// Takes a step that this engine planned in the state in which it stands. It needs no memory and always succeeds: where the system refuses
-    /// some to the tables by which rows are found, all rows are looked through from then on.
+    /// Takes a step that this engine planned in the state in which it stands. It takes no memory and always succeeds.
     pub fn commit(&mut self, next: Next) -> (Reply, Vec<Action>, Back)
         ensures state { standing_in self.new ≡ state_after next (standing_in self.old) }
         ensures size { size_in self.new ≡ size_in self.old }
@@ -289,7 +288,7 @@ impl Engine {
         (reply, actions, Back { change })
     }
 
-    /// Takes back the step that the last commit of this engine took. It needs no memory and always succeeds, as `commit`.
+    /// Takes back the step that the last commit of this engine took. It takes no memory and always succeeds, as `commit`.
     pub fn back(&mut self, back: Back)
         ensures state { standing_in self.new ≡ state_before back (standing_in self.old) }
         ensures size { size_in self.new ≡ size_in self.old }

@@ -103,7 +103,7 @@ impl Served {
         }
     }
 
-    /// Exchanges the delta for what the state has in its place: that is the way back. It needs no memory, and always succeeds.
+    /// Exchanges the delta for what the state has in its place: that is the way back. It takes no memory, and always succeeds.
     pub fn swap(&mut self, delta: &mut Delta)
         ensures state { standing_of self.new ≡ delta_after delta.old (standing_of self.old) }
         ensures known { self.new.known ≡ self.old.known }
@@ -112,7 +112,7 @@ impl Served {
         delta.swap(&mut self.state);
     }
 
-    /// Takes the way back. It needs no memory, and always succeeds.
+    /// Takes the way back. It takes no memory, and always succeeds.
     pub fn undo(&mut self, delta: Delta)
         ensures state { standing_of self.new ≡ delta_before delta (standing_of self.old) }
         ensures known { self.new.known ≡ self.old.known }
