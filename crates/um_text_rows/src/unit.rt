@@ -338,10 +338,10 @@ fn keeps(rt: &impl Abort, service: &ServiceSettings, row: &Kept) {
     same_at!(rt, got, (row.kind, row.restart, row.burst), row.files);
     let spans = [service.limit_interval, service.restart_delay];
     let wanted = [micros(row.interval), micros(row.delay)];
-    same_at!(rt, spans, wanted, row.files);
+    same_at!(rt, &spans, &wanted, row.files);
     let spans = [service.timeout_start, service.timeout_stop];
     let wanted = [micros(row.start), micros(row.stop)];
-    same_at!(rt, spans, wanted, row.files);
+    same_at!(rt, &spans, &wanted, row.files);
 }
 
 #[test]

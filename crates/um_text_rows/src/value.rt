@@ -119,7 +119,7 @@ fn micros(count: Option<u64>) -> Option<TimeSpan> {
 #[test]
 fn parts_of_a_span_are_added_up(rt: HostRuntime) {
     for (text, wanted) in SPANS {
-        same_at!(&rt, span(text), micros(*wanted), text);
+        same_at!(&rt, &span(text), &micros(*wanted), text);
     }
     same!(&rt, span("infinity"), Some(TimeSpan::Infinite));
 }
