@@ -331,7 +331,7 @@ fn takes(
 /// Asserts that each step of the script has its answer, and that `a.service` stands then as it is told.
 fn plays(rt: &(impl AllocGlobal + Abort), engine: &mut Engine, script: &Script) {
     let mut stands = standing(rt, engine, "a.service");
-    same_at!(rt, stands, UnitState::DEAD, script.shows);
+    same_at!(rt, &stands, &UnitState::DEAD, script.shows);
     for (at, step) in script.steps.iter().enumerate() {
         stands = takes(rt, engine, step, &stands, (script.shows, at + 1));
     }
