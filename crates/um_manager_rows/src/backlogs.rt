@@ -1,7 +1,7 @@
 //! Backlogs over a gate.
-use crate::asserts::same;
 use crate::gates::{add_client, bytes, what_was_taken, with_client};
 use std::process::Abort;
+use um_asserts::same;
 use um_backlog::Backlog;
 use um_gate::Gate;
 
@@ -42,8 +42,8 @@ fn is_served(rt: &(impl AllocGlobal + Abort), number: usize, limit: usize, puts:
     for (part, is_last, all, writes, is_dropped) in puts {
         backlog.put(&mut gate, number, bytes(rt, part), *is_last);
         let got = what_was_taken(rt, &gate, number);
-        same(rt, got.bytes.as_slice(), *all);
-        same(rt, (got.writes, got.is_dropped), (*writes, *is_dropped));
+        same!(rt, got.bytes.as_slice(), *all);
+        same!(rt, (got.writes, got.is_dropped), (*writes, *is_dropped));
     }
 }
 
@@ -65,9 +65,9 @@ fn two_clients_get_each_their_own(rt: HostRuntime) {
     backlog.put(&mut gate, 0, bytes(&rt, b"c"), false);
     backlog.put(&mut gate, 0, bytes(&rt, b""), false);
     let first = what_was_taken(&rt, &gate, 0).bytes;
-    same(&rt, first.as_slice(), b"abc".as_slice());
+    same!(&rt, first.as_slice(), b"abc".as_slice());
     let last = what_was_taken(&rt, &gate, 63).bytes;
-    same(&rt, last.as_slice(), b"xyz".as_slice());
+    same!(&rt, last.as_slice(), b"xyz".as_slice());
 }
 
 #[test]
@@ -77,9 +77,9 @@ fn a_client_for_which_too_much_waits_is_given_up(rt: HostRuntime) {
     let mut most = Vec::new(rt.alloc());
     most.resize(67_108_864, 7).expect(&rt, "no memory");
     backlog.put(&mut gate, 1, most, false);
-    same(&rt, what_was_taken(&rt, &gate, 1).is_dropped, false);
+    same!(&rt, what_was_taken(&rt, &gate, 1).is_dropped, false);
     backlog.put(&mut gate, 1, bytes(&rt, b"a"), false);
-    same(&rt, what_was_taken(&rt, &gate, 1).is_dropped, true);
+    same!(&rt, what_was_taken(&rt, &gate, 1).is_dropped, true);
 }
 
 #[test]
@@ -89,13 +89,13 @@ fn a_client_falls_behind_once_more_than_4_mib_wait_for_it(rt: HostRuntime) {
     let mut most = Vec::new(rt.alloc());
     most.resize(4_194_304, 7).expect(&rt, "no memory");
     backlog.put(&mut gate, 1, most, false);
-    same(&rt, backlog.is_behind(1), false);
+    same!(&rt, backlog.is_behind(1), false);
     backlog.put(&mut gate, 1, bytes(&rt, b"a"), false);
-    same(&rt, backlog.is_behind(1), true);
-    same(&rt, backlog.is_behind(2), false);
-    same(&rt, what_was_taken(&rt, &gate, 1).is_dropped, false);
+    same!(&rt, backlog.is_behind(1), true);
+    same!(&rt, backlog.is_behind(2), false);
+    same!(&rt, what_was_taken(&rt, &gate, 1).is_dropped, false);
     backlog.forget(1);
-    same(&rt, backlog.is_behind(1), false);
+    same!(&rt, backlog.is_behind(1), false);
 }
 
 #[test]
@@ -106,6 +106,6 @@ fn the_next_client_gets_nothing_of_the_one_before_it(rt: HostRuntime) {
     backlog.forget(4);
     backlog.put(&mut gate, 4, bytes(&rt, b"x"), false);
     let got = what_was_taken(&rt, &gate, 4);
-    same(&rt, got.bytes.as_slice(), b"ax".as_slice());
-    same(&rt, got.is_dropped, false);
+    same!(&rt, got.bytes.as_slice(), b"ax".as_slice());
+    same!(&rt, got.is_dropped, false);
 }

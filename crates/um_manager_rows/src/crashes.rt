@@ -1,16 +1,15 @@
 //! Managers that are opened behind a crash.
-use crate::asserts::same;
 use crate::managers::{
     DONE, InMemory, PUT, RELOAD, SHOW, START, boot, frames, has_output, new_store, over, parts_of,
     play, started,
 };
 use crate::orders::keeper_over;
 use std::process::Abort;
+use um_asserts::{same, text, unit};
 use um_children::{Call, Children, Fate};
 use um_keeper::Keeper;
 use um_manager::Manager;
 use um_model::{JobMode, Moment, UnitVerb};
-use um_name::UnitName;
 use um_sector::{Disk, Fuse, MemDisk};
 use um_state::{Command, Event, Happening, Input};
 use um_wire::Refusal;
@@ -35,13 +34,13 @@ fn submit<D: Disk>(keeper: &mut Keeper<D>, event: Event) -> Result<usize, Refusa
 
 /// Submits an event that is taken, and asserts that it asks for so many actions.
 fn take<D: Disk>(rt: &impl Abort, keeper: &mut Keeper<D>, event: Event, actions: usize) {
-    same(rt, submit(keeper, event).expect(rt, "not taken"), actions);
+    same!(rt, submit(keeper, event).expect(rt, "not taken"), actions);
 }
 
 /// The command that puts a file of this text.
 fn put(rt: &(impl AllocGlobal + Abort), path: &str, text: &str) -> Event {
-    let path = String::from_str(rt.alloc(), path).expect(rt, "no memory");
-    let text = String::from_str(rt.alloc(), text).expect(rt, "no memory");
+    let path = text!(rt, path);
+    let text = text!(rt, text);
     Event::Commanded(Command::PutFile { path, text })
 }
 
@@ -55,7 +54,7 @@ fn with_order(rt: &(impl AllocGlobal + Abort), fails: u64) -> Box<Keeper<Fuse<Me
     take(rt, &mut keeper, Event::Commanded(Command::DaemonReload), 0);
     let start = Command::ForUnit {
         verb: UnitVerb::Start,
-        unit: UnitName::parse(rt.alloc(), "a.service").expect(rt, "no unit"),
+        unit: unit!(rt, "a.service"),
         mode: JobMode::Replace,
     };
     take(rt, &mut keeper, Event::Commanded(start), 1);
@@ -71,7 +70,7 @@ fn left(rt: &(impl AllocGlobal + Abort), picks: &[usize]) -> MemDisk {
     // a text of 450 bytes, whose record takes two sectors
     let text = "#".repeat(rt.alloc(), 450).expect(rt, "no memory");
     let torn = submit(&mut keeper, put(rt, "lib/b.service", text.as_str()));
-    same(rt, matches!(&torn, Err(Refusal::Device)), true);
+    same!(rt, matches!(&torn, Err(Refusal::Device)), true);
     drop(torn);
     let disk = Box::into_inner(keeper).into_disk().into_inner();
     disk.crash(rt.alloc(), picks).expect(rt, "no memory")
@@ -92,15 +91,15 @@ fn told_absent(rt: &impl Abort, calls: &[Call]) {
     else {
         rt.abort()
     };
-    same(rt, number.get(), 1);
-    same(rt, forgotten.get(), 1);
-    same(rt, live.as_slice(), [*number].as_slice());
+    same!(rt, number.get(), 1);
+    same!(rt, forgotten.get(), 1);
+    same!(rt, live.as_slice(), [*number].as_slice());
 }
 
 /// The manager that is opened behind the crash.
 fn again(rt: &(impl AllocGlobal + Abort), picks: &[usize]) -> Box<InMemory> {
     let manager = over(rt, left(rt, picks));
-    same(rt, manager.adopted(), 1);
+    same!(rt, manager.adopted(), 1);
     manager
 }
 
@@ -110,7 +109,7 @@ const LEFT: &[([usize; 2], usize)] = &[([0, 0], 1), ([1, 0], 1), ([0, 1], 1), ([
 /// Asserts that the manager that is opened behind the crash has so many files, and that its children were told of the order.
 fn is_lost(rt: &(impl AllocGlobal + Abort), picks: &[usize], files: usize) {
     let manager = again(rt, picks);
-    same(rt, manager.state().tree().len(), files);
+    same!(rt, manager.state().tree().len(), files);
     let (_, children) = parts_of(manager);
     told_absent(rt, children.calls());
 }
@@ -132,7 +131,7 @@ fn starts_next(rt: &(impl AllocGlobal + Abort), picks: &[usize]) {
     let requests = frames(rt, &[SHOW, START]);
     let sent = [requests.as_slice(), &[], &[]];
     answers(rt, &mut manager, &sent, &[LOST, DONE]);
-    same(rt, started(rt, manager).as_slice(), [2].as_slice());
+    same!(rt, started(rt, manager).as_slice(), [2].as_slice());
 }
 
 #[test]
@@ -149,9 +148,9 @@ fn a_start_whose_order_was_lost_with_a_crash_is_lost_and_no_number_is_started_tw
 fn what_was_adopted_is_there_again_when_the_manager_is_opened_once_more(rt: HostRuntime) {
     let (disk, _) = parts_of(again(&rt, &[0, 1]));
     let mut manager = over(&rt, disk);
-    same(&rt, manager.adopted(), 0);
+    same!(&rt, manager.adopted(), 0);
     let requests = frames(&rt, &[PUT, RELOAD, SHOW]);
     let sent = [requests.as_slice(), &[], &[], &[]];
     answers(&rt, &mut manager, &sent, &[DONE, DONE, LOST]);
-    same(&rt, started(&rt, manager).is_empty(), true);
+    same!(&rt, started(&rt, manager).is_empty(), true);
 }

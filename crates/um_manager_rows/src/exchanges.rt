@@ -1,6 +1,6 @@
 //! A request and its reply over a connection, whose other side answers as it likes.
-use crate::asserts::{same, same_at};
 use std::process::Abort;
+use um_asserts::{same, same_at};
 use um_ctl::exchange;
 use um_stream::Fault;
 
@@ -18,8 +18,8 @@ fn exchanged(
 #[test]
 fn a_frame_goes_and_a_frame_comes(rt: HostRuntime) {
     let (written, reply) = exchanged(&rt, b"{}", b"\0\0\0\x03abcd");
-    same(&rt, written.as_slice() == b"\0\0\0\x02{}".as_slice(), true);
-    same(
+    same!(&rt, written.as_slice() == b"\0\0\0\x02{}".as_slice(), true);
+    same!(
         &rt,
         reply.is_ok_and(|text| text.as_slice() == b"abc".as_slice()),
         true,
@@ -34,6 +34,6 @@ fn a_reply_that_is_cut_or_too_long_is_a_fault(rt: HostRuntime) {
     for coming in CUT {
         let (_, reply) = exchanged(&rt, b"{}", coming);
         let is_fault = matches!(&reply, Err(Fault::Read(_)));
-        same_at(&rt, is_fault, true, &reply);
+        same_at!(&rt, is_fault, true, &reply);
     }
 }

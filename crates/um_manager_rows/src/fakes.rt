@@ -1,7 +1,7 @@
 //! Children in memory.
-use crate::asserts::same;
 use crate::orders::{next, number, order, told};
 use std::process::Abort;
+use um_asserts::{same, text};
 use um_children::{Call, ChildFault, Children, End, FakeChildren, Fate, Signal};
 
 const SLEEPS: &str = "ExecStart=/bin/sleep 9";
@@ -9,7 +9,7 @@ const SLEEPS: &str = "ExecStart=/bin/sleep 9";
 /// Starts number 1.
 fn start(rt: &(impl AllocGlobal + Abort), children: &mut FakeChildren) {
     let order = order(rt, SLEEPS);
-    same(rt, order.number(), number(rt, 1));
+    same!(rt, order.number(), number(rt, 1));
     children.spawn(order).expect(rt, "not started");
 }
 
@@ -23,12 +23,12 @@ fn started(rt: &(impl AllocGlobal + Abort)) -> FakeChildren {
 /// Asserts that the fate of number 1 can't be asked.
 fn fails(rt: &impl Abort, children: &mut FakeChildren, claim: bool) {
     let answer = children.fate(number(rt, 1), claim);
-    same(rt, answer, Err(ChildFault::Device));
+    same!(rt, answer, Err(ChildFault::Device));
 }
 
 /// Asserts that so many calls have failed.
 fn has_failed(rt: &impl Abort, children: &FakeChildren, wanted: u64) {
-    same(rt, children.failures(), wanted);
+    same!(rt, children.failures(), wanted);
 }
 
 /// Asserts that these are the words of `SLEEPS`.
@@ -36,7 +36,7 @@ fn sleeps(rt: &impl Abort, words: &[String]) {
     let [program, seconds] = words else {
         rt.abort()
     };
-    same(
+    same!(
         rt,
         [program.as_str(), seconds.as_str()],
         ["/bin/sleep", "9"],
@@ -67,8 +67,8 @@ fn are_noted(rt: &(impl AllocGlobal + Abort), calls: &[Call]) {
     else {
         rt.abort()
     };
-    same(rt, *forgotten, number(rt, 1));
-    same(rt, live.as_slice(), [number(rt, 2)].as_slice());
+    same!(rt, *forgotten, number(rt, 1));
+    same!(rt, live.as_slice(), [number(rt, 2)].as_slice());
     let words = start.words(rt.alloc()).expect(rt, "no memory");
     sleeps(rt, words.as_slice());
 }
@@ -140,7 +140,7 @@ fn is_refused(rt: &impl Abort, children: &FakeChildren) {
 
 /// The lines of a service of which one word is so many bytes long, or its value is said so many times.
 fn long_lines(rt: &(impl AllocGlobal + Abort), bytes: usize, times: usize) -> String {
-    let mut lines = String::from_str(rt.alloc(), "Environment=X=").expect(rt, "no memory");
+    let mut lines = text!(rt, "Environment=X=");
     for _ in 0..bytes {
         lines.push('x').expect(rt, "no memory");
     }
@@ -159,11 +159,11 @@ fn a_start_past_the_bound_is_refused_and_noted(rt: HostRuntime) {
     let lines = long_lines(&rt, 30_000, 69);
     let mut children = FakeChildren::new(rt.alloc());
     let answer = children.spawn(order(&rt, lines.as_str()));
-    same(&rt, answer, Err(ChildFault::TooLong));
+    same!(&rt, answer, Err(ChildFault::TooLong));
     is_refused(&rt, &children);
     told(&rt, &mut children, 1, true, Fate::Absent);
     let lines = long_lines(&rt, 30_000, 68);
     let mut children = FakeChildren::new(rt.alloc());
     let answer = children.spawn(order(&rt, lines.as_str()));
-    same(&rt, answer, Ok(()));
+    same!(&rt, answer, Ok(()));
 }

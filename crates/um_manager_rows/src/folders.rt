@@ -1,31 +1,20 @@
 //! Children through runners, over a folder of files that a test has put there. No process is started.
-use crate::asserts::{same, same_at};
 use crate::orders::{next, number, told};
-use crate::places::{put, remove};
+use crate::places::{folder, put, remove};
 use std::fs::{File, Files, Permissions};
 use std::os::unix::fs::PermissionsExt;
-use std::path::PathBuf;
 use std::process::{Abort, Processes};
 use std::test::Fail;
 use std::time::{Clock, Duration, SystemTime};
-use std::{env, fs, process, thread};
+use std::{fs, process, thread};
+use um_asserts::{same, same_at};
 use um_children::{ChildFault, Children, End, Fate, OpenFault, RunnerDir, Signal};
-
-/// A new folder of this name for a test, free of what an earlier process left there.
-fn folder(rt: &HostRuntime, name: &str) -> Result<PathBuf, Fail> {
-    let alloc = rt.alloc();
-    let number = process::id(rt.process());
-    let path = env::temp_dir(rt)?.join(alloc, format!(in alloc; "um_children.{number}.{name}")?)?;
-    let _ = fs::remove_dir_all(rt, &path);
-    fs::create_dir(rt, &path)?;
-    Ok(path)
-}
 
 /// Asserts that a file stands in the folder, or that none does.
 fn stands(rt: &(impl AllocGlobal + Files + Abort), folder: &str, name: &str, wanted: bool) {
     let path = format!(in rt.alloc(); "{folder}/{name}").expect(rt, "no memory");
     let found = fs::exists(rt, path.as_str()).expect(rt, "not looked");
-    same_at(rt, found, wanted, name);
+    same_at!(rt, found, wanted, name);
 }
 
 /// Asserts that a file of the folder holds these bytes.
@@ -37,7 +26,7 @@ fn holds(
 ) {
     let path = format!(in rt.alloc(); "{folder}/{name}").expect(rt, "no memory");
     let bytes = fs::read(rt, path.as_str()).expect(rt, "not read");
-    same(rt, bytes.as_slice(), wanted);
+    same!(rt, bytes.as_slice(), wanted);
 }
 
 /// The children of a folder, in a box, which a row lets go in one call.
@@ -93,13 +82,13 @@ fn tell_no_error<C: Children>(rt: &impl Abort, children: &mut C) {
 
 #[test]
 fn files_of_another_form_are_never_an_error(rt: HostRuntime) -> Result<(), Fail> {
-    let place = folder(&rt, "odd")?;
+    let place = folder(&rt, "odd-files")?;
     let place = place.as_str();
     put_odd(&rt, place);
     fs::create_dir(&rt, format!(in rt.alloc(); "{place}/6.status")?)?;
     let mut children = children(&rt, place);
     tell_no_error(&rt, children.as_mut());
-    same(&rt, children.failures(), 0);
+    same!(&rt, children.failures(), 0);
     remove(&rt, place);
     Ok(())
 }
@@ -178,7 +167,7 @@ fn a_number_that_ended_is_forgotten_with_its_files(rt: HostRuntime) -> Result<()
     fs::remove_file(&rt, format!(in rt.alloc(); "{place}/2.status")?)?;
     let mut children = children(&rt, place);
     forget_both(&rt, children.as_mut(), place);
-    same(&rt, children.failures(), 0);
+    same!(&rt, children.failures(), 0);
     remove(&rt, place);
     Ok(())
 }
@@ -218,7 +207,7 @@ fn an_end_is_found_within_a_second_whatever_the_time_of_the_folder_says(
     put(&rt, place, "1.status", b"code 3\n");
     set_time(&rt, place, time)?;
     thread::sleep(&rt, Duration::from_millis(1100));
-    same(&rt, children.has_news(), true);
+    same!(&rt, children.has_news(), true);
     told(&rt, children.as_mut(), 1, false, Fate::Ended(End::Code(3)));
     remove(&rt, place);
     Ok(())
@@ -227,13 +216,13 @@ fn an_end_is_found_within_a_second_whatever_the_time_of_the_folder_says(
 /// Asserts that nothing is let go where the next number is the one whose files stand there.
 fn lets_none_go<C: Children>(rt: &impl Abort, children: &mut C) {
     let refused = children.forget_others(&[], next(rt, 7));
-    same(rt, refused, Err(ChildFault::Device));
+    same!(rt, refused, Err(ChildFault::Device));
 }
 
 /// Asserts that no fate can be asked.
 fn tells_nothing<C: Children>(rt: &impl Abort, children: &mut C) {
     let refused = children.fate(number(rt, 1), true);
-    same(rt, refused, Err(ChildFault::Device));
+    same!(rt, refused, Err(ChildFault::Device));
 }
 
 /// Lets all numbers go, of which the next one is 8.
@@ -254,12 +243,12 @@ fn files_of_a_number_that_was_never_started_are_another_stores(
     put(&rt, place, "09.claim", b"manager\n");
     let mut children = children(&rt, place);
     lets_none_go(&rt, children.as_mut());
-    same(&rt, children.foreign() == Some(number(&rt, 7)), true);
+    same!(&rt, children.foreign() == Some(number(&rt, 7)), true);
     stands(&rt, place, "7.status", true);
     tells_nothing(&rt, children.as_mut());
     stands(&rt, place, "1.claim", false);
     let_all_go(&rt, children.as_mut());
-    same(&rt, children.foreign().is_none(), true);
+    same!(&rt, children.foreign().is_none(), true);
     has_none(&rt, place, 7);
     remove(&rt, place);
     Ok(())
@@ -296,9 +285,9 @@ fn a_folder_that_others_may_write_is_refused(rt: HostRuntime) -> Result<(), Fail
     let place = folder(&rt, "open")?;
     let place = place.as_str();
     fs::set_permissions(&rt, place, Permissions::from_mode(0o770))?;
-    same(&rt, is_opened(&rt, place), None);
+    same!(&rt, is_opened(&rt, place), None);
     fs::set_permissions(&rt, place, Permissions::from_mode(0o755))?;
-    same(&rt, is_opened(&rt, place), Some(true));
+    same!(&rt, is_opened(&rt, place), Some(true));
     remove(&rt, place);
     Ok(())
 }

@@ -1,6 +1,6 @@
 //! Gates in memory, and what they took.
-use crate::asserts::same;
 use std::process::Abort;
+use um_asserts::same;
 use um_gate::{FakeGate, Gate, MOST_BYTES, Note};
 
 /// These bytes.
@@ -76,7 +76,7 @@ fn read_of(
 ) -> Vec<u8> {
     let most = most.min(MOST_BYTES);
     let mut read = Vec::with_capacity(rt.alloc(), most).expect(rt, "no memory");
-    same(rt, gate.read(number, most, &mut read), true);
+    same!(rt, gate.read(number, most, &mut read), true);
     read
 }
 
@@ -90,19 +90,19 @@ fn what_is_not_read_stays_there(rt: HostRuntime) {
     let _open = gate.accept();
     for (most, wanted) in READS {
         let read = read_of(&rt, &mut gate, 3, *most);
-        same(&rt, read.as_slice(), *wanted);
+        same!(&rt, read.as_slice(), *wanted);
     }
 }
 
 #[test]
 fn a_client_that_was_given_up_takes_nothing_and_is_told_closed(rt: HostRuntime) {
     let mut gate = with_client(&rt, 2, 9);
-    same(&rt, gate.write(2, b"abc"), 3);
+    same!(&rt, gate.write(2, b"abc"), 3);
     gate.drop_connection(2);
-    same(&rt, gate.write(2, b"def"), 0);
+    same!(&rt, gate.write(2, b"def"), 0);
     let mut read = Vec::with_capacity(rt.alloc(), MOST_BYTES).expect(&rt, "no memory");
-    same(&rt, gate.read(2, MOST_BYTES, &mut read), false);
-    same(&rt, read.len(), 0);
+    same!(&rt, gate.read(2, MOST_BYTES, &mut read), false);
+    same!(&rt, read.len(), 0);
 }
 
 #[test]
@@ -115,10 +115,10 @@ fn an_accept_that_fails_takes_nobody(rt: HostRuntime) {
     // client 5 waits while its accept fails, and is taken by the next one
     for is_there in [false, false, true] {
         let open = gate.accept();
-        same(&rt, (open.is_open[3], open.is_open[5]), (true, is_there));
+        same!(&rt, (open.is_open[3], open.is_open[5]), (true, is_there));
     }
     let read = read_of(&rt, &mut gate, 5, MOST_BYTES);
-    same(&rt, read.as_slice(), b"abc".as_slice());
+    same!(&rt, read.as_slice(), b"abc".as_slice());
 }
 
 #[test]
@@ -130,8 +130,8 @@ fn a_client_whose_number_is_taken_is_turned_away(rt: HostRuntime) {
     for _ in 0..3 {
         let open = gate.accept();
         let count = open.is_open.iter().filter(|is_open| **is_open).count();
-        same(&rt, (open.is_open[3], count), (true, 1));
+        same!(&rt, (open.is_open[3], count), (true, 1));
     }
     let read = read_of(&rt, &mut gate, 3, MOST_BYTES);
-    same(&rt, read.as_slice(), b"abc".as_slice());
+    same!(&rt, read.as_slice(), b"abc".as_slice());
 }

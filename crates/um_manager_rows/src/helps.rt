@@ -1,6 +1,6 @@
 //! What the help says of verbs and refusals, and text as it is shown.
-use crate::asserts::{same, same_at};
 use std::process::Abort;
+use um_asserts::{same, same_at};
 use um_ctl::{meaning_line, shown, verb_lines};
 
 /// How each verb is called.
@@ -30,7 +30,7 @@ const VERBS: &str = "  put-file <path> < FILE
 #[test]
 fn each_verb_has_a_line_with_its_arguments(rt: HostRuntime) {
     let lines = verb_lines(rt.alloc()).expect(&rt, "no memory");
-    same(&rt, lines.as_str(), VERBS);
+    same!(&rt, lines.as_str(), VERBS);
 }
 
 /// How the line of each refusal begins, the first first.
@@ -65,11 +65,11 @@ fn each_refusal_has_a_sentence_and_no_other_number_has_one(rt: HostRuntime) {
         let line = meaning_line(rt.alloc(), at as u64 + 1).expect(&rt, "no memory");
         let line = line.expect(&rt, "no sentence");
         let ends = (line.starts_with(*front), line.ends_with(".\n"));
-        same_at(&rt, ends, (true, true), line.as_str());
+        same_at!(&rt, ends, (true, true), line.as_str());
     }
     for number in [0, 23, u64::MAX] {
         let line = meaning_line(rt.alloc(), number).expect(&rt, "no memory");
-        same_at(&rt, line.is_none(), true, number);
+        same_at!(&rt, line.is_none(), true, number);
     }
 }
 
@@ -90,6 +90,6 @@ const SHOWN: &[(&str, &str)] = &[
 fn control_characters_are_shown_by_their_bytes(rt: HostRuntime) {
     for (text, wanted) in SHOWN {
         let found = shown(rt.alloc(), text).expect(&rt, "no memory");
-        same(&rt, found.as_str(), *wanted);
+        same!(&rt, found.as_str(), *wanted);
     }
 }

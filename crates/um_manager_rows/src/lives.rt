@@ -1,10 +1,10 @@
 //! Lives of managers over one store, each stopped by a crash within a turn or an opening, and the run that they are together.
-use crate::asserts::same;
 use crate::managers::{
     DONE, PUT, RELOAD, SHOW, START, boot, frames, has_output, new_store, over_children, parts_of,
     play, started, turns,
 };
 use std::process::Abort;
+use um_asserts::same;
 use um_children::{Children, FakeChildren};
 use um_manager::Manager;
 use um_model::Moment;
@@ -84,7 +84,7 @@ fn is_torn<D: Disk, C: Children>(
     play(rt, manager, sent);
     has_output(rt, manager, 0, replies);
     let torn = turns(rt, manager, &[frames(rt, &[last]).as_slice()]);
-    same(rt, matches!(&torn, Err(Refusal::Device)), true);
+    same!(rt, matches!(&torn, Err(Refusal::Device)), true);
     drop(torn);
 }
 
@@ -124,7 +124,7 @@ fn opening(
     match Manager::open(rt.alloc(), disk, children, boot(rt), Moment::FIRST) {
         Ok(_) => rt.abort(),
         Err((refusal, disk, children)) => {
-            same(rt, matches!(refusal, Refusal::Device), true);
+            same!(rt, matches!(refusal, Refusal::Device), true);
             (left(rt, disk, picks), children)
         }
     }
@@ -156,11 +156,11 @@ fn lived(rt: &(impl AllocGlobal + Abort), picks: &[usize]) -> (MemDisk, FakeChil
 
 /// Asserts that the manager has both units, and that they run.
 fn both_run<D: Disk, C: Children>(rt: &(impl AllocGlobal + Abort), manager: &mut Manager<D, C>) {
-    same(rt, manager.adopted(), 2);
+    same!(rt, manager.adopted(), 2);
     let sent = frames(rt, &[SHOW, SHOW_B]);
     play(rt, manager, &[sent.as_slice(), &[]]);
     has_output(rt, manager, 0, &[A_RUNS, B_RUNS]);
-    same(rt, manager.state().tree().len(), 2);
+    same!(rt, manager.state().tree().len(), 2);
 }
 
 /// By hand: what is kept is a put, a reload and a start, the put that wasn't answered and whose record stood there, and then a reload and a start.
@@ -172,6 +172,6 @@ fn three_lives_are_one_run(rt: HostRuntime) {
         let (disk, children) = lived(&rt, picks);
         let mut manager = opened(&rt, disk, children, 0);
         both_run(&rt, &mut manager);
-        same(&rt, started(&rt, manager).as_slice(), [1, 2].as_slice());
+        same!(&rt, started(&rt, manager).as_slice(), [1, 2].as_slice());
     }
 }

@@ -1,6 +1,6 @@
 //! Managers over a disk and children in memory, and what is sent to them.
-use crate::asserts::same;
 use std::process::Abort;
+use um_asserts::{same, text};
 use um_children::{Call, Children, FakeChildren};
 use um_keeper::create;
 use um_manager::{Connection, Manager, Piece, Pieces, Step};
@@ -30,7 +30,7 @@ pub const DONE: &str = r#"{"ok":true}"#;
 
 /// The boot that all rows are in.
 pub fn boot(rt: &(impl AllocGlobal + Abort)) -> BootId {
-    let name = String::from_str(rt.alloc(), "one").expect(rt, "no memory");
+    let name = text!(rt, "one");
     BootId::new(name).expect(rt, "no boot")
 }
 
@@ -64,19 +64,9 @@ pub fn parts_of<D: Disk, C: Children>(manager: Box<Manager<D, C>>) -> (D, C) {
     Box::into_inner(manager).into_parts()
 }
 
-/// The frames of these texts, each behind its length in four bytes, the highest first.
+/// The frames of these texts.
 pub fn frames(rt: &(impl AllocGlobal + Abort), texts: &[&str]) -> Vec<u8> {
-    let mut bytes = Vec::new(rt.alloc());
-    for text in texts {
-        let length = u32::try_from(text.len()).unwrap_or(0);
-        bytes
-            .extend_from_slice(&length.to_be_bytes())
-            .expect(rt, "no memory");
-        bytes
-            .extend_from_slice(text.as_bytes())
-            .expect(rt, "no memory");
-    }
-    bytes
+    um_asserts::frames(rt.alloc(), texts).expect(rt, "no memory")
 }
 
 /// What comes of connections, by their numbers.
@@ -138,8 +128,8 @@ pub fn has_output<D: Disk, C: Children>(
 ) {
     let connection = Connection::new(number).expect(rt, "no connection");
     let output = manager.output(connection);
-    same(rt, output.bytes.as_slice(), frames(rt, wanted).as_slice());
-    same(rt, output.failed, false);
+    same!(rt, output.bytes.as_slice(), frames(rt, wanted).as_slice());
+    same!(rt, output.failed, false);
 }
 
 /// The numbers that these calls start, in their order.

@@ -1,10 +1,9 @@
 //! Orders of a keeper, which alone can make one.
-use crate::asserts::same_at;
 use std::process::Abort;
+use um_asserts::{same_at, text, unit};
 use um_children::{Children, Fate};
 use um_keeper::{Handed, Keeper, Receipt, SpawnOrder, create};
 use um_model::{JobMode, Layout, Moment, NextNumber, ProcessNumber, UnitVerb};
-use um_name::UnitName;
 use um_sector::{Disk, MemDisk};
 use um_state::{Command, Event, Input};
 
@@ -19,7 +18,7 @@ pub fn next(rt: &impl Abort, n: u64) -> NextNumber {
 
 /// Asserts what is told of a number.
 pub fn told<C: Children>(rt: &impl Abort, children: &mut C, n: u64, claim: bool, wanted: Fate) {
-    same_at(rt, children.fate(number(rt, n), claim), Ok(wanted), n);
+    same_at!(rt, children.fate(number(rt, n), claim), Ok(wanted), n);
 }
 
 /// The keeper that is opened over a disk, in a box, which a row lets go in one call.
@@ -69,13 +68,13 @@ fn take<D: Disk>(rt: &impl Abort, keeper: &mut Keeper<D>, command: Command) -> O
 pub fn order(rt: &(impl AllocGlobal + Abort), lines: &str) -> SpawnOrder {
     let alloc = rt.alloc();
     let mut keeper = keeper(rt);
-    let path = String::from_str(alloc, "lib/a.service").expect(rt, "no memory");
+    let path = text!(rt, "lib/a.service");
     let text = format!(in alloc; "[Service]\n{lines}\n").expect(rt, "no memory");
     drop(take(rt, &mut keeper, Command::PutFile { path, text }));
     drop(take(rt, &mut keeper, Command::DaemonReload));
     let start = Command::ForUnit {
         verb: UnitVerb::Start,
-        unit: UnitName::parse(alloc, "a.service").expect(rt, "no unit"),
+        unit: unit!(rt, "a.service"),
         mode: JobMode::Replace,
     };
     take(rt, &mut keeper, start).expect(rt, "no order")

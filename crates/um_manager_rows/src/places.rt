@@ -1,16 +1,14 @@
 //! Folders of tests, and what stands in them.
-use crate::asserts::same_at;
+use std::fs;
 use std::fs::{File, Files};
 use std::path::PathBuf;
 use std::process::Abort;
 use std::test::Fail;
-use std::{env, fs, process};
+use um_asserts::{place, same_at};
 
 /// A new folder of this name for a test, free of what an earlier process left there.
 pub fn folder(rt: &HostRuntime, name: &str) -> Result<PathBuf, Fail> {
-    let alloc = rt.alloc();
-    let number = process::id(rt.process());
-    let path = env::temp_dir(rt)?.join(alloc, format!(in alloc; "um_runner.{number}.{name}")?)?;
+    let path = place(rt, rt.process(), name)?;
     let _ = fs::remove_dir_all(rt, &path);
     fs::create_dir(rt, &path)?;
     Ok(path)
@@ -43,7 +41,7 @@ pub fn holds(
     wanted: Option<&str>,
 ) {
     let text = text_at(rt, folder, name);
-    same_at(rt, text.as_deref(), wanted, name);
+    same_at!(rt, text.as_deref(), wanted, name);
 }
 
 /// Puts a file there.

@@ -1,7 +1,7 @@
 //! Replies, and what is printed for them.
-use crate::asserts::{same, same_at};
 use serde_json::Value;
 use std::process::Abort;
+use um_asserts::{same, same_at};
 use um_ctl::{Told, told_of};
 use um_proto::Verb;
 
@@ -136,7 +136,7 @@ fn told(rt: &(impl AllocGlobal + Abort), verb: Verb, reply: &str) -> Option<Told
 /// Asserts what is told.
 fn is_told(rt: &impl Abort, told: &Told, output: &str, error: &str, status: u8) {
     let got = (told.output.as_str(), told.error.as_str(), told.status);
-    same(rt, got, (output, error, status));
+    same!(rt, got, (output, error, status));
 }
 
 #[test]
@@ -163,6 +163,6 @@ const NONE: &[&str] = &[
 fn other_values_are_no_replies(rt: HostRuntime) {
     for text in NONE {
         let told = told(&rt, Verb::Start, text);
-        same_at(&rt, told.is_none(), true, (text, &told));
+        same_at!(&rt, told.is_none(), true, (text, &told));
     }
 }

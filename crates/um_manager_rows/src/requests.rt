@@ -1,6 +1,6 @@
 //! Words, and the text of the request that they become.
-use crate::asserts::{same, same_at};
 use std::process::Abort;
+use um_asserts::{same, same_at};
 use um_ctl::{CtlFault, Words, prepare};
 
 /// The words of a line behind `ctl`.
@@ -85,7 +85,7 @@ fn becomes(
         Ok(bytes) => Ok(bytes.as_slice()),
         Err(status) => Err(*status),
     };
-    same_at(rt, bytes, Ok(text.as_bytes()), line);
+    same_at!(rt, bytes, Ok(text.as_bytes()), line);
 }
 
 /// Asserts that the line has no request, and this status.
@@ -97,7 +97,7 @@ fn is_wrong(
     status: u8,
 ) {
     let found = prepared(rt, line, mode, input);
-    same_at(rt, found.err(), Some(status), (line, mode));
+    same_at!(rt, found.err(), Some(status), (line, mode));
 }
 
 #[test]
@@ -148,7 +148,7 @@ fn bytes_of(rt: &(impl AllocGlobal + Abort), count: usize, byte: u8) -> Vec<u8> 
 
 /// Asserts that the text is taken.
 fn is_taken(rt: &(impl AllocGlobal + Abort), text: &[u8]) {
-    same(rt, prepared(rt, PUT, None, text).is_ok(), true);
+    same!(rt, prepared(rt, PUT, None, text).is_ok(), true);
 }
 
 #[test]
@@ -158,5 +158,5 @@ fn the_longest_text_is_taken_and_a_longer_one_refused(rt: HostRuntime) {
     let longer = bytes_of(&rt, 65_537, 0xff);
     is_wrong(&rt, PUT, None, longer.as_slice(), 1);
     is_wrong(&rt, PUT, None, b"a\xffb", 2);
-    same(&rt, CtlFault::NoReply.status() == 5, true);
+    same!(&rt, CtlFault::NoReply.status() == 5, true);
 }

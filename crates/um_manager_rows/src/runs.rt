@@ -1,5 +1,4 @@
 //! Runners of real commands. A runner waits for its command, so a row waits for nothing else: no poll is needed.
-use crate::asserts::{same, same_at};
 use crate::orders::number;
 use crate::places::{folder, holds, path_of, put, remove};
 use std::fs;
@@ -7,6 +6,7 @@ use std::fs::{File, Files};
 use std::process::{Abort, Processes};
 use std::test::Fail;
 use std::time::Clock;
+use um_asserts::{same, same_at, text};
 use um_runner::{
     Claimant, Claiming, End, Folder, FolderFault, Job, Told, claim, pid_in, run, status_in,
 };
@@ -22,7 +22,7 @@ fn runs(
     let alloc = rt.alloc();
     let mut texts = Vec::new(alloc);
     for word in words {
-        let text = String::from_str(alloc, word).expect(rt, "no memory");
+        let text = text!(rt, word);
         texts.push(text).expect(rt, "no memory");
     }
     let job = Job::of(count, texts.as_slice()).expect(rt, "no job");
@@ -38,21 +38,21 @@ fn ended(
     wanted: Option<End>,
 ) {
     let end = status_in(rt, rt.alloc(), folder, number(rt, n)).expect(rt, "not read");
-    same_at(rt, end, wanted, n);
+    same_at!(rt, end, wanted, n);
 }
 
 #[test]
 fn a_code_and_a_signal_are_told(rt: HostRuntime) -> Result<(), Fail> {
     let place = folder(&rt, "ends")?;
     let place = place.as_str();
-    same(
+    same!(
         &rt,
         runs(&rt, place, 1, 0, &["/bin/sh", "-c", "exit 3"]),
         true,
     );
     holds(&rt, place, "1.claim", Some("runner\n"));
     holds(&rt, place, "1.status", Some("code 3\n"));
-    same(
+    same!(
         &rt,
         runs(&rt, place, 2, 0, &["/bin/sh", "-c", "kill -TERM $$"]),
         true,
@@ -60,7 +60,7 @@ fn a_code_and_a_signal_are_told(rt: HostRuntime) -> Result<(), Fail> {
     holds(&rt, place, "2.status", Some("signal 15\n"));
     ended(&rt, place, 2, Some(End::Signal(15)));
     let told = pid_in(&rt, rt.alloc(), place, number(&rt, 2)).expect(&rt, "not read");
-    same(&rt, matches!(told, Told::Pid(_)), true);
+    same!(&rt, matches!(told, Told::Pid(_)), true);
     holds(&rt, place, "2.pid.new", None);
     holds(&rt, place, "2.status.new", None);
     remove(&rt, place);
@@ -71,7 +71,7 @@ fn a_code_and_a_signal_are_told(rt: HostRuntime) -> Result<(), Fail> {
 fn what_cannot_be_executed_has_code_203_and_no_pid(rt: HostRuntime) -> Result<(), Fail> {
     let place = folder(&rt, "absent")?;
     let place = place.as_str();
-    same(&rt, runs(&rt, place, 1, 0, &["/nonexistent"]), true);
+    same!(&rt, runs(&rt, place, 1, 0, &["/nonexistent"]), true);
     holds(&rt, place, "1.status", Some("code 203\n"));
     holds(&rt, place, "1.pid", None);
     remove(&rt, place);
@@ -92,7 +92,7 @@ fn entries_are_set_over_the_environment(rt: HostRuntime) -> Result<(), Fail> {
         "-c",
         script,
     ];
-    same(&rt, runs(&rt, place, 1, 4, &words), true);
+    same!(&rt, runs(&rt, place, 1, 4, &words), true);
     holds(&rt, place, "1.status", Some("code 0\n"));
     remove(&rt, place);
     Ok(())
@@ -105,8 +105,8 @@ fn a_claimed_number_starts_nothing(rt: HostRuntime) -> Result<(), Fail> {
     let claiming = claim(&rt, rt.alloc(), place, number(&rt, 1), Claimant::Manager).expect(
         &rt, "no claim",
     );
-    same(&rt, claiming, Claiming::New);
-    same(
+    same!(&rt, claiming, Claiming::New);
+    same!(
         &rt,
         runs(&rt, place, 1, 0, &["/bin/sh", "-c", "exit 3"]),
         true,
@@ -116,12 +116,12 @@ fn a_claimed_number_starts_nothing(rt: HostRuntime) -> Result<(), Fail> {
     let again = claim(&rt, rt.alloc(), place, number(&rt, 1), Claimant::Manager).expect(
         &rt, "no claim",
     );
-    same(&rt, again, Claiming::Stands(Claimant::Manager));
+    same!(&rt, again, Claiming::Stands(Claimant::Manager));
     put(&rt, place, "2.claim", b"x");
     let other = claim(&rt, rt.alloc(), place, number(&rt, 2), Claimant::Manager).expect(
         &rt, "no claim",
     );
-    same(&rt, other, Claiming::Stands(Claimant::Runner));
+    same!(&rt, other, Claiming::Stands(Claimant::Runner));
     remove(&rt, place);
     Ok(())
 }
@@ -141,7 +141,7 @@ fn a_claim_that_stands_is_not_written_again(rt: HostRuntime) -> Result<(), Fail>
         let claiming = claim(&rt, rt.alloc(), place, number(&rt, 1), claimant).expect(
             &rt, "no claim",
         );
-        same(&rt, claiming, Claiming::Stands(Claimant::Runner));
+        same!(&rt, claiming, Claiming::Stands(Claimant::Runner));
         holds(&rt, place, "1.claim", Some("x"));
     }
     remove(&rt, place);
@@ -154,8 +154,8 @@ fn two_runners_of_a_number_start_one_child(rt: HostRuntime) -> Result<(), Fail> 
     let place = place.as_str();
     let script = format!(in rt.alloc(); "echo ran >>{place}/ran").expect(&rt, "no memory");
     let words = ["/bin/sh", "-c", script.as_str()];
-    same(&rt, runs(&rt, place, 1, 0, &words), true);
-    same(&rt, runs(&rt, place, 1, 0, &words), true);
+    same!(&rt, runs(&rt, place, 1, 0, &words), true);
+    same!(&rt, runs(&rt, place, 1, 0, &words), true);
     holds(&rt, place, "ran", Some("ran\n"));
     remove(&rt, place);
     Ok(())
@@ -180,9 +180,9 @@ fn odd_files_are_read_safely(rt: HostRuntime) -> Result<(), Fail> {
     }
     put(&rt, place, "1.pid", b"12a");
     let told = pid_in(&rt, rt.alloc(), place, number(&rt, 1)).expect(&rt, "not read");
-    same(&rt, told, Told::NoPid);
+    same!(&rt, told, Told::NoPid);
     let told = pid_in(&rt, rt.alloc(), place, number(&rt, 2)).expect(&rt, "not read");
-    same(&rt, told, Told::Nothing);
+    same!(&rt, told, Told::Nothing);
     remove(&rt, place);
     Ok(())
 }
@@ -194,7 +194,7 @@ fn nothing_is_started_without_the_folder(rt: HostRuntime) -> Result<(), Fail> {
     let script = format!(in rt.alloc(); "echo ran >{place}/ran").expect(&rt, "no memory");
     let gone = path_of(&rt, place, "gone");
     let words = ["/bin/sh", "-c", script.as_str()];
-    same(&rt, runs(&rt, gone.as_str(), 1, 0, &words), false);
+    same!(&rt, runs(&rt, gone.as_str(), 1, 0, &words), false);
     holds(&rt, place, "ran", None);
     let faulty = claim(
         &rt,
@@ -203,7 +203,7 @@ fn nothing_is_started_without_the_folder(rt: HostRuntime) -> Result<(), Fail> {
         number(&rt, 1),
         Claimant::Manager,
     );
-    same(&rt, matches!(faulty, Err(FolderFault::System(_))), true);
+    same!(&rt, matches!(faulty, Err(FolderFault::System(_))), true);
     remove(&rt, place);
     Ok(())
 }

@@ -1,10 +1,10 @@
 //! Scripts of turns.
-use crate::asserts::same;
 use crate::managers::{
     DONE, PUT, RELOAD, SHOW, START, frames, has_output, new_store, over, parts_of, pieces, play,
     started, turn,
 };
 use std::process::Abort;
+use um_asserts::same;
 use um_children::{Children, FakeChildren};
 use um_manager::Manager;
 use um_sector::{Disk, Fuse, MemDisk};
@@ -62,7 +62,7 @@ fn is_shown(rt: &(impl AllocGlobal + Abort), front: &[u8], rest: &[u8]) {
     let mut manager = over(rt, new_store(rt));
     play(rt, &mut manager, &[front, rest, &[], &[], &[]]);
     has_output(rt, &mut manager, 0, &[DONE, DONE, DONE, RUNNING]);
-    same(rt, started(rt, manager).as_slice(), [1].as_slice());
+    same!(rt, started(rt, manager).as_slice(), [1].as_slice());
 }
 
 #[test]
@@ -115,7 +115,7 @@ fn a_query_is_answered_after_all_inputs_of_its_turn(rt: HostRuntime) {
 /// Asserts that a turn whose store fails answers a query.
 fn fails<D: Disk, C: Children>(rt: &(impl AllocGlobal + Abort), manager: &mut Manager<D, C>) {
     let refusal = refused(rt, manager, SHOW, PUT);
-    same(rt, matches!(&refusal, Refusal::Device), true);
+    same!(rt, matches!(&refusal, Refusal::Device), true);
     drop(refusal);
     has_output(rt, manager, 1, &[RUNNING]);
     has_output(rt, manager, 2, &[FAILED]);
@@ -124,7 +124,7 @@ fn fails<D: Disk, C: Children>(rt: &(impl AllocGlobal + Abort), manager: &mut Ma
 /// Asserts that a turn whose store has failed answers a query.
 fn has_failed<D: Disk, C: Children>(rt: &(impl AllocGlobal + Abort), manager: &mut Manager<D, C>) {
     let refusal = refused(rt, manager, SHOW, PUT);
-    same(rt, matches!(&refusal, Refusal::Reopen), true);
+    same!(rt, matches!(&refusal, Refusal::Reopen), true);
     drop(refusal);
     has_output(rt, manager, 1, &[RUNNING]);
     has_output(rt, manager, 2, &[FAILED_BEFORE]);
@@ -137,5 +137,5 @@ fn a_turn_whose_store_fails_still_answers_queries(rt: HostRuntime) {
     let mut manager = running(&rt, next);
     fails(&rt, &mut manager);
     has_failed(&rt, &mut manager);
-    same(&rt, started(&rt, manager).as_slice(), [1].as_slice());
+    same!(&rt, started(&rt, manager).as_slice(), [1].as_slice());
 }

@@ -1,5 +1,4 @@
 //! Rounds of a manager in memory over a gate in memory.
-use crate::asserts::same;
 use crate::gates::{add_client, new_gate, what_was_taken};
 use crate::managers;
 use crate::managers::{
@@ -8,6 +7,7 @@ use crate::managers::{
 };
 use crate::orders::number;
 use std::process::Abort;
+use um_asserts::same;
 use um_children::{Children, End, FakeChildren};
 use um_gate::{FakeGate, FakeMoments, Gate, Moments, Note};
 use um_manager::Manager;
@@ -88,8 +88,8 @@ fn two_clients(rt: &(impl AllocGlobal + Abort)) -> FakeGate {
 fn have(rt: &(impl AllocGlobal + Abort), gate: &FakeGate, first: &[u8], second: &[u8]) {
     for (number, wanted) in [(0, first), (1, second)] {
         let got = what_was_taken(rt, gate, number);
-        same(rt, got.bytes.as_slice(), wanted);
-        same(rt, got.is_dropped, false);
+        same!(rt, got.bytes.as_slice(), wanted);
+        same!(rt, got.is_dropped, false);
     }
 }
 
@@ -103,7 +103,7 @@ const ROUNDS: &[(usize, bool, &[u8], &[u8])] = &[
 fn clients_that_take_few_bytes_get_their_own_replies(rt: HostRuntime) {
     for (count, is_busy, first, second) in ROUNDS {
         let mut served = served_over(&rt, two_clients(&rt));
-        same(&rt, serve_rounds(&rt, &mut served, *count), *is_busy);
+        same!(&rt, serve_rounds(&rt, &mut served, *count), *is_busy);
         have(&rt, &served.gate.gate, first, second);
     }
 }
@@ -123,10 +123,10 @@ fn serving_again_and_again_is_serving_once(rt: HostRuntime) {
             serve_rounds(&rt, &mut served, *count);
         }
         have(&rt, &served.gate.gate, DONE, NONE);
-        same(&rt, served.gate.was_busy(), once.gate.was_busy());
-        same(&rt, served.clock.given(), once.clock.given());
+        same!(&rt, served.gate.was_busy(), once.gate.was_busy());
+        same!(&rt, served.clock.given(), once.clock.given());
         let notes = served.gate.gate.notes().len();
-        same(&rt, notes, once.gate.gate.notes().len());
+        same!(&rt, notes, once.gate.gate.notes().len());
     }
 }
 
@@ -180,8 +180,8 @@ fn three_rounds(rt: &(impl AllocGlobal + Abort), limit: usize, first: &[u8]) -> 
     let shown = frames(rt, &[ENDED]);
     for (number, wanted) in [(0, first), (1, b"".as_slice()), (2, shown.as_slice())] {
         let got = what_was_taken(rt, &served.gate.gate, number);
-        same(rt, got.bytes.as_slice(), wanted);
-        same(rt, got.is_dropped, false);
+        same!(rt, got.bytes.as_slice(), wanted);
+        same!(rt, got.is_dropped, false);
     }
     let Served { manager, .. } = served;
     manager
@@ -190,10 +190,10 @@ fn three_rounds(rt: &(impl AllocGlobal + Abort), limit: usize, first: &[u8]) -> 
 #[test]
 fn a_client_that_holds_back_a_byte_and_one_that_never_reads_hold_up_nobody(rt: HostRuntime) {
     // the end of number 1 isn't recorded before
-    same(&rt, live_processes(&rt, with_process(&rt)), 1);
+    same!(&rt, live_processes(&rt, with_process(&rt)), 1);
     for (limit, first) in [(4096, NONE), (0, b"".as_slice())] {
         let manager = three_rounds(&rt, limit, first);
-        same(&rt, live_processes(&rt, manager), 0);
+        same!(&rt, live_processes(&rt, manager), 0);
     }
 }
 
@@ -228,9 +228,9 @@ fn nothing_is_read_of_a_client_while_a_whole_request_of_it_waits(rt: HostRuntime
     gate.client(0, parts, false, 4096).expect(&rt, "no memory");
     let mut served = served_over(&rt, gate);
     for (most, count, is_busy) in ONE_BY_ONE {
-        same(&rt, serve_rounds(&rt, &mut served, 1), *is_busy);
-        same(&rt, last_read(&served.gate.gate), Some(*most));
+        same!(&rt, serve_rounds(&rt, &mut served, 1), *is_busy);
+        same!(&rt, last_read(&served.gate.gate), Some(*most));
         let got = what_was_taken(&rt, &served.gate.gate, 0);
-        same(&rt, got.bytes.len(), *count);
+        same!(&rt, got.bytes.len(), *count);
     }
 }

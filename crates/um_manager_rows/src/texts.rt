@@ -1,6 +1,6 @@
 //! The texts of the files: which are read, and as what.
-use crate::asserts::same_at;
 use std::process::Abort;
+use um_asserts::same_at;
 use um_runner::{Claimant, End, read_claim, read_pid, read_status};
 
 /// Texts of a status file, and the ends that they tell.
@@ -35,7 +35,7 @@ const STATUSES: &[(&[u8], Option<End>)] = &[
 #[test]
 fn a_status_is_read_in_its_one_form(rt: HostRuntime) {
     for (text, end) in STATUSES {
-        same_at(&rt, read_status(text), *end, text);
+        same_at!(&rt, read_status(text), *end, text);
     }
 }
 
@@ -60,7 +60,7 @@ const PIDS: &[(&[u8], Option<u32>)] = &[
 #[test]
 fn a_pid_is_read_in_its_one_form(rt: HostRuntime) {
     for (text, pid) in PIDS {
-        same_at(&rt, read_pid(text), *pid, text);
+        same_at!(&rt, read_pid(text), *pid, text);
     }
 }
 
@@ -77,6 +77,6 @@ const CLAIMS: &[(&[u8], Claimant)] = &[
 #[test]
 fn every_other_claim_is_a_runners(rt: HostRuntime) {
     for (text, claimant) in CLAIMS {
-        same_at(&rt, read_claim(text), *claimant, text);
+        same_at!(&rt, read_claim(text), *claimant, text);
     }
 }

@@ -1,7 +1,7 @@
 //! Turns in which many connections send commands.
-use crate::asserts::same;
 use crate::managers::{DONE, InMemory, frames, has_output, new_store, over, parts_of, turn};
 use std::process::Abort;
+use um_asserts::same;
 use um_children::Children;
 use um_manager::{Connection, Manager, Piece, Pieces};
 use um_sector::Disk;
@@ -44,7 +44,7 @@ fn puts_all<D: Disk, C: Children>(rt: &(impl AllocGlobal + Abort), manager: &mut
     for number in 0..64 {
         has_output(rt, manager, number, &[DONE]);
     }
-    same(rt, manager.state().tree().len(), 64);
+    same!(rt, manager.state().tree().len(), 64);
 }
 
 #[test]
@@ -52,5 +52,5 @@ fn the_commands_of_a_turn_share_a_sync(rt: HostRuntime) {
     let before = syncs(over(&rt, new_store(&rt)));
     let mut manager = over(&rt, new_store(&rt));
     puts_all(&rt, &mut manager);
-    same(&rt, Some(syncs(manager)), before.checked_add(1));
+    same!(&rt, Some(syncs(manager)), before.checked_add(1));
 }

@@ -1,8 +1,8 @@
 //! Of how many units a step changes what is held, and that the way back leads to what was held before.
 use crate::answers::told;
-use crate::asserts::{same, same_at, text, unit};
 use crate::steps::{SIZE, committed, empty, engine_of, happened, obeyed, planned, standing};
 use std::process::Abort;
+use um_asserts::{same, same_at, text, unit};
 use um_engine::{Back, Engine};
 use um_model::{End, JobMode, SubState, UnitVerb};
 use um_state::{Command, Happening, Input};
@@ -29,8 +29,8 @@ const SECOND_ENDED: [SubState; 3] = [SubState::Running, SubState::Dead, SubState
 
 /// A file is put.
 fn put(rt: &(impl AllocGlobal + Abort), path: &str, content: &str) -> Box<Input> {
-    let path = text(rt, path);
-    let text = text(rt, content);
+    let path = text!(rt, path);
+    let text = text!(rt, content);
     obeyed(rt, 5, Command::PutFile { path, text })
 }
 
@@ -41,7 +41,7 @@ fn reload(rt: &(impl AllocGlobal + Abort)) -> Box<Input> {
 
 /// A command for a unit.
 fn asked(rt: &(impl AllocGlobal + Abort), verb: UnitVerb, name: &str) -> Box<Input> {
-    let unit = unit(rt, name);
+    let unit = unit!(rt, name);
     let mode = JobMode::Replace;
     obeyed(rt, 9, Command::ForUnit { verb, unit, mode })
 }
@@ -61,7 +61,7 @@ fn take(
     shows: &str,
 ) -> (String, Box<Back>) {
     let next = planned(rt, engine, input);
-    same_at(rt, next.as_ref().rows(), rows, shows);
+    same_at!(rt, next.as_ref().rows(), rows, shows);
     let (actions, back) = committed(rt, engine, next);
     (told(rt, actions.as_slice()), back)
 }
@@ -99,7 +99,7 @@ fn ask(
 ) -> Box<Back> {
     let shows = "rows of what is asked";
     let (asked, back) = take(rt, engine, input.as_ref(), Some(rows), shows);
-    same(rt, asked.as_str(), wanted);
+    same!(rt, asked.as_str(), wanted);
     back
 }
 
@@ -168,7 +168,7 @@ fn change_nothing(rt: &(impl AllocGlobal + Abort), engine: &mut Engine) {
     let again = put(rt, "lib/b.service", SLEEPS);
     step(rt, engine, again, Some(0), "the text stands there");
     step(rt, engine, reload(rt), Some(0), "it is loaded");
-    let path = text(rt, "lib/c.service");
+    let path = text!(rt, "lib/c.service");
     let removal = obeyed(rt, 5, Command::Remove { path });
     step(rt, engine, removal, None, "a file is removed");
 }
@@ -197,7 +197,7 @@ fn one_waits(rt: &(impl AllocGlobal + Abort)) -> Box<Engine> {
 
 /// The jobs of the unit that wait are dropped.
 fn cancel(rt: &(impl AllocGlobal + Abort), name: &str) -> Box<Input> {
-    let unit = unit(rt, name);
+    let unit = unit!(rt, name);
     obeyed(rt, 9, Command::Cancel { unit })
 }
 
@@ -235,8 +235,8 @@ fn units_that_are_known_anew_are_told_by_rows(rt: HostRuntime) {
 
 /// Asserts how far the three have come, and the moment.
 fn stands(rt: &(impl AllocGlobal + Abort), engine: &Engine, wanted: [SubState; 3], micros: u64) {
-    same(rt, subs(rt, engine), wanted);
-    same(rt, engine.clock().micros(), micros);
+    same!(rt, subs(rt, engine), wanted);
+    same!(rt, engine.clock().micros(), micros);
 }
 
 /// The three start, and the way back is taken.
@@ -259,10 +259,10 @@ fn the_way_back_leads_to_the_rows_that_were(rt: HostRuntime) {
 fn end_and_go_back(rt: &(impl AllocGlobal + Abort), engine: &mut Engine) {
     let loaded = leave(rt, engine, reload(rt), None, "a unit gets known");
     let back = leave(rt, engine, ended(rt, 2), Some(1), "an end");
-    same(rt, subs(rt, engine), SECOND_ENDED);
+    same!(rt, subs(rt, engine), SECOND_ENDED);
     engine.back(Box::into_inner(back));
     engine.back(Box::into_inner(loaded));
-    same(rt, subs(rt, engine), [SubState::Running; 3]);
+    same!(rt, subs(rt, engine), [SubState::Running; 3]);
 }
 
 /// Twice there and back, and there once more.
@@ -271,7 +271,7 @@ fn end_behind_a_reload(rt: &(impl AllocGlobal + Abort), engine: &mut Engine) {
         end_and_go_back(rt, engine);
     }
     step(rt, engine, ended(rt, 2), Some(1), "an end");
-    same(rt, subs(rt, engine), SECOND_ENDED);
+    same!(rt, subs(rt, engine), SECOND_ENDED);
 }
 
 #[test]
@@ -286,7 +286,7 @@ fn rows_have_other_numbers_behind_a_reload(rt: HostRuntime) {
 /// The file of a service of a chain: each but the first comes after the one before it and requires it.
 fn link(rt: &(impl AllocGlobal + Abort), number: usize) -> String {
     if number < 2 {
-        return text(rt, "[Service]\nExecStart=/bin/c1\n");
+        return text!(rt, "[Service]\nExecStart=/bin/c1\n");
     }
     let next = number - 1;
     let link: Result<_, _> = format!(in rt.alloc();

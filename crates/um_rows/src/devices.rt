@@ -1,10 +1,10 @@
 //! A reader that gives little at a time, and a writer that fails.
-use crate::asserts::{same, same_at};
-use crate::script::{frames, front};
+use crate::script::front;
 use crate::texts::{DONE, RELOAD};
 use std::io;
 use std::io::{ErrorKind, Read, Write};
 use std::process::Abort;
+use um_asserts::{frames, same, same_at};
 use um_memory::{Ending, Fault, memory};
 
 /// A reader that gives its bytes one at a time.
@@ -73,15 +73,15 @@ fn takes(rt: &(impl AllocGlobal + Abort), input: &[u8], replies: &[u8], left: us
     } else {
         (Some(Ending::Between), None)
     };
-    same_at(rt, ended(&answer), wanted, (left, &answer));
-    same_at(rt, output.taken.as_slice(), front(replies, left), left);
+    same_at!(rt, ended(&answer), wanted, (left, &answer));
+    same_at!(rt, output.taken.as_slice(), front(replies, left), left);
 }
 
 #[test]
 fn a_writer_that_fails_has_taken_a_beginning_of_the_replies(rt: HostRuntime) {
     let input = frames(rt.alloc(), &[RELOAD, RELOAD]).expect(&rt, "no memory");
     let replies = frames(rt.alloc(), &[DONE, DONE]).expect(&rt, "no memory");
-    same(&rt, replies.len(), 30);
+    same!(&rt, replies.len(), 30);
     for left in 0..31usize {
         takes(&rt, input.as_slice(), replies.as_slice(), left);
     }

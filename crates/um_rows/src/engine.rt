@@ -1,8 +1,8 @@
 //! Steps of the machine, taken, taken back and refused.
 use crate::answers::told;
-use crate::asserts::{same, same_at, text, unit};
 use crate::steps::{SIZE, committed, empty, engine_of, happened, obeyed, planned, standing};
 use std::process::Abort;
+use um_asserts::{same, same_at, text, unit};
 use um_engine::{Engine, Next};
 use um_model::{End, JobMode, SubState, UnitState, UnitVerb};
 use um_state::{BootId, Command, Happening, Input};
@@ -228,20 +228,20 @@ const BOOTS: &[Script] = &[
 
 /// A file of this text is put.
 fn put(rt: &(impl AllocGlobal + Abort), path: &str, content: &str) -> Box<Input> {
-    let path = text(rt, path);
-    let text = text(rt, content);
+    let path = text!(rt, path);
+    let text = text!(rt, content);
     obeyed(rt, 5, Command::PutFile { path, text })
 }
 
 /// A command for `a.service`.
 fn asked(rt: &(impl AllocGlobal + Abort), verb: UnitVerb, mode: JobMode) -> Box<Input> {
-    let unit = unit(rt, "a.service");
+    let unit = unit!(rt, "a.service");
     obeyed(rt, 5, Command::ForUnit { verb, unit, mode })
 }
 
 /// The machine is booted, with this id.
 fn booted(rt: &(impl AllocGlobal + Abort), id: &str) -> Box<Input> {
-    let boot = BootId::new(text(rt, id)).expect(rt, "no boot");
+    let boot = BootId::new(text!(rt, id)).expect(rt, "no boot");
     happened(rt, 7, Happening::Booted { boot })
 }
 
@@ -319,10 +319,10 @@ fn takes(
     let (comes, wanted, sub) = step;
     let input = input_of(rt, comes);
     let answer = answer_to(rt, engine, input.as_ref());
-    same_at(rt, answer.as_str(), *wanted, row);
+    same_at!(rt, answer.as_str(), *wanted, row);
     let now = standing(rt, engine, "a.service");
     match sub {
-        Some(sub) => same_at(rt, now.sub, *sub, row),
+        Some(sub) => same_at!(rt, now.sub, *sub, row),
         None => is_as_before(rt, &now, stands, row),
     }
     now
@@ -331,12 +331,12 @@ fn takes(
 /// Asserts that each step of the script has its answer, and that `a.service` stands then as it is told.
 fn plays(rt: &(impl AllocGlobal + Abort), engine: &mut Engine, script: &Script) {
     let mut stands = standing(rt, engine, "a.service");
-    same_at(rt, stands, UnitState::DEAD, script.shows);
+    same_at!(rt, &stands, &UnitState::DEAD, script.shows);
     for (at, step) in script.steps.iter().enumerate() {
         stands = takes(rt, engine, step, &stands, (script.shows, at + 1));
     }
     let main = stands.main.map(|main| main.get());
-    same_at(rt, main, script.main, script.shows);
+    same_at!(rt, main, script.main, script.shows);
 }
 
 /// Plays the script in a state of so many files as it tells.
@@ -379,10 +379,10 @@ fn is_taken_back(
     let next = planned(rt, engine, input.as_ref());
     let (actions, back) = committed(rt, engine, next);
     let taken = (actions.len(), engine.clock().micros());
-    same(rt, taken, (0, clock));
+    same!(rt, taken, (0, clock));
     stands_so(rt, engine, &stands);
     engine.back(Box::into_inner(back));
-    same(rt, engine.clock().micros(), clock_before);
+    same!(rt, engine.clock().micros(), clock_before);
     stands_so(rt, engine, &stands);
 }
 

@@ -1,7 +1,7 @@
 //! From a file that is put to a unit that is shown.
-use crate::asserts::same;
-use crate::script::{Script, frames, front, play_script, rest, served};
+use crate::script::{Script, front, play_script, rest, served};
 use crate::texts::{BAD_REQUEST, DEAD_A, DONE, NO_A, PUT_A, RELOAD, SHOW_A};
+use um_asserts::{frames, same};
 
 // What is asked in turn, and replied.
 
@@ -81,7 +81,7 @@ const OUTPUT: &[u8] = b"\x00\x00\x00\x0b{\"ok\":true}\x00\x00\x00\x0b{\"ok\":tru
 fn the_length_of_each_text_stands_before_it(rt: HostRuntime) {
     let input = frames(rt.alloc(), &[PUT_A, RELOAD, SHOW_A]).expect(&rt, "no memory");
     let second = front(rest(input.as_slice(), 91), 5);
-    same(&rt, second, b"\x00\x00\x00\x18{".as_slice());
+    same!(&rt, second, b"\x00\x00\x00\x18{".as_slice());
     let (output, _) = served(rt.alloc(), input.as_slice()).expect(&rt, "not served");
-    same(&rt, front(output.as_slice(), 34), OUTPUT);
+    same!(&rt, front(output.as_slice(), 34), OUTPUT);
 }

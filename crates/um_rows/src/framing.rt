@@ -1,9 +1,9 @@
 //! Where the frames of a stream begin and end.
-use crate::asserts::{same, same_at};
 use crate::devices::Slow;
-use crate::script::{frames, front, has_replies, rest, served};
+use crate::script::{front, has_replies, rest, served};
 use crate::texts::{BAD_REQUEST, DONE, RELOAD};
 use std::process::Abort;
+use um_asserts::{frames, same, same_at};
 use um_memory::{Ending, memory};
 
 /// The longest frame, in bytes.
@@ -44,9 +44,9 @@ const REPLIES: &[(&str, &str)] = &[
 fn the_longest_frame_is_served_and_a_longer_one_ends_the_session(rt: HostRuntime) {
     let input = at_the_limits(&rt, FRAME_LIMIT);
     let longest = front(rest(input.as_slice(), 32), 5);
-    same(&rt, longest, b"\x00\x08\x00\x00{".as_slice());
+    same!(&rt, longest, b"\x00\x08\x00\x00{".as_slice());
     let (output, ending) = served(rt.alloc(), input.as_slice()).expect(&rt, "not served");
-    same(&rt, ending, Ending::TooLong);
+    same!(&rt, ending, Ending::TooLong);
     has_replies(&rt, output.as_slice(), "at once", REPLIES);
 }
 
@@ -58,7 +58,7 @@ fn bytes_that_come_one_at_a_time_have_the_same_replies(rt: HostRuntime) {
     };
     let mut output = Vec::new(rt.alloc());
     let ending = memory(rt.alloc(), &mut input, &mut output).expect(&rt, "not served");
-    same(&rt, ending, Ending::TooLong);
+    same!(&rt, ending, Ending::TooLong);
     has_replies(&rt, output.as_slice(), "one at a time", REPLIES);
 }
 
@@ -82,8 +82,8 @@ fn is_served(
     cut: usize,
 ) {
     let (output, ending) = served(rt.alloc(), bytes).expect(rt, "not served");
-    same_at(rt, ending, wanted, cut);
-    same_at(rt, output.as_slice(), replies, cut);
+    same_at!(rt, ending, wanted, cut);
+    same_at!(rt, output.as_slice(), replies, cut);
 }
 
 #[test]

@@ -1,7 +1,7 @@
 //! The pending jobs of the units of a graph.
 use crate::answers::WAITS_TO_START;
-use crate::asserts::{is_refused, same, unit};
 use std::process::Abort;
+use um_asserts::{is_refused_at, same, unit};
 use um_graph::Graph;
 use um_jobs::Jobs;
 use um_model::{DependencyKind, JobKind, JobState, UnitJobs};
@@ -58,12 +58,12 @@ fn jobs_of<'g>(
 
 /// Asserts that this is the job that begins next.
 fn is_ready(rt: &impl Abort, jobs: &Jobs<'_>, wanted: Option<(usize, JobKind)>) {
-    same(rt, jobs.ready(), wanted);
+    same!(rt, jobs.ready(), wanted);
 }
 
 /// The graph of a and b, which know nothing of each other.
 fn unrelated(rt: &(impl AllocGlobal + Abort)) -> Box<Graph> {
-    let extra = vec![in rt.alloc(); unit(rt, "b.service"), unit(rt, "a.service")];
+    let extra = vec![in rt.alloc(); unit!(rt, "b.service"), unit!(rt, "a.service")];
     let extra = extra.expect(rt, "no memory");
     graph_of(rt, &Tree::new(rt.alloc()), &extra)
 }
@@ -121,13 +121,13 @@ fn a_stop_waits_for_that_of_the_unit_behind(rt: HostRuntime) {
 
 /// Asserts that a cancel of the unit of this number, for b, is refused, where nothing waits.
 fn is_not_cancelled(rt: &(impl AllocGlobal + Abort), jobs: &mut Jobs<'_>, of: usize, row: &str) {
-    let cancelled = jobs.cancel(rt.alloc(), of, &unit(rt, "b.service"));
-    is_refused(rt, cancelled, Some("E21 NoSuchJob b.service"), row);
+    let cancelled = jobs.cancel(rt.alloc(), of, &unit!(rt, "b.service"));
+    is_refused_at!(rt, cancelled, Some("E21 NoSuchJob b.service"), row);
 }
 
 /// Whether a cancel of the unit of this number, for b, is refused.
 fn refuses_cancel(rt: &(impl AllocGlobal + Abort), jobs: &mut Jobs<'_>, of: usize) -> bool {
-    let cancelled = jobs.cancel(rt.alloc(), of, &unit(rt, "b.service"));
+    let cancelled = jobs.cancel(rt.alloc(), of, &unit!(rt, "b.service"));
     let refused = cancelled.is_err();
     drop(cancelled);
     refused
@@ -135,13 +135,13 @@ fn refuses_cancel(rt: &(impl AllocGlobal + Abort), jobs: &mut Jobs<'_>, of: usiz
 
 /// Asserts that a cancel takes out of these jobs what waits and nothing else, where a runs and b waits.
 fn cancel_what_waits(rt: &(impl AllocGlobal + Abort), left: &mut Jobs<'_>) {
-    let cancelled = left.cancel(rt.alloc(), 1, &unit(rt, "b.service"));
+    let cancelled = left.cancel(rt.alloc(), 1, &unit!(rt, "b.service"));
     cancelled.expect(rt, "none waits");
-    same(rt, left.get(1), UnitJobs::NONE);
+    same!(rt, left.get(1), UnitJobs::NONE);
     is_not_cancelled(rt, left, 1, "cancelled twice");
     is_not_cancelled(rt, left, 2, "past the last unit");
-    same(rt, refuses_cancel(rt, left, 0), true);
-    same(rt, left.as_slice().len(), 2);
+    same!(rt, refuses_cancel(rt, left, 0), true);
+    same!(rt, left.as_slice().len(), 2);
 }
 
 /// A copy of the jobs.
@@ -156,14 +156,14 @@ fn a_cancel_takes_out_what_waits_and_nothing_else(rt: HostRuntime) {
     let mut jobs = jobs_of(&rt, graph.as_ref(), &[WAITS_TO_START, WAITS_TO_START]);
     jobs.as_mut().begin(0, JobKind::Start);
     cancel_what_waits(&rt, copy_of(&rt, jobs.as_ref()).as_mut());
-    same(&rt, jobs.as_ref().get(1), WAITS_TO_START);
+    same!(&rt, jobs.as_ref().get(1), WAITS_TO_START);
 }
 
 #[test]
 fn the_dependencies_and_the_order_are_listed(rt: HostRuntime) {
     let graph = graph(&rt);
     let edges = graph.as_ref().edges(rt.alloc()).expect(&rt, "no memory");
-    same(&rt, edges.as_slice(), &[(DependencyKind::Requires, 1, 0)]);
+    same!(&rt, edges.as_slice(), &[(DependencyKind::Requires, 1, 0)]);
     let before = graph.as_ref().before(rt.alloc()).expect(&rt, "no memory");
-    same(&rt, before.as_slice(), &[(0, 1)]);
+    same!(&rt, before.as_slice(), &[(0, 1)]);
 }

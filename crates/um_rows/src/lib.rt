@@ -4,8 +4,6 @@
 #[cfg(test)]
 mod answers;
 #[cfg(test)]
-mod asserts;
-#[cfg(test)]
 mod bindings;
 #[cfg(test)]
 mod changed_rows;

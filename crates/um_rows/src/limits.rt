@@ -1,10 +1,10 @@
 //! The limits of a store's room and of known units.
 use crate::answers::WAITS_TO_START;
-use crate::asserts::{is_refused, same, same_at, text, unit};
 use crate::script::play;
 use crate::steps::{SIZE as LARGE_SIZE, empty, engine_of, obeyed};
 use crate::texts::{DONE, RELOAD, START_B, TOO_MANY_UNITS};
 use std::process::Abort;
+use um_asserts::{is_refused_at, same, same_at, text, unit};
 use um_engine::Engine;
 use um_state::{Command, Input, State};
 
@@ -71,7 +71,7 @@ const AFTER_A: &str = "[Service]\nExecStart=/bin/sleep 9\n[Unit]\nAfter=a.servic
 
 /// The unit waits to start.
 fn wait_to_start(rt: &(impl AllocGlobal + Abort), state: &mut State, name: &str) {
-    let set: Result<_, _> = state.set_jobs(&unit(rt, name), WAITS_TO_START);
+    let set: Result<_, _> = state.set_jobs(&unit!(rt, name), WAITS_TO_START);
     set.expect(rt, "no memory");
 }
 
@@ -133,7 +133,7 @@ fn is_held(rt: &(impl AllocGlobal + Abort), held: &Held, size: u64) -> bool {
 #[test]
 fn a_store_holds_a_state_up_to_its_limits(rt: HostRuntime) {
     for (held, size, wanted) in STATES {
-        same_at(&rt, is_held(&rt, held, *size), *wanted, (held, size));
+        same_at!(&rt, is_held(&rt, held, *size), *wanted, (held, size));
     }
 }
 
@@ -146,13 +146,13 @@ fn engine_in(rt: &(impl AllocGlobal + Abort), held: &Held) -> Box<Engine> {
 fn an_engine_shows_the_state_that_it_was_made_from(rt: HostRuntime) {
     let engine = engine_in(&rt, &Held::Text(9));
     let state = engine.as_ref().state();
-    same(&rt, state.tree().weight(), 54);
-    same(&rt, state.loaded().weight(), 0);
+    same!(&rt, state.tree().weight(), 54);
+    same!(&rt, state.loaded().weight(), 0);
 }
 
 /// At the moment 0 `lib/a.service` is put with a text of so many bytes.
 fn put_long(rt: &(impl AllocGlobal + Abort), length: usize) -> Box<Input> {
-    let path = text(rt, "lib/a.service");
+    let path = text!(rt, "lib/a.service");
     let text = long(rt, length);
     obeyed(rt, 0, Command::PutFile { path, text })
 }
@@ -163,7 +163,7 @@ fn a_state_has_room_up_to_the_size_of_its_store(rt: HostRuntime) {
     for (length, wanted) in [(31_955, None), (31_956, Some("E14 NoRoom"))] {
         let input = put_long(&rt, length);
         let planned = engine.as_ref().plan(input.as_ref());
-        is_refused(&rt, planned, wanted, length);
+        is_refused_at!(&rt, planned, wanted, length);
     }
 }
 

@@ -1,13 +1,13 @@
 //! What the words of a command line ask for.
-use crate::asserts::{same, same_at, text};
 use std::process::Abort;
+use um_asserts::{same, same_at, text};
 use um_line::{Line, a_runner_s_words_are_run, read_line};
 
 /// The words of the text, the first of which is the program's name.
 fn words_of(rt: &(impl AllocGlobal + Abort), line: &str) -> Vec<String> {
     let mut words = Vec::new(rt.alloc());
     for word in line.split(' ') {
-        words.push(text(rt, word)).expect(rt, "no memory");
+        words.push(text!(rt, word)).expect(rt, "no memory");
     }
     words
 }
@@ -115,7 +115,7 @@ fn asks(rt: &(impl AllocGlobal + Abort), text: &str, wanted: &str, part: &str) {
     let line = read.as_ref().expect(rt, "no memory");
     let (kind, told) = asked(line);
     let got = (kind, told.contains(part));
-    same_at(rt, got, (wanted, true), (text, part, line));
+    same_at!(rt, got, (wanted, true), (text, part, line));
     drop(read);
 }
 
@@ -137,7 +137,7 @@ fn a_runner_s_words_are_run_under_its_number(rt: HostRuntime) {
     let Line::Run(line) = read.as_ref().expect(&rt, "no memory") else {
         rt.abort()
     };
-    same(&rt, (line.folder, line.number.get()), ("d", 7));
+    same!(&rt, (line.folder, line.number.get()), ("d", 7));
     drop(read);
 }
 
@@ -148,8 +148,8 @@ fn looks(rt: &(impl AllocGlobal + Abort), text: &str, units: bool) {
     let Line::Check(line) = read.as_ref().expect(rt, "no memory") else {
         rt.abort()
     };
-    same(rt, line.units, units);
-    same(rt, line.file, "f");
+    same!(rt, line.units, units);
+    same!(rt, line.file, "f");
     drop(read);
 }
 

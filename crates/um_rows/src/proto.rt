@@ -1,6 +1,6 @@
 //! Requests and replies as JSON.
-use crate::asserts::{is_refused, same, text};
 use std::process::Abort;
+use um_asserts::{is_refused_at, same, text};
 use um_proto::{Asked, Mode, Request, read_request, write_reply};
 use um_resolve::UnitFile;
 use um_state::{Command, Event, Reply};
@@ -10,7 +10,7 @@ fn is_told(rt: &(impl AllocGlobal + Abort), reply: Reply, wanted: &str) {
     let told = write_reply(rt.alloc(), &reply).expect(rt, "no memory");
     drop(reply);
     let text = String::from_utf8_lossy(rt.alloc(), told.bytes.as_slice()).expect(rt, "no memory");
-    same(rt, (text.as_str(), told.is_whole), (wanted, true));
+    same!(rt, (text.as_str(), told.is_whole), (wanted, true));
 }
 
 /// Requests to the store in memory, and what each is refused by.
@@ -67,12 +67,12 @@ const REQUESTS: &[(&str, Option<&str>)] = &[
 fn requests_are_read_or_refused_for_the_first_cause(rt: HostRuntime) {
     for (text, wanted) in REQUESTS {
         let request = read_request(rt.alloc(), text.as_bytes(), Mode::Memory);
-        is_refused(&rt, request, *wanted, text);
+        is_refused_at!(&rt, request, *wanted, text);
     }
     // over a socket a moment is no field
     let text = "{\"verb\":\"daemon-reload\",\"at\":7}";
     let request = read_request(rt.alloc(), text.as_bytes(), Mode::Service);
-    is_refused(&rt, request, Some("E1 BadRequest"), text);
+    is_refused_at!(&rt, request, Some("E1 BadRequest"), text);
 }
 
 /// The path and the target of the link that the request is to put, at no moment of its own; None where it is another request.
@@ -91,15 +91,15 @@ fn a_link_is_put_from_its_path_to_its_target(rt: HostRuntime) {
     let text = "{\"target\":\"a.service\",\"verb\":\"put-link\",\"path\":\"etc/b.service\"}";
     let read = read_request(rt.alloc(), text.as_bytes(), Mode::Service);
     let request = read.as_ref().expect(&rt, "not read");
-    same(&rt, link_in(request), Some(("etc/b.service", "a.service")));
+    same!(&rt, link_in(request), Some(("etc/b.service", "a.service")));
     drop(read);
 }
 
 /// A file of this text.
 fn file(rt: &(impl AllocGlobal + Abort), path: &str, content: &str) -> UnitFile {
     UnitFile {
-        path: text(rt, path),
-        text: text(rt, content),
+        path: text!(rt, path),
+        text: text!(rt, content),
     }
 }
 

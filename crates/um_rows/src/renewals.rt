@@ -1,8 +1,8 @@
 //! More inputs than lie between two renewals of the store in memory: state, numbers and replies go on.
-use crate::asserts::same;
-use crate::script::{push_frame, served};
+use crate::script::served;
 use crate::texts::{ACTIONS, DONE, RELOAD, SHOW_A, START_A};
 use std::process::Abort;
+use um_asserts::{push_frame, same};
 use um_memory::Ending;
 
 /// A service that may be started any number of times.
@@ -53,8 +53,8 @@ fn push_lives(rt: &(impl AllocGlobal + Abort), script: &mut Script, count: usize
 /// Asserts that the requests have the replies that are wanted, and end behind the last.
 fn is_served(rt: &(impl AllocGlobal + Abort), script: &Script) {
     let (output, ending) = served(rt.alloc(), script.input.as_slice()).expect(rt, "not served");
-    same(rt, output.as_slice(), script.wanted.as_slice());
-    same(rt, ending, Ending::Between);
+    same!(rt, output.as_slice(), script.wanted.as_slice());
+    same!(rt, ending, Ending::Between);
 }
 
 #[test]

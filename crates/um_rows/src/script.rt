@@ -1,7 +1,7 @@
 //! Scripts of requests with the replies that are wanted for them.
-use crate::asserts::same_at;
-use std::alloc::{AllocError, Global};
+use std::alloc::Global;
 use std::process::Abort;
+use um_asserts::{push_frame, same_at};
 use um_memory::{Ending, Fault, memory};
 
 /// A script: what it shows, and its requests, each with the reply that is wanted for it. Most are constants of their own: what the
@@ -9,22 +9,6 @@ use um_memory::{Ending, Fault, memory};
 pub struct Script {
     pub shows: &'static str,
     pub steps: &'static [(&'static str, &'static str)],
-}
-
-/// Adds the frame of a text: its length in four bytes, the highest first, and the text.
-pub fn push_frame(bytes: &mut Vec<u8>, text: &str) -> Result<(), AllocError> {
-    let length = u32::try_from(text.len()).unwrap_or(0);
-    bytes.extend_from_slice(length.to_be_bytes().as_slice())?;
-    bytes.extend_from_slice(text.as_bytes())
-}
-
-/// The frames of these texts.
-pub fn frames(alloc: Global, texts: &[&str]) -> Result<Vec<u8>, AllocError> {
-    let mut bytes = Vec::new(alloc);
-    for text in texts {
-        push_frame(&mut bytes, text)?;
-    }
-    Ok(bytes)
 }
 
 /// What is written for the bytes, and how they ended.
@@ -55,10 +39,10 @@ pub fn has_replies(
     for (at, (request, wanted)) in steps.iter().enumerate() {
         let (reply, behind) = cut_frame(rest);
         let got = String::from_utf8_lossy(rt.alloc(), reply).expect(rt, "no memory");
-        same_at(rt, got.as_str(), *wanted, (shows, at + 1, request));
+        same_at!(rt, got.as_str(), *wanted, (shows, at + 1, request));
         rest = behind;
     }
-    same_at(rt, rest.len(), 0, (shows, "bytes behind the last reply"));
+    same_at!(rt, rest.len(), 0, (shows, "bytes behind the last reply"));
 }
 
 /// Plays the steps, each a request with the reply that is wanted for it, and stops at the first other reply.
@@ -69,7 +53,7 @@ pub fn play(rt: &(impl AllocGlobal + Abort), shows: &str, steps: &[(&str, &str)]
     }
     let (output, ending) = served(rt.alloc(), input.as_slice()).expect(rt, "not served");
     has_replies(rt, output.as_slice(), shows, steps);
-    same_at(rt, ending, Ending::Between, shows);
+    same_at!(rt, ending, Ending::Between, shows);
 }
 
 /// Plays the script on a store of its own.

@@ -1,8 +1,8 @@
 //! What follows for a unit from what happens to it.
 use crate::answers::{at, told};
-use crate::asserts::{same, same_at, text};
 use std::process::Abort;
 use std::rc::Rc;
+use um_asserts::{same, same_at, text};
 use um_model::{End, SubState, UnitResult, UnitState};
 use um_service::{Around, NextNumber, Service, ServiceSettings, StartJob, UnitEvent, UnitKind};
 use um_words::Command;
@@ -122,7 +122,7 @@ const STARTS_OF_EXEC: &[&[Step]] = &[&[IS_STARTED, IS_STOPPED], &[IS_STARTED, IS
 /// The settings of `ExecStart=/bin/sleep 9` in a service of this kind.
 fn sleeps(rt: &(impl AllocGlobal + Abort), kind: UnitKind) -> Rc<ServiceSettings> {
     let mut settings = ServiceSettings::new(rt.alloc(), kind);
-    let words = vec![in rt.alloc(); text(rt, "/bin/sleep"), text(rt, "9")];
+    let words = vec![in rt.alloc(); text!(rt, "/bin/sleep"), text!(rt, "9")];
     let command = Command {
         words: words.expect(rt, "no memory"),
         ignores_failure: false,
@@ -138,7 +138,7 @@ fn stands(rt: &impl Abort, unit: &Service, step: &Step) {
     let main = now.main.map(|main| main.get());
     let deadline = now.deadline.map(|deadline| deadline.micros());
     let stands = (now.sub, now.result, main, deadline);
-    same_at(rt, stands, step.stands, step.event);
+    same_at!(rt, stands, step.stands, step.event);
 }
 
 /// Asserts that this follows for the unit, which is loadable and no stop job of which waits, where this is the next process number;
@@ -159,9 +159,9 @@ fn follows(
     let after = unit.on(rt.alloc(), step.event, settings, around);
     let after = after.expect(rt, "no memory");
     let asked = told(rt, after.actions.as_slice());
-    same_at(rt, asked.as_str(), step.asked, step.event);
+    same_at!(rt, asked.as_str(), step.asked, step.event);
     let jobs = (after.start, after.stop_ends, after.next.get());
-    same_at(rt, jobs, (step.start, step.stop_ends, 2), step.event);
+    same_at!(rt, jobs, (step.start, step.stop_ends, 2), step.event);
     stands(rt, unit, step);
 }
 
@@ -173,7 +173,7 @@ fn lives(rt: &(impl AllocGlobal + Abort), kind: UnitKind, steps: &[Step]) {
         follows(rt, &sleeps(rt, kind), &mut unit, next, step);
         next = 2;
     }
-    same(rt, unit.copy().unit(), unit.unit());
+    same!(rt, unit.copy().unit(), unit.unit());
 }
 
 #[test]

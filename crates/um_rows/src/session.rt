@@ -1,7 +1,7 @@
 //! A client's session by its public calls.
-use crate::asserts::{same, same_at, text};
 use crate::script::{front, rest};
 use std::process::Abort;
+use um_asserts::{same, same_at, text};
 use um_proto::{Asked, Request};
 use um_session::Session;
 use um_state::{Command, Event};
@@ -24,8 +24,8 @@ fn word(request: &Request) -> &'static str {
 /// What is read: `reload`, the refusal, or nothing.
 fn told(rt: &(impl AllocGlobal + Abort), read: &Option<Result<Request, Refusal>>) -> String {
     match read {
-        None => text(rt, ""),
-        Some(Ok(request)) => text(rt, word(request)),
+        None => text!(rt, ""),
+        Some(Ok(request)) => text!(rt, word(request)),
         Some(Err(refusal)) => refusal.to_string(rt.alloc()).expect(rt, "no memory"),
     }
 }
@@ -55,7 +55,7 @@ fn reads(
     session.feed(bytes).expect(rt, "no memory");
     for text in wanted {
         let read = next(rt, session);
-        same_at(rt, read.as_str(), *text, row);
+        same_at!(rt, read.as_str(), *text, row);
     }
 }
 
@@ -112,9 +112,9 @@ fn is_refused(
     row: usize,
 ) {
     reads(rt, session, refused.frame, refused.reads, (row, 0));
-    same_at(rt, session.failed(), refused.failed, row);
+    same_at!(rt, session.failed(), refused.failed, row);
     reads(rt, session, RELOAD, refused.behind, (row, 1));
-    same_at(rt, session.failed(), refused.failed, row);
+    same_at!(rt, session.failed(), refused.failed, row);
 }
 
 #[test]
@@ -133,7 +133,7 @@ fn puts_out(rt: &(impl AllocGlobal + Abort), session: &mut Session) {
     session.push_reply(b"[1]").expect(rt, "no memory");
     for wanted in OUTPUTS {
         let output = session.take_output();
-        same(rt, output.as_slice(), *wanted);
+        same!(rt, output.as_slice(), *wanted);
     }
 }
 

@@ -1,8 +1,8 @@
 //! An engine, the steps that it takes, and how a unit stands then. What is large is boxed, or let go by `drop`: else the prover takes
 //! it apart, field by field, wherever it is let go.
 use crate::answers::at;
-use crate::asserts::unit;
 use std::process::Abort;
+use um_asserts::unit;
 use um_engine::{Back, Engine, Next};
 use um_model::UnitState;
 use um_state::{Action, Command, Event, Happening, Input, Query, Reply, State};
@@ -62,7 +62,7 @@ fn state_shown(rt: &impl Abort, reply: &Reply) -> UnitState {
 /// How the unit stands.
 pub fn standing(rt: &(impl AllocGlobal + Abort), engine: &Engine, name: &str) -> UnitState {
     let query = Query::Show {
-        unit: unit(rt, name),
+        unit: unit!(rt, name),
     };
     let reply = engine.query(&query);
     drop(query);

@@ -1,24 +1,8 @@
 //! Answers and sectors as values that can be compared and shown, and what rows are made of.
-use crate::asserts::same;
 use std::process::Abort;
+use um_asserts::is_refused;
 use um_sector::{Disk, Fault, Sector};
 use um_wire::Refusal;
-
-/// Asserts that the answer is a refusal that prints as this text: its number, name and details.
-pub fn is_refused<T: Drop>(
-    rt: &(impl AllocGlobal + Abort),
-    answer: Result<T, Refusal>,
-    wanted: &str,
-) {
-    match &answer {
-        Ok(_) => same(rt, None, Some(wanted)),
-        Err(refusal) => {
-            let printed = refusal.to_string(rt.alloc()).expect(rt, "no memory");
-            same(rt, Some(printed.as_str()), Some(wanted));
-        }
-    }
-    drop(answer);
-}
 
 /// Asserts that the disk failed the call, which a request is refused for by the number of a device.
 pub fn fails<T: Drop>(rt: &(impl AllocGlobal + Abort), answer: Result<T, Fault>) {
@@ -26,7 +10,7 @@ pub fn fails<T: Drop>(rt: &(impl AllocGlobal + Abort), answer: Result<T, Fault>)
         Ok(_) => Ok(()),
         Err(fault) => Err(Refusal::from(fault)),
     };
-    is_refused(rt, answer, "E16 Device");
+    is_refused!(rt, answer, "E16 Device");
 }
 
 /// What a sector holds.

@@ -1,8 +1,8 @@
 //! Canonical bytes: how values are spelled, and what is no spelling.
-use crate::asserts::{same, text};
 use crate::spelled::{are_not_read, are_read, are_spelled, is_spelled};
 use std::collections::BTreeMap;
 use std::process::Abort;
+use um_asserts::{same, text};
 use um_model::{
     Counted, Deadline, End, JobKind, JobMode, JobState, Moment, NextNumber, ProcessNumber,
     SubState, UnitResult, UnitState,
@@ -24,10 +24,10 @@ fn numbers_stand_with_the_highest_byte_first(rt: HostRuntime) {
     are_spelled(&rt, SHORT_NUMBERS, &[&[0, 0, 1]]);
     are_spelled(&rt, LONG_NUMBERS, &[&[0, 0, 0, 0, 0, 0, 1]]);
     let read = u32::get(rt.alloc(), &[0, 0, 1, 0, 9, 9]).expect(&rt, "no memory");
-    same(&rt, read, Some((256, 4)));
+    same!(&rt, read, Some((256, 4)));
     let whole = read_whole::<u8>(rt.alloc(), &[7]).expect(&rt, "no memory");
     let part = read_whole::<u8>(rt.alloc(), &[7, 7]).expect(&rt, "no memory");
-    same(&rt, [whole, part], [Some(7), None]);
+    same!(&rt, [whole, part], [Some(7), None]);
 }
 
 const TRUTHS: &[(bool, &[u8])] = &[(false, &[0]), (true, &[1])];
@@ -39,10 +39,10 @@ const PAIRS: &[((Option<u8>, bool), &[u8])] = &[((Some(5), true), &[1, 5, 1])];
 #[test]
 fn truths_and_options_begin_with_0_or_1(rt: HostRuntime) {
     are_spelled(&rt, TRUTHS, &[&[2], &[]]);
-    same(&rt, get_tag::<bool>(&[1, 5]), Some((true, 1)));
+    same!(&rt, get_tag::<bool>(&[1, 5]), Some((true, 1)));
     let mut out = Vec::new(rt.alloc());
     put_tag(&true, &mut out).expect(&rt, "no memory");
-    same(&rt, out.as_slice(), [1].as_slice());
+    same!(&rt, out.as_slice(), [1].as_slice());
     are_spelled(&rt, OPTIONS, &[&[2, 5], &[1], &[]]);
     are_spelled(&rt, PAIRS, &[]);
     are_not_read::<(u8, bool)>(&rt, &[&[7, 2]]);
@@ -59,8 +59,8 @@ const NO_TEXTS: &[&[u8]] = &[
 
 #[test]
 fn texts_and_lists_begin_with_their_length(rt: HostRuntime) {
-    is_spelled(&rt, &text(&rt, ""), &[0, 0, 0, 0]);
-    let accented = text(&rt, "h\u{e9}");
+    is_spelled(&rt, &text!(&rt, ""), &[0, 0, 0, 0]);
+    let accented = text!(&rt, "h\u{e9}");
     is_spelled(&rt, &accented, &[0, 0, 0, 3, 104, 195, 169]);
     are_not_read::<String>(&rt, NO_TEXTS);
     let mut items = Vec::new(rt.alloc());
@@ -93,7 +93,7 @@ fn the_keys_of_a_map_strictly_ascend(rt: HostRuntime) {
     let mut map = BTreeMap::new(rt.alloc());
     is_spelled(&rt, &map, &[0, 0, 0, 0]);
     for (key, number) in [("b", 2u8), ("Z", 1), ("", 9)] {
-        let inserted: Result<_, _> = map.insert(text(&rt, key), number);
+        let inserted: Result<_, _> = map.insert(text!(&rt, key), number);
         inserted.expect(&rt, "no memory");
     }
     is_spelled(&rt, &map, ASCENDING);

@@ -1,6 +1,5 @@
 //! A file as a disk: what the system keeps of it.
 use crate::answers::fails;
-use crate::asserts::{same, same_at};
 use crate::marks::marked_byte;
 use std::fs::{File, Files, OpenOptions};
 use std::os::unix::fs::MetadataExt;
@@ -8,14 +7,13 @@ use std::path::PathBuf;
 use std::process::Abort;
 use std::test::Fail;
 use std::{env, fs, process};
+use um_asserts::{same, same_at};
 use um_filedisk::{DirectoryLock, FileDisk, FileFault, is_same_place};
 use um_sector::{Disk, Sector};
 
 /// A place for a test's file, free of what an earlier process left there.
 fn place(rt: &HostRuntime, name: &str) -> Result<PathBuf, Fail> {
-    let alloc = rt.alloc();
-    let number = process::id(rt.process());
-    let path = env::temp_dir(rt)?.join(alloc, format!(in alloc; "um_filedisk.{number}.{name}")?)?;
+    let path = um_asserts::place(rt, rt.process(), name)?;
     let _ = fs::remove_file(rt, &path);
     Ok(path)
 }
@@ -47,7 +45,7 @@ fn says<D: Drop>(
     wanted: Option<&str>,
 ) {
     let said = said(rt, answer);
-    same(rt, said.as_deref(), wanted);
+    same!(rt, said.as_deref(), wanted);
 }
 
 /// A sector of 7, with 8 at its begin and 9 at its end.
@@ -97,12 +95,12 @@ fn is_not_made(rt: &(impl AllocGlobal + Files<File = File> + Abort), path: &str,
 
 /// Asserts how many sectors the disk has.
 fn has_sectors<D: Disk>(rt: &impl Abort, disk: &D, count: usize) {
-    same(rt, disk.sectors(), count);
+    same!(rt, disk.sectors(), count);
 }
 
 /// Asserts the first byte of a sector; None: that it isn't read.
 fn begins<D: Disk>(rt: &impl Abort, disk: &mut D, k: usize, byte: Option<u8>) {
-    same(rt, first_byte(disk, k), byte);
+    same!(rt, first_byte(disk, k), byte);
 }
 
 /// Asserts how many calls the disk took, and how many of them failed.
@@ -112,7 +110,7 @@ fn has_counts<R: Files<File = File>>(
     calls: u64,
     failures: u64,
 ) {
-    same(rt, (disk.calls(), disk.failures()), (calls, failures));
+    same!(rt, (disk.calls(), disk.failures()), (calls, failures));
 }
 
 /// Writes a marked sector.
@@ -154,9 +152,9 @@ fn make_and_mark(rt: &(impl AllocGlobal + Files<File = File> + Abort), path: &st
 
 /// Asserts that the bytes are those of that disk.
 fn are_marked(rt: &impl Abort, bytes: &[u8]) {
-    same(rt, bytes.len(), 1536);
+    same!(rt, bytes.len(), 1536);
     for (i, byte) in bytes.iter().enumerate() {
-        same_at(rt, *byte, marked_byte(i), i);
+        same_at!(rt, *byte, marked_byte(i), i);
     }
 }
 
@@ -170,7 +168,7 @@ fn holds_marks(rt: &(impl AllocGlobal + Files<File = File> + Abort), path: &str)
 fn has_mark<D: Disk>(rt: &impl Abort, disk: &mut D) {
     let mut read: Sector = [255; 512];
     disk.read(1, &mut read).expect(rt, "not read");
-    same(rt, read, marked());
+    same!(rt, read, marked());
 }
 
 /// Opens that disk and reads it.
@@ -217,7 +215,7 @@ const NO_FOLDER: &str = "the system refused the file: Not a directory (os error 
 /// Asserts that the file holds this text.
 fn holds_text(rt: &(impl AllocGlobal + Files<File = File> + Abort), path: &str, wanted: &str) {
     let text = fs::read_to_string(rt, path).expect(rt, "not read");
-    same(rt, text.as_str(), wanted);
+    same!(rt, text.as_str(), wanted);
 }
 
 /// Asserts that nothing is made in the place of a file, and that nothing is made at the place inside it, nor where it was.
@@ -242,7 +240,7 @@ fn a_file_is_not_made_where_something_stands(rt: HostRuntime) -> Result<(), Fail
 /// Asserts that nothing stands at the path.
 fn is_free(rt: &(impl Files + Abort), path: &str) {
     let stands = fs::exists(rt, path).expect(rt, "not looked at");
-    same(rt, stands, false);
+    same!(rt, stands, false);
 }
 
 #[test]
@@ -342,7 +340,7 @@ fn cut(rt: &(impl Files<File = File> + Abort), path: &str, size: u64) {
 /// Asserts that the file has so many bytes.
 fn has_length(rt: &(impl Files + Abort), path: &str, wanted: u64) {
     let metadata = fs::metadata(rt, path).expect(rt, "no file");
-    same(rt, metadata.len(), wanted);
+    same!(rt, metadata.len(), wanted);
 }
 
 /// Asserts that a disk over two sectors and a part of a third has the two.
@@ -364,7 +362,7 @@ fn has_one<D: Disk>(rt: &impl Abort, disk: &mut D) {
 fn open_and_cut(rt: &(impl AllocGlobal + Files<File = File> + Abort), path: &str) {
     let mut disk = opened(rt, path);
     has_two(rt, &mut disk);
-    same(rt, disk.failures(), 2);
+    same!(rt, disk.failures(), 2);
     has_length(rt, path, 1535);
     cut(rt, path, 1000);
     has_one(rt, &mut disk);
@@ -431,8 +429,8 @@ fn a_file_that_is_gone_takes_nothing(rt: HostRuntime) -> Result<(), Fail> {
 /// Asserts that the file is its owner's alone, and has all its blocks.
 fn is_whole(rt: &(impl Files + Abort), path: &str) {
     let about = fs::metadata(rt, path).expect(rt, "no file");
-    same(rt, about.mode() & 0o777, 0o600);
-    same(rt, about.len(), 4608);
+    same!(rt, about.mode() & 0o777, 0o600);
+    same!(rt, about.len(), 4608);
     // blocks of 512 bytes, whatever those of the file system are
     assert!(rt; about.blocks() >= 9, "{}", about.blocks());
 }
@@ -454,7 +452,7 @@ fn a_new_file_is_its_owners_alone_and_has_no_hole(rt: HostRuntime) -> Result<(),
 
 /// Asserts that two paths lead to one place, or not.
 fn is_one(rt: &(impl Files + Abort), path: &str, other: &str, wanted: bool) {
-    same(rt, is_same_place(rt, path, other), wanted);
+    same!(rt, is_same_place(rt, path, other), wanted);
 }
 
 /// Asserts that two names of one file lead to one place.
@@ -470,7 +468,7 @@ fn are_names_of_one(rt: &(impl Files<File = File> + Abort), path: &str, other: &
 fn detour(rt: &HostRuntime) -> Result<String, Fail> {
     let folder = env::temp_dir(rt)?;
     let number = process::id(rt.process());
-    Ok(format!(in rt.alloc(); "{}/./um_filedisk.{number}.one", folder.as_str())?)
+    Ok(format!(in rt.alloc(); "{}/./umd.{number}.one", folder.as_str())?)
 }
 
 #[test]

@@ -1,7 +1,7 @@
 //! The canonical bytes of inputs: each of the 18, typed from the format, and what is no input.
-use crate::asserts::{same, text, unit};
 use crate::spelled::{hex, is_not_read, is_spelled};
 use std::process::Abort;
+use um_asserts::{same, text, unit};
 use um_model::{End, InstallVerb, JobMode, Moment, UnitVerb};
 use um_state::{BootId, Command, Event, Happening, Input};
 use um_tree::Tree;
@@ -31,32 +31,32 @@ enum Coming {
 fn command(rt: &(impl AllocGlobal + Abort), coming: &Coming) -> Option<Command> {
     let command = match coming {
         Coming::PutFile(path, content) => Command::PutFile {
-            path: text(rt, path),
-            text: text(rt, content),
+            path: text!(rt, path),
+            text: text!(rt, content),
         },
         Coming::PutLink(path, target) => Command::PutLink {
-            path: text(rt, path),
-            target: text(rt, target),
+            path: text!(rt, path),
+            target: text!(rt, target),
         },
         Coming::Remove(path) => Command::Remove {
-            path: text(rt, path),
+            path: text!(rt, path),
         },
         Coming::DaemonReload => Command::DaemonReload,
         Coming::ForUnit(verb, mode) => Command::ForUnit {
             verb: *verb,
-            unit: unit(rt, UNIT),
+            unit: unit!(rt, UNIT),
             mode: *mode,
         },
         Coming::Cancel => Command::Cancel {
-            unit: unit(rt, UNIT),
+            unit: unit!(rt, UNIT),
         },
         Coming::ResetFailed => Command::ResetFailed {
-            unit: Some(unit(rt, UNIT)),
+            unit: Some(unit!(rt, UNIT)),
         },
         Coming::ResetAllFailed => Command::ResetFailed { unit: None },
         Coming::Install(verb) => Command::Install {
             verb: *verb,
-            unit: unit(rt, UNIT),
+            unit: unit!(rt, UNIT),
         },
         _ => return None,
     };
@@ -72,7 +72,7 @@ fn happening(rt: &(impl AllocGlobal + Abort), coming: &Coming) -> Happening {
         },
         Coming::Executed(number) => Happening::ProcessExecuted { number: *number },
         Coming::Booted(id) => Happening::Booted {
-            boot: BootId::new(text(rt, id)).expect(rt, "no boot"),
+            boot: BootId::new(text!(rt, id)).expect(rt, "no boot"),
         },
         _ => Happening::Tick,
     }
@@ -195,7 +195,7 @@ fn the_longest_input_that_is_accepted_has_66078_bytes(rt: HostRuntime) {
     let text = "a".repeat(rt.alloc(), 65_536).expect(&rt, "no memory");
     is_accepted(&rt, path.as_str(), text.as_str());
     let put = Event::Commanded(Command::PutFile { path, text });
-    same(&rt, length_of(&rt, put), 66_078);
+    same!(&rt, length_of(&rt, put), 66_078);
 }
 
 /// What is no input, and why.

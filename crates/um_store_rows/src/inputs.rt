@@ -1,5 +1,6 @@
 //! Inputs, and what a keeper makes of one.
 use std::process::Abort;
+use um_asserts::text;
 use um_keeper::{Handed, Keeper, Receipt};
 use um_model::Moment;
 use um_sector::Disk;
@@ -19,8 +20,8 @@ pub fn input(rt: &impl Abort, micros: u64, event: Event) -> Input {
 
 /// The input that puts a file.
 pub fn put(rt: &(impl AllocGlobal + Abort), path: &str, content: &str) -> Input {
-    let path = String::from_str(rt.alloc(), path).expect(rt, "no memory");
-    let text = String::from_str(rt.alloc(), content).expect(rt, "no memory");
+    let path = text!(rt, path);
+    let text = text!(rt, content);
     input(rt, 0, Event::Commanded(Command::PutFile { path, text }))
 }
 

@@ -1,10 +1,10 @@
 //! What a look at a disk tells of its store, with nothing written.
-use crate::answers::{filled, is_refused, sector_at};
-use crate::asserts::same;
+use crate::answers::{filled, sector_at};
 use crate::inputs::{A, input, put_long, take};
 use crate::keepers::{disk_of, files_on, made, over};
 use crate::submitting::ended;
 use std::process::Abort;
+use um_asserts::{is_refused, same};
 use um_keeper::{Keeper, Summary, inspect, look};
 use um_sector::{Disk, Fuse, MemDisk};
 use um_state::{Event, Happening, State};
@@ -38,17 +38,17 @@ fn tells(
 ) {
     let syncs = disk.syncs();
     let told = inspect(rt.alloc(), disk).expect(rt, "not read");
-    same(rt, numbers_of(&told), (generation, records, clock, next));
+    same!(rt, numbers_of(&told), (generation, records, clock, next));
     let (told, _) = looked(rt, disk);
-    same(rt, numbers_of(&told), (generation, records, clock, next));
-    same(rt, disk.syncs(), syncs);
+    same!(rt, numbers_of(&told), (generation, records, clock, next));
+    same!(rt, disk.syncs(), syncs);
 }
 
 /// A store whose service ended and was started again: five records of generation 2.
 fn restarted(rt: &(impl AllocGlobal + Abort)) -> Box<Keeper<Fuse<MemDisk>>> {
     let mut keeper = ended(rt);
     let tick = input(rt, 1_100_000, Event::Happened(Happening::Tick));
-    same(rt, take(rt, &mut keeper, tick), 1);
+    same!(rt, take(rt, &mut keeper, tick), 1);
     keeper
 }
 
@@ -61,7 +61,7 @@ fn a_summary_tells_what_the_image_stands_for(rt: HostRuntime) {
     let mut disk = disk_of(restarted(&rt)).into_inner();
     tells(&rt, &mut disk, 2, 5, 1_100_000, 3);
     // and it is opened as if nobody had looked
-    same(&rt, files_on(&rt, disk), 1);
+    same!(&rt, files_on(&rt, disk), 1);
 }
 
 #[test]
@@ -71,7 +71,7 @@ fn a_look_gives_the_state_too(rt: HostRuntime) {
     let mut disk = disk_of(keeper).into_inner();
     let (_, state) = looked(&rt, &mut disk);
     let told = spell(rt.alloc(), state.as_ref()).expect(&rt, "no memory");
-    same(&rt, told.as_slice(), before.as_slice());
+    same!(&rt, told.as_slice(), before.as_slice());
 }
 
 #[test]
@@ -91,7 +91,7 @@ fn a_failing_read_is_no_summary(rt: HostRuntime) {
     for call in 1..6 {
         let disk = disk_of(restarted(&rt)).into_inner();
         let mut fuse = Fuse::new(disk, call);
-        is_refused(&rt, inspect(rt.alloc(), &mut fuse), "E16 Device");
+        is_refused!(&rt, inspect(rt.alloc(), &mut fuse), "E16 Device");
         let mut disk = fuse.into_inner();
         tells(&rt, &mut disk, 2, 5, 1_100_000, 3);
     }
@@ -104,6 +104,6 @@ fn a_look_leaves_each_sector(rt: HostRuntime) {
     tells(&rt, &mut disk, 2, 5, 1_100_000, 3);
     for k in 0..641 {
         let sector = sector_at(&rt, &mut disk, k);
-        same(&rt, sector, sector_at(&rt, &mut before, k));
+        same!(&rt, sector, sector_at(&rt, &mut before, k));
     }
 }

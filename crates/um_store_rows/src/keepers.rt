@@ -1,7 +1,7 @@
 //! Keepers over disks in memory, what a crash leaves of them, and the calls that they make.
-use crate::answers::{is_refused, sector_at};
-use crate::asserts::same;
+use crate::answers::sector_at;
 use std::process::Abort;
+use um_asserts::{is_refused, same};
 use um_keeper::{Keeper, create};
 use um_model::Layout;
 use um_sector::{Disk, Fuse, MemDisk, Sector};
@@ -12,7 +12,7 @@ pub fn has_layout<D: Disk>(rt: &impl Abort, disk: &mut D, k: usize, bytes: &[u8]
     for (place, byte) in wanted.iter_mut().zip(bytes) {
         *place = *byte;
     }
-    same(rt, sector_at(rt, disk, k), wanted);
+    same!(rt, sector_at(rt, disk, k), wanted);
 }
 
 /// A disk of 641 sectors with a new store: slots of 64 sectors, a log of 512.
@@ -38,8 +38,8 @@ pub fn disk_of<D: Disk>(keeper: Box<Keeper<D>>) -> D {
 
 /// Asserts that a checkpoint fails, and that another one wants the store opened again.
 pub fn fails_checkpoints<D: Disk>(rt: &(impl AllocGlobal + Abort), keeper: &mut Keeper<D>) {
-    is_refused(rt, keeper.checkpoint(), "E16 Device");
-    is_refused(rt, keeper.checkpoint(), "E17 Reopen");
+    is_refused!(rt, keeper.checkpoint(), "E16 Device");
+    is_refused!(rt, keeper.checkpoint(), "E17 Reopen");
 }
 
 /// The number of files that a keeper has.

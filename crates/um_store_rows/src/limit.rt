@@ -1,6 +1,6 @@
 //! The start limit of a unit.
-use crate::asserts::same_at;
 use std::process::Abort;
+use um_asserts::same_at;
 use um_limit::{Counted, Window};
 use um_model::{Moment, Span};
 
@@ -88,11 +88,11 @@ fn counts(rt: &impl Abort, row: &Row) {
     for (micros, passes) in row.starts {
         let moment = Moment::new(*micros).expect(rt, "no moment");
         let passed = counting.count(moment, interval(row), row.burst);
-        same_at(rt, passed, *passes, label);
+        same_at!(rt, passed, *passes, label);
     }
     let wanted = window(rt, row.after);
-    same_at(rt, counting.copy(), wanted, label);
-    same_at(rt, counting.counted(), wanted.counted(), label);
+    same_at!(rt, &counting.copy(), &wanted, label);
+    same_at!(rt, counting.counted(), wanted.counted(), label);
 }
 
 #[test]

@@ -1,12 +1,11 @@
 //! Lists of inputs that a keeper takes one behind the other, with one sync behind them.
-use crate::answers::{is_refused, sector_at};
-use crate::asserts::{same, same_at};
+use crate::answers::sector_at;
 use crate::inputs::{A, B, input, put, put_long, starts, take};
 use crate::keepers::{calls_since, crash, disk_of, files_in, files_on, opened, over};
 use std::process::Abort;
+use um_asserts::{is_refused, same, same_at, text, unit};
 use um_keeper::{Keeper, Receipt};
 use um_model::{JobMode, UnitVerb};
-use um_name::UnitName;
 use um_sector::{Disk, Fuse, MemDisk};
 use um_state::{Command, Event, Happening, Input};
 use um_tree::Tree;
@@ -21,7 +20,7 @@ enum Coming {
 
 /// The input that starts a unit.
 fn start(rt: &(impl AllocGlobal + Abort), unit: &str) -> Input {
-    let unit = UnitName::parse(rt.alloc(), unit).expect(rt, "no unit");
+    let unit = unit!(rt, unit);
     let command = Command::ForUnit {
         verb: UnitVerb::Start,
         unit,
@@ -53,7 +52,7 @@ fn text_of(rt: &(impl AllocGlobal + Abort), answer: Result<Receipt, Refusal>) ->
     match answer {
         Ok(receipt) => {
             starts(receipt);
-            String::from_str(rt.alloc(), "done").expect(rt, "no memory")
+            text!(rt, "done")
         }
         Err(refusal) => {
             let text = refusal.to_string(rt.alloc()).expect(rt, "no memory");
@@ -121,7 +120,7 @@ fn is_answered<D: Disk>(
     wanted: &str,
 ) {
     let answers = answered(rt, keeper, list).expect(rt, "refused");
-    same(rt, answers.as_str(), wanted);
+    same!(rt, answers.as_str(), wanted);
 }
 
 /// The number of syncs of a new store's disk that was opened.
@@ -132,8 +131,8 @@ fn syncs_of_open(rt: &(impl AllocGlobal + Abort)) -> usize {
 /// Asserts how often the disk was synced since it was opened, and how many files its store has.
 fn is_written(rt: &(impl AllocGlobal + Abort), disk: MemDisk, files: usize, syncs: usize) {
     let wanted = syncs_of_open(rt).checked_add(syncs);
-    same(rt, Some(disk.syncs()), wanted);
-    same(rt, files_on(rt, disk), files);
+    same!(rt, Some(disk.syncs()), wanted);
+    same!(rt, files_on(rt, disk), files);
 }
 
 #[test]
@@ -141,9 +140,9 @@ fn a_list_is_answered_in_its_order(rt: HostRuntime) {
     for (list, wanted, files, calls, syncs) in LISTS {
         let mut keeper = opened(&rt, 0);
         is_answered(&rt, &mut keeper, list, wanted);
-        same(&rt, files_in(&keeper), *files);
+        same!(&rt, files_in(&keeper), *files);
         let disk = disk_of(keeper);
-        same(&rt, calls_since(&rt, &disk), *calls);
+        same!(&rt, calls_since(&rt, &disk), *calls);
         is_written(&rt, disk.into_inner(), *files, *syncs);
     }
 }
@@ -173,11 +172,11 @@ const FAULTY: &[(&[Coming], &str)] = &[
 /// Asserts that the list was taken back, that later commands want the store opened again, and that a crash that loses what wasn't
 /// synced leaves nothing of it.
 fn is_taken_back(rt: &(impl AllocGlobal + Abort), mut keeper: Box<Keeper<Fuse<MemDisk>>>) {
-    same(rt, files_in(&keeper), 0);
+    same!(rt, files_in(&keeper), 0);
     let refused = answered(rt, &mut keeper, &[Coming::Put(A), Coming::Tick(1)]);
-    is_refused(rt, refused, "E17 Reopen");
+    is_refused!(rt, refused, "E17 Reopen");
     let left = crash(rt, disk_of(keeper), &[]);
-    same(rt, files_on(rt, left), 0);
+    same!(rt, files_on(rt, left), 0);
 }
 
 #[test]
@@ -228,13 +227,13 @@ fn a_fault_at_each_disk_call_of_a_list(rt: HostRuntime) {
     let mut keeper = opened(&rt, 5);
     let wanted = "done; E12 BadPath a.service; done; done; ";
     is_answered(&rt, &mut keeper, FOUR, wanted);
-    same(&rt, files_in(&keeper), 3);
+    same!(&rt, files_in(&keeper), 3);
 }
 
 /// Asserts the lowest bytes of the generation and of the number in a sector of the log, the number's last two.
 fn is_written_as(rt: &impl Abort, disk: &mut MemDisk, k: usize, wanted: (u8, u8, u8)) {
     let sector = sector_at(rt, disk, k);
-    same(rt, (sector[11], sector[18], sector[19]), wanted);
+    same!(rt, (sector[11], sector[18], sector[19]), wanted);
 }
 
 /// A keeper whose log has room for one record more.
@@ -257,7 +256,7 @@ fn a_list_goes_over_the_end_of_the_log(rt: HostRuntime) {
     is_written_as(&rt, &mut disk, 129, (3, 0, 0));
     is_written_as(&rt, &mut disk, 130, (3, 0, 1));
     is_written_as(&rt, &mut disk, 131, (2, 0, 2));
-    same(&rt, files_on(&rt, disk), 3);
+    same!(&rt, files_on(&rt, disk), 3);
 }
 
 /// Whether both sectors of a record from that one on were written.
@@ -292,7 +291,7 @@ fn unsynced(rt: &(impl AllocGlobal + Abort)) -> Fuse<MemDisk> {
         inputs.push(put_long(rt, path, 450)).expect(rt, "no memory");
     }
     let answers = told(rt, keeper.submit_all(inputs)).expect(rt, "refused");
-    same(rt, answers.as_str(), "E16 Device; E16 Device; E16 Device; ");
+    same!(rt, answers.as_str(), "E16 Device; E16 Device; E16 Device; ");
     disk_of(keeper)
 }
 
@@ -303,7 +302,7 @@ fn has_first(rt: &impl Abort, tree: &Tree, files: usize, row: usize) {
         tree.get(B).is_some(),
         tree.get(C).is_some(),
     );
-    same_at(rt, has, (files > 0, files > 1, files > 2), row);
+    same_at!(rt, has, (files > 0, files > 1, files > 2), row);
 }
 
 #[test]
@@ -313,11 +312,11 @@ fn a_crash_before_the_sync_leaves_a_beginning_of_the_list(rt: HostRuntime) {
         let picks = bits_of(number);
         let files = whole(&picks);
         let again = over(&rt, crash(&rt, unsynced(&rt), &picks));
-        same_at(&rt, files_in(&again), files, number);
+        same_at!(&rt, files_in(&again), files, number);
         has_first(&rt, again.state().tree(), files, number);
         let place = files.min(3);
         met[place] = met[place].saturating_add(1);
     }
     // without the first 48 of 64, with it and without the second 12, with both and without the third 3, with all 1
-    same(&rt, met, [48, 12, 3, 1]);
+    same!(&rt, met, [48, 12, 3, 1]);
 }

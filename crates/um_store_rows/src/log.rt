@@ -1,8 +1,8 @@
 //! The log of a store: its records and what a crash leaves of them.
-use crate::answers::{change, filled, is_refused, sector_at};
-use crate::asserts::{same, same_at};
+use crate::answers::{change, filled, sector_at};
 use std::fmt::Debug;
 use std::process::Abort;
+use um_asserts::{is_refused, same, same_at};
 use um_log::{Layout, Log, Record, scan};
 use um_sector::{Disk, Fuse, MemDisk};
 
@@ -25,7 +25,7 @@ fn append<D: Disk>(
 ) {
     for record in records {
         let fits = log.append(disk, record).expect(rt, "no record");
-        same(rt, fits, true);
+        same!(rt, fits, true);
     }
 }
 
@@ -49,7 +49,7 @@ fn has_records<D: Disk, R: Debug + Drop>(
 ) {
     let records = scan(rt.alloc(), disk, log.layout, log.generation).expect(rt, "no scan");
     let told = told(rt, &records);
-    same_at(rt, told.as_slice(), wanted, row);
+    same_at!(rt, told.as_slice(), wanted, row);
 }
 
 /// Where five records of one sector begin, and their lengths.
@@ -65,7 +65,7 @@ fn a_record_is_written_by_its_layout(rt: HostRuntime) {
         0x55, 0x4d, 0x4c, 0x47, 0, 0, 0, 0, 0, 0, 0, 2, 0, 0, 0, 0, 0, 0, 0, 4, 0, 0, 0, 0, 0, 0,
         0, 1, 0, 0, 0, 10, 0x01, 0x11, 0, 0, 0, 0, 0, 0x10, 0xc8, 0xe0,
     ];
-    same(&rt, sector_at(&rt, &mut disk, START + 4), filled(&written));
+    same!(&rt, sector_at(&rt, &mut disk, START + 4), filled(&written));
     has_records(&rt, &mut disk, &log, FIVE, "the end");
 }
 
@@ -82,7 +82,7 @@ fn torn(rt: &(impl AllocGlobal + Abort), disk: MemDisk, log: &mut Log) -> MemDis
     // the third call, the sync, fails
     let mut disk = Fuse::new(disk, 3);
     let failed = log.append(&mut disk, &[9; 481]);
-    is_refused(rt, failed, "E16 Device");
+    is_refused!(rt, failed, "E16 Device");
     disk.into_inner()
 }
 
@@ -102,7 +102,7 @@ fn leaves(
 fn a_torn_record_is_absent(rt: HostRuntime) {
     let (disk, mut log) = empty(&rt);
     let disk = torn(&rt, disk, &mut log);
-    same(&rt, (log.next, log.number), (START, 0));
+    same!(&rt, (log.next, log.number), (START, 0));
     for (picks, wanted) in TORN {
         leaves(&rt, &disk, &log, picks, wanted);
     }
@@ -112,9 +112,9 @@ fn a_torn_record_is_absent(rt: HostRuntime) {
 fn a_record_takes_the_least_number_of_sectors(rt: HostRuntime) {
     let (mut disk, mut log) = empty(&rt);
     append(&rt, &mut disk, &mut log, &[&[5; 480]]);
-    same(&rt, (log.next, disk.syncs()), (START + 1, 1));
+    same!(&rt, (log.next, disk.syncs()), (START + 1, 1));
     append(&rt, &mut disk, &mut log, &[&[6; 481]]);
-    same(&rt, (log.next, disk.syncs()), (START + 3, 2));
+    same!(&rt, (log.next, disk.syncs()), (START + 3, 2));
     append(&rt, &mut disk, &mut log, &[&[7]]);
     let wanted = [(START, 480), (START + 1, 481), (START + 3, 1)];
     has_records(&rt, &mut disk, &log, &wanted, "the end");
@@ -129,14 +129,14 @@ fn takes_calls<D: Disk>(
     calls: u64,
 ) {
     append(rt, disk, log, &[record]);
-    same(rt, disk.calls(), calls);
+    same!(rt, disk.calls(), calls);
 }
 
 /// Asserts that a scan reads of each of both records its parts, and behind them one sector.
 fn is_scanned<D: Disk>(rt: &(impl AllocGlobal + Abort), disk: &mut Fuse<D>, log: &Log) {
     let wanted = [(START, 480), (START + 1, 481)];
     has_records(rt, disk, log, &wanted, "the end");
-    same(rt, disk.calls(), 9);
+    same!(rt, disk.calls(), 9);
 }
 
 #[test]
@@ -151,15 +151,15 @@ fn each_call_makes_so_many_disk_calls(rt: HostRuntime) {
 /// Asserts that all writes are synced.
 fn is_synced(rt: &(impl AllocGlobal + Abort), disk: &MemDisk) {
     let unsynced = disk.unsynced(rt.alloc()).expect(rt, "no memory");
-    same(rt, unsynced.len(), 0);
+    same!(rt, unsynced.len(), 0);
 }
 
 /// Asserts that this record doesn't fit, and that nothing is written.
 fn does_not_fit(rt: &(impl AllocGlobal + Abort), disk: &mut MemDisk, log: &mut Log, record: &[u8]) {
     let before = (log.next, log.number, disk.syncs());
     let fits = log.append(disk, record).expect(rt, "refused");
-    same(rt, fits, false);
-    same(rt, (log.next, log.number, disk.syncs()), before);
+    same!(rt, fits, false);
+    same!(rt, (log.next, log.number, disk.syncs()), before);
     is_synced(rt, disk);
 }
 
@@ -171,14 +171,14 @@ fn fits_by_size(rt: &impl Abort, log: &Log) {
         log.fits(131_072),
         log.fits(131_073),
     ];
-    same(rt, fits, [false, true, true, false]);
+    same!(rt, fits, [false, true, true, false]);
 }
 
 /// Asserts that the longest record fits into an empty log once.
 fn fits_once(rt: &(impl AllocGlobal + Abort), disk: &mut MemDisk, log: &mut Log, long: &[u8]) {
     append(rt, disk, log, &[long]);
     // 274 sectors of 512
-    same(rt, log.next, START + 274);
+    same!(rt, log.next, START + 274);
     does_not_fit(rt, disk, log, long);
 }
 

@@ -1,11 +1,11 @@
 //! Stores that are made and opened: what stands there, and what is refused with which sector.
-use crate::answers::{is_refused, sector_at};
-use crate::asserts::same;
+use crate::answers::sector_at;
 use crate::inputs::{A, put, take};
 use crate::keepers::{
     calls_of_open, crash, disk_of, fails_checkpoints, files_on, has_layout, made, over,
 };
 use std::process::Abort;
+use um_asserts::{is_refused, same};
 use um_keeper::{Keeper, inspect};
 use um_sector::{Disk, Fuse, MemDisk, Sector};
 
@@ -53,7 +53,8 @@ fn refuses<D: Disk>(rt: &(impl AllocGlobal + Abort), disk: D, wanted: &str) -> D
     match Keeper::open(rt.alloc(), disk) {
         Ok(_) => rt.abort(),
         Err((refusal, disk)) => {
-            is_refused::<()>(rt, Err(refusal), wanted);
+            let answer: Result<(), _> = Err(refusal);
+            is_refused!(rt, answer, wanted);
             disk
         }
     }
@@ -113,9 +114,9 @@ const REFUSED: &[(&[Damage], &str)] = &[
 fn looks_alike(rt: &(impl AllocGlobal + Abort), disk: &mut MemDisk, wanted: &str) {
     let told = inspect(rt.alloc(), disk);
     if wanted == "E20 GenerationsSpent" {
-        same(rt, told.map(|told| told.records).ok(), Some(0));
+        same!(rt, told.map(|told| told.records).ok(), Some(0));
     } else {
-        is_refused(rt, told, wanted);
+        is_refused!(rt, told, wanted);
     }
 }
 
@@ -126,7 +127,7 @@ fn leaves(rt: &(impl AllocGlobal + Abort), changes: &[Damage], wanted: &str) {
     let mut disk = refuses(rt, changed(rt, changes), wanted);
     for k in 0..641 {
         let sector = sector_at(rt, &mut disk, k);
-        same(rt, sector, sector_at(rt, &mut before, k));
+        same!(rt, sector, sector_at(rt, &mut before, k));
     }
 }
 
@@ -146,7 +147,7 @@ fn an_image_with_a_later_sector_is_opened_above_it(rt: HostRuntime) {
         0, 0x25,
     ];
     has_layout(&rt, &mut disk, 1, &header);
-    same(&rt, files_on(&rt, disk), 0);
+    same!(&rt, files_on(&rt, disk), 0);
 }
 
 /// A disk whose store has one file, in its log.
@@ -186,9 +187,9 @@ fn one_file(rt: &(impl AllocGlobal + Abort), is_half: bool) -> MemDisk {
 fn adds_no_state(rt: &(impl AllocGlobal + Abort), is_half: bool, fails: u64) {
     for pick in 0..2 {
         let left = crashed(rt, Fuse::new(one_file(rt, is_half), fails), pick);
-        same(rt, files_on(rt, left), 1);
+        same!(rt, files_on(rt, left), 1);
         let left = crashed(rt, Fuse::making(one_file(rt, is_half), fails), pick);
-        same(rt, files_on(rt, left), 1);
+        same!(rt, files_on(rt, left), 1);
     }
 }
 
@@ -209,10 +210,10 @@ fn crashes_inside_an_open_add_no_state(rt: HostRuntime) {
     // its first sync and its first read: the header of the failed checkpoint stands, or the one before
     adds_no_state(&rt, true, 1);
     adds_no_state(&rt, true, 2);
-    same(&rt, files_on(&rt, half_checkpointed(&rt)), 1);
+    same!(&rt, files_on(&rt, half_checkpointed(&rt)), 1);
     // and an open that begins on what such a crash left
     let fails = call_before_last(&rt, calls, 2);
     let left = crashed(&rt, Fuse::new(filed(&rt), fails), 1);
     let disk = crashed(&rt, Fuse::new(left, fails), 1);
-    same(&rt, files_on(&rt, disk), 1);
+    same!(&rt, files_on(&rt, disk), 1);
 }

@@ -1,6 +1,6 @@
 //! Numberings along pairs, and cycles.
-use crate::asserts::same;
 use std::process::Abort;
+use um_asserts::same;
 use um_order::{Order, check};
 
 /// Nodes, pairs, and how many nodes are numbered where they can be; else the cycles of which one is told.
@@ -76,7 +76,7 @@ const ROWS: &[Row] = &[
 
 /// Asserts that each node has a number, that these ascend along each pair, and that no cycle is wanted.
 fn is_numbered(rt: &impl Abort, numbers: &[usize], row: &Row) {
-    same(rt, (numbers.len(), row.cycles.len()), (row.numbered, 0));
+    same!(rt, (numbers.len(), row.cycles.len()), (row.numbered, 0));
     for pair in row.pairs {
         let before = *numbers.get(pair.0).expect(rt, "no number");
         let after = *numbers.get(pair.1).expect(rt, "no number");

@@ -1,7 +1,7 @@
 //! The numbers and names of refusals, and how they print.
-use crate::asserts::{same, same_at, text};
 use std::alloc::{AllocError, Global};
 use std::process::Abort;
+use um_asserts::{same, same_at, text};
 use um_wire::{
     Limit, Refusal, Texts, bad_name, bad_path, bad_setting, clash, exists_at, job_conflict, masked,
     no_such_job, not_found, not_loaded, unknown_verb,
@@ -87,7 +87,7 @@ fn refusal(rt: &(impl AllocGlobal + Abort), number: u64, texts: [&str; 2]) -> Re
         1 => Refusal::BadRequest,
         9 => Refusal::OrderingCycle {
             units: Texts {
-                items: vec![in rt.alloc(); text(rt, texts[0]), text(rt, texts[1])].expect(
+                items: vec![in rt.alloc(); text!(rt, texts[0]), text!(rt, texts[1])].expect(
                     rt,
                     "no memory",
                 ),
@@ -113,9 +113,9 @@ fn refusals_print_their_number_name_and_details(rt: HostRuntime) {
         let refusal = refusal(&rt, *number, *texts);
         let shown = refusal.to_string(rt.alloc()).expect(&rt, "no memory");
         let told = (refusal.number(), refusal.name(), shown.as_str());
-        same(&rt, told, (*number, *name, *printed));
+        same!(&rt, told, (*number, *name, *printed));
     }
-    same(&rt, Refusal::from(AllocError).number(), 15);
+    same!(&rt, Refusal::from(AllocError).number(), 15);
 }
 
 const LIMITS: &[(Limit, &str)] = &[
@@ -129,6 +129,6 @@ const LIMITS: &[(Limit, &str)] = &[
 #[test]
 fn each_limit_has_its_word(rt: HostRuntime) {
     for (limit, wanted) in LIMITS {
-        same_at(&rt, limit.word(), *wanted, wanted);
+        same_at!(&rt, limit.word(), *wanted, wanted);
     }
 }

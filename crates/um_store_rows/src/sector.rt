@@ -1,8 +1,8 @@
 //! A disk in memory, its crashes, and a disk that fails a call.
 use crate::answers::{fails, sector_at};
-use crate::asserts::{same, same_at};
 use std::fmt::Debug;
 use std::process::Abort;
+use um_asserts::{same, same_at};
 use um_sector::{
     Disk, Fault, Fields, Fuse, MemDisk, Sector, u32_at, u64_at, write_blank, write_run_synced,
 };
@@ -25,13 +25,13 @@ fn ends<D: Disk, R: Debug + Drop>(rt: &impl Abort, disk: &mut D, wanted: [u8; 3]
     for (k, end) in ends.iter_mut().enumerate() {
         *end = sector_at(rt, disk, k)[511];
     }
-    same_at(rt, ends, wanted, row);
+    same_at!(rt, ends, wanted, row);
 }
 
 /// Asserts that these writes are not synced.
 fn is_unsynced(rt: &(impl AllocGlobal + Abort), disk: &MemDisk, wanted: &[(usize, usize)]) {
     let unsynced = disk.unsynced(rt.alloc()).expect(rt, "no memory");
-    same(rt, unsynced.as_slice(), wanted);
+    same!(rt, unsynced.as_slice(), wanted);
 }
 
 /// Syncs the disk.
@@ -41,7 +41,7 @@ fn sync<D: Disk>(rt: &impl Abort, disk: &mut D) {
 
 /// Asserts how often the disk was synced.
 fn has_syncs(rt: &impl Abort, disk: &MemDisk, count: usize) {
-    same(rt, disk.syncs(), count);
+    same!(rt, disk.syncs(), count);
 }
 
 /// Asserts that a write of this byte to the sector fails.
@@ -58,7 +58,7 @@ fn fails_a_read<D: Disk>(rt: &(impl AllocGlobal + Abort), disk: &mut D, k: usize
 /// Asserts that a fault prints as this text.
 fn a_fault_prints(rt: &(impl AllocGlobal + Abort), wanted: &str) {
     let printed = Fault.to_string(rt.alloc()).expect(rt, "no memory");
-    same(rt, printed.as_str(), wanted);
+    same!(rt, printed.as_str(), wanted);
 }
 
 #[test]
@@ -67,7 +67,7 @@ fn a_disk_in_memory_gives_what_was_written_last(rt: HostRuntime) {
     ends(&rt, &mut disk, [0, 0, 0], "the begin");
     put(&rt, &mut disk, &[(1, 7), (1, 8)]);
     ends(&rt, &mut disk, [0, 8, 0], "two writes");
-    same(&rt, disk.sectors(), 3);
+    same!(&rt, disk.sectors(), 3);
     has_syncs(&rt, &disk, 0);
     sync(&rt, &mut disk);
     has_syncs(&rt, &disk, 1);
@@ -130,7 +130,7 @@ fn a_crash_leaves_any_candidate_of_each_sector(rt: HostRuntime) {
 
 /// Asserts how many calls the disk took.
 fn has_calls(rt: &impl Abort, disk: &Fuse<MemDisk>, count: u64) {
-    same(rt, disk.calls(), count);
+    same!(rt, disk.calls(), count);
 }
 
 /// Asserts that the disk was synced once and has both writes.
@@ -144,7 +144,7 @@ fn a_fuse_fails_one_call_and_goes_on(rt: HostRuntime) {
     // the third call fails
     let mut disk = Fuse::new(empty(&rt), 3);
     put(&rt, &mut disk, &[(0, 1)]);
-    same(&rt, sector_at(&rt, &mut disk, 0)[511], 1);
+    same!(&rt, sector_at(&rt, &mut disk, 0)[511], 1);
     fails_a_write(&rt, &mut disk, 0, 2);
     has_calls(&rt, &disk, 3);
     ends(&rt, &mut disk, [1, 0, 0], "behind the failure");
@@ -210,5 +210,5 @@ fn fields_lie_one_behind_the_other_and_zeros_behind_them(rt: HostRuntime) {
     fields.put_u64(3);
     let sector = fields.sector();
     let got = (sector[4], u64_at(&sector, 6), u32_at(&sector, 14));
-    same(&rt, got, (1, 3, 0));
+    same!(&rt, got, (1, 3, 0));
 }

@@ -1,8 +1,8 @@
 //! The two slots of a store and its sector 0.
-use crate::answers::{change, filled, is_refused, sector_at};
-use crate::asserts::{same, same_at};
+use crate::answers::{change, filled, sector_at};
 use std::fmt::Debug;
 use std::process::Abort;
+use um_asserts::{is_refused, same, same_at};
 use um_sector::{Disk, Fuse, MemDisk, Sector};
 use um_slot::{Home, Layout, Slot, newest, read_superblock, superblock, write_first, write_other};
 
@@ -24,13 +24,13 @@ fn stores<D: Disk, R: Debug + Drop>(
     let found = newest(rt.alloc(), disk, small(rt)).expect(rt, "no snapshot");
     let (home, size, byte) = wanted;
     let body = vec![in rt.alloc(); byte; size].expect(rt, "no memory");
-    same_at(rt, (found.home, found.body), (home, body), row);
+    same_at!(rt, (found.home, found.body), (home, body), row);
 }
 
 /// Asserts that no header is well-formed.
 fn has_none<D: Disk>(rt: &(impl AllocGlobal + Abort), disk: &mut D) {
     let found = newest(rt.alloc(), disk, small(rt));
-    is_refused(rt, found, "E18 Damaged 1");
+    is_refused!(rt, found, "E18 Damaged 1");
 }
 
 /// An empty disk.
@@ -43,7 +43,7 @@ fn first(rt: &(impl AllocGlobal + Abort)) -> MemDisk {
     let mut disk = empty(rt);
     let bytes = vec![in rt.alloc(); 7u8; 37].expect(rt, "no memory");
     let written = write_first(&mut disk, small(rt), &bytes).expect(rt, "refused");
-    same(rt, written, Some(A1));
+    same!(rt, written, Some(A1));
     disk
 }
 
@@ -76,13 +76,13 @@ const ILL: &[(usize, u8, &str)] = &[
 fn has_places(rt: &impl Abort, layout: Layout) {
     let log = (layout.log_start(1), layout.log_end(1));
     let told = (log, layout.sectors(), layout.record_limit(1));
-    same(rt, told, ((129, 641), 641, 131_072));
+    same!(rt, told, ((129, 641), 641, 131_072));
 }
 
 /// Asserts that the sector tells the layout of the small store.
 fn tells_layout(rt: &impl Abort, sector_0: &Sector) {
     let read = read_superblock(sector_0).expect(rt, "no layout");
-    same(rt, (read.slot_sectors, read.log_sectors), (64, 512));
+    same!(rt, (read.slot_sectors, read.log_sectors), (64, 512));
 }
 
 /// Asserts that the sector is refused with this byte in the place of another.
@@ -91,7 +91,7 @@ fn is_ill_with(rt: &(impl AllocGlobal + Abort), sector_0: &Sector, at: usize, by
     disk.write(0, sector_0).expect(rt, "not written");
     change(rt, &mut disk, 0, at, byte);
     let sector = sector_at(rt, &mut disk, 0);
-    is_refused(rt, read_superblock(&sector), why);
+    is_refused!(rt, read_superblock(&sector), why);
 }
 
 #[test]
@@ -101,7 +101,7 @@ fn sector_0_is_written_by_its_layout_and_tells_it(rt: HostRuntime) {
     let wanted = [
         0x55, 0x4d, 0x44, 0x49, 0x53, 0x4b, 0x30, 0x31, 0, 0, 0, 0x40, 0, 0, 2, 0,
     ];
-    same(&rt, sector_0, filled(&wanted));
+    same!(&rt, sector_0, filled(&wanted));
     tells_layout(&rt, &sector_0);
     for (at, byte, why) in ILL {
         is_ill_with(&rt, &sector_0, *at, *byte, why);
@@ -115,9 +115,9 @@ fn the_first_header_is_written_by_its_layout(rt: HostRuntime) {
         0x55, 0x4d, 0x53, 0x4c, 0x4f, 0x54, 0x30, 0x31, 0, 0, 0, 0, 0, 0, 0, 1, 0, 0, 0, 0, 0, 0,
         0, 0x25,
     ];
-    same(&rt, sector_at(&rt, &mut disk, 1), filled(&header));
-    same(&rt, sector_at(&rt, &mut disk, 2), filled(&[7; 37]));
-    same(&rt, disk.syncs(), 2);
+    same!(&rt, sector_at(&rt, &mut disk, 1), filled(&header));
+    same!(&rt, sector_at(&rt, &mut disk, 2), filled(&[7; 37]));
+    same!(&rt, disk.syncs(), 2);
     stores(&rt, &mut disk, OLD, "the first");
 }
 
@@ -148,7 +148,7 @@ const CRASHES: &[(u64, [usize; 2], Stored)] = &[
 /// The disk behind a writing of generation 2 that failed, with a body of two sectors.
 fn failed(rt: &(impl AllocGlobal + Abort), mut disk: Fuse<MemDisk>) -> MemDisk {
     let written = write_other(&mut disk, small(rt), A1, &[8; 513]);
-    is_refused(rt, written, "E16 Device");
+    is_refused!(rt, written, "E16 Device");
     disk.into_inner()
 }
 
@@ -193,8 +193,8 @@ fn body_of(rt: &(impl AllocGlobal + Abort), size: usize) -> Vec<u8> {
 fn takes_no_long_body(rt: &(impl AllocGlobal + Abort), disk: &mut MemDisk) {
     has_none(rt, disk);
     let written = write_first(disk, small(rt), &body_of(rt, 32_257));
-    same(rt, written.expect(rt, "refused"), None);
-    same(rt, disk.syncs(), 0);
+    same!(rt, written.expect(rt, "refused"), None);
+    same!(rt, disk.syncs(), 0);
     has_none(rt, disk);
 }
 
@@ -241,14 +241,14 @@ fn is_placed(
 ) {
     let written = write_other(disk, small(rt), before, &body_of(rt, size));
     match wanted {
-        Ok(home) => same(rt, written.expect(rt, "refused"), *home),
-        Err(why) => is_refused(rt, written, why),
+        Ok(home) => same!(rt, written.expect(rt, "refused"), *home),
+        Err(why) => is_refused!(rt, written, why),
     }
 }
 
 /// Asserts how often the disk was synced.
 fn has_syncs(rt: &impl Abort, disk: &MemDisk, count: usize) {
-    same(rt, disk.syncs(), count);
+    same!(rt, disk.syncs(), count);
 }
 
 #[test]
@@ -264,13 +264,13 @@ fn a_body_has_up_to_32_256_bytes_and_none_stands_behind_the_last_generation(rt: 
 /// Writes generation 2 behind the first.
 fn writes_second<D: Disk>(rt: &impl Abort, disk: &mut D) {
     let written = write_other(disk, small(rt), A1, &[8; 513]);
-    same(rt, written.expect(rt, "refused"), Some(B2));
+    same!(rt, written.expect(rt, "refused"), Some(B2));
 }
 
 /// Asserts that all writes are synced.
 fn is_synced(rt: &(impl AllocGlobal + Abort), disk: &MemDisk) {
     let unsynced = disk.unsynced(rt.alloc()).expect(rt, "no memory");
-    same(rt, unsynced.len(), 0);
+    same!(rt, unsynced.len(), 0);
 }
 
 /// Asserts that of both snapshots with equal generations that in slot A counts.
@@ -285,10 +285,10 @@ fn each_call_makes_so_many_disk_calls_and_of_equal_generations_slot_a_counts(rt:
     let mut disk = Fuse::new(first(&rt), 0);
     // a body of two sectors, its sync, the header, its sync
     writes_second(&rt, &mut disk);
-    same(&rt, disk.calls(), 5);
+    same!(&rt, disk.calls(), 5);
     // two headers and the body
     stores(&rt, &mut disk, NEW, "the second");
-    same(&rt, disk.calls(), 9);
+    same!(&rt, disk.calls(), 9);
     counts_slot_a(&rt, disk.into_inner());
 }
 

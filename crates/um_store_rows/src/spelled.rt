@@ -1,13 +1,13 @@
 //! Values and the bytes that spell them.
-use crate::asserts::{same, same_at};
 use std::fmt::Debug;
 use std::process::Abort;
+use um_asserts::{same, same_at};
 use um_wire::{Canon, spell};
 
 /// Asserts that the value is spelled by these bytes.
 fn has_spelling<T: Canon>(rt: &(impl AllocGlobal + Abort), value: &T, bytes: &[u8]) {
     let spelled = spell(rt.alloc(), value).expect(rt, "no memory");
-    same(rt, spelled.as_slice(), bytes);
+    same!(rt, spelled.as_slice(), bytes);
 }
 
 /// The bytes with others behind them.
@@ -24,7 +24,7 @@ pub fn is_read<T: Canon + Drop>(rt: &(impl AllocGlobal + Abort), bytes: &[u8]) {
     let longer = followed(rt, bytes);
     let found = T::get(rt.alloc(), longer.as_slice()).expect(rt, "no memory");
     let (read, count) = found.expect(rt, "what is spelled isn't read");
-    same(rt, count, bytes.len());
+    same!(rt, count, bytes.len());
     has_spelling(rt, &read, bytes);
 }
 
@@ -35,7 +35,7 @@ pub fn is_not_read<T: Canon + Drop, R: Debug + Drop>(
     row: R,
 ) {
     let read = T::get(rt.alloc(), bytes).expect(rt, "no memory");
-    same_at(rt, read.is_none(), true, row);
+    same_at!(rt, read.is_none(), true, row);
 }
 
 /// Asserts that the value is spelled by these bytes, and is read from them with others behind them.

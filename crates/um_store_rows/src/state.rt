@@ -1,7 +1,7 @@
 //! The canonical bytes of the state: typed from the format, and each condition broken by one byte.
-use crate::asserts::{same_at, text, unit};
 use crate::spelled::{are_not_read, are_read, hex, is_not_read, is_read, is_spelled};
 use std::process::Abort;
+use um_asserts::{same_at, text, unit};
 use um_model::{
     Counted, Deadline, End, JobState, Moment, NextNumber, ProcessNumber, SubState, UnitJobs,
     UnitResult, UnitState,
@@ -256,12 +256,12 @@ fn unit_state(rt: &impl Abort, of: &Standing) -> UnitState {
 
 /// Has the unit stand so.
 fn set(rt: &(impl AllocGlobal + Abort), state: &mut State, name: &str, of: UnitState) {
-    state.set_unit(&unit(rt, name), of).expect(rt, "no memory");
+    state.set_unit(&unit!(rt, name), of).expect(rt, "no memory");
 }
 
 /// Boots.
 fn boot(rt: &(impl AllocGlobal + Abort), state: &mut State) {
-    let boot = BootId::new(text(rt, "b1")).expect(rt, "no boot");
+    let boot = BootId::new(text!(rt, "b1")).expect(rt, "no boot");
     state.begin_boot(rt.alloc(), boot);
 }
 
@@ -285,7 +285,7 @@ fn put_jobs(rt: &(impl AllocGlobal + Abort), state: &mut State) {
         stop: Some(JobState::Waiting),
         start: Some(JobState::Waiting),
     };
-    let jobs: Result<_, _> = state.set_jobs(&unit(rt, "1.service"), both);
+    let jobs: Result<_, _> = state.set_jobs(&unit!(rt, "1.service"), both);
     jobs.expect(rt, "no memory");
 }
 
@@ -329,7 +329,7 @@ fn copied(rt: &(impl AllocGlobal + Abort), state: &State) -> Box<State> {
 fn stands(rt: &impl Abort, state: &State, path: &str, wanted: (bool, bool)) {
     let in_hand = state.tree().get(path).is_some();
     let is_loaded = state.loaded().get(path).is_some();
-    same_at(rt, (in_hand, is_loaded), wanted, path);
+    same_at!(rt, (in_hand, is_loaded), wanted, path);
 }
 
 /// Asserts that what is put into a copy stands in its tree in hand alone.
@@ -421,7 +421,7 @@ const UNREACHED: &[(u64, &str, &str)] = &[
 
 /// Asserts that a state has no spelling, and that no front of the bytes above spells one with this part in the place of that.
 fn is_no_state(rt: &(impl AllocGlobal + Abort), state: &State, part: &str, other: &str, row: &str) {
-    same_at(rt, spell(rt.alloc(), state).is_err(), true, row);
+    same_at!(rt, spell(rt.alloc(), state).is_err(), true, row);
     let text = STATE.replace(rt.alloc(), part, other);
     let text = text.expect(rt, "no memory");
     state_is_not_read(rt, hex(rt, text.as_str()).as_slice(), row);
@@ -513,7 +513,7 @@ fn the_id_of_a_boot_has_64_bytes_at_most_and_a_name_names_a_unit(rt: HostRuntime
     let long = padded(&rt, "00000041", 65, 97);
     are_read::<BootId>(&rt, &[id.as_slice()], &[long.as_slice()]);
     let name = hex(&rt, "00000006612e70617468");
-    is_spelled(&rt, &unit(&rt, "a.path"), name.as_slice());
+    is_spelled(&rt, &unit!(&rt, "a.path"), name.as_slice());
     let dash = hex(&rt, "00000006612d70617468");
     let short = hex(&rt, "00000007612e70617468");
     are_not_read::<UnitName>(&rt, &[dash.as_slice(), short.as_slice(), &[]]);

@@ -1,11 +1,11 @@
 //! Inputs that a keeper takes: what it writes of them, what a crash leaves, what it refuses.
-use crate::answers::{is_refused, sector_at};
-use crate::asserts::same;
+use crate::answers::sector_at;
 use crate::inputs::{A, B, input, put, put_long, submit, take};
 use crate::keepers::{
     calls_since, crash, disk_of, fails_checkpoints, files_in, files_on, has_layout, opened, over,
 };
 use std::process::Abort;
+use um_asserts::{is_refused, same, unit};
 use um_keeper::{Keeper, OpenedStore};
 use um_model::{End, JobMode, Moment, UnitVerb};
 use um_name::UnitName;
@@ -44,13 +44,13 @@ pub fn ended(rt: &(impl AllocGlobal + Abort)) -> Box<Keeper<Fuse<MemDisk>>> {
     take(rt, &mut keeper, put(rt, A, AGAIN));
     let reload = Event::Commanded(Command::DaemonReload);
     take_at(rt, &mut keeper, 0, reload);
-    let unit = UnitName::parse(rt.alloc(), "a.service").expect(rt, "no unit");
-    same(rt, take_at(rt, &mut keeper, 0, start_of(unit)), 1);
+    let unit = unit!(rt, "a.service");
+    same!(rt, take_at(rt, &mut keeper, 0, start_of(unit)), 1);
     let end = Event::Happened(Happening::ProcessEnded {
         number: 1,
         end: End::Code(1),
     });
-    same(rt, take_at(rt, &mut keeper, 1_000_000, end), 0);
+    same!(rt, take_at(rt, &mut keeper, 1_000_000, end), 0);
     keeper
 }
 
@@ -62,7 +62,7 @@ fn opened_again<D: Disk>(
     let before = spell(rt.alloc(), keeper.state()).expect(rt, "no memory");
     let again = over(rt, disk_of(keeper));
     let after = spell(rt.alloc(), again.state()).expect(rt, "no memory");
-    same(rt, after.as_slice(), before.as_slice());
+    same!(rt, after.as_slice(), before.as_slice());
     again
 }
 
@@ -74,14 +74,14 @@ fn ticked(
 ) -> Box<Keeper<Fuse<MemDisk>>> {
     let mut keeper = ended(rt);
     let tick = Event::Happened(Happening::Tick);
-    same(rt, take_at(rt, &mut keeper, micros, tick), starts);
+    same!(rt, take_at(rt, &mut keeper, micros, tick), starts);
     keeper
 }
 
 #[test]
 fn a_tick_is_a_record_where_it_restarts_and_else_no_disk_call(rt: HostRuntime) {
     let before = disk_of(ended(&rt)).calls();
-    same(&rt, disk_of(ticked(&rt, 1_099_999, 0)).calls(), before);
+    same!(&rt, disk_of(ticked(&rt, 1_099_999, 0)).calls(), before);
     let mut disk = disk_of(opened_again(&rt, ticked(&rt, 1_100_000, 1)));
     // its name, generation, number, part, parts, length and bytes
     let written = [
@@ -111,8 +111,8 @@ fn finds(
         generation,
         records,
     };
-    same(rt, again.opened(), wanted);
-    same(rt, files_in(&again), 2);
+    same!(rt, again.opened(), wanted);
+    same!(rt, files_in(&again), 2);
 }
 
 #[test]
@@ -136,8 +136,8 @@ fn a_full_log_makes_a_checkpoint_first(rt: HostRuntime) {
     }
     let mut disk = disk_of(keeper).into_inner();
     let sector = sector_at(&rt, &mut disk, START);
-    same(&rt, lowest_bytes(&sector), (3, 0));
-    same(&rt, files_on(&rt, disk), 1);
+    same!(&rt, lowest_bytes(&sector), (3, 0));
+    same!(&rt, files_on(&rt, disk), 1);
 }
 
 #[test]
@@ -145,7 +145,7 @@ fn a_record_takes_a_call_a_part_and_a_sync(rt: HostRuntime) {
     for (length, calls) in [(449, 2), (450, 3)] {
         let mut keeper = opened(&rt, 0);
         take(&rt, &mut keeper, put_long(&rt, A, length));
-        same(&rt, calls_since(&rt, &disk_of(keeper)), calls);
+        same!(&rt, calls_since(&rt, &disk_of(keeper)), calls);
     }
 }
 
@@ -156,7 +156,7 @@ fn refuses_long<D: Disk>(
     length: usize,
     wanted: &str,
 ) {
-    is_refused(rt, submit(keeper, put_long(rt, A, length)), wanted);
+    is_refused!(rt, submit(keeper, put_long(rt, A, length)), wanted);
 }
 
 #[test]
@@ -166,7 +166,7 @@ fn what_just_fits_is_opened_again_and_a_byte_more_is_refused_without_a_disk_call
     let _ = opened_again(&rt, keeper);
     let mut keeper = opened(&rt, 0);
     refuses_long(&rt, &mut keeper, 31_956, "E14 NoRoom");
-    same(&rt, calls_since(&rt, &disk_of(keeper)), 0);
+    same!(&rt, calls_since(&rt, &disk_of(keeper)), 0);
 }
 
 #[test]
@@ -175,12 +175,12 @@ fn a_store_at_the_last_moment_is_opened_again(rt: HostRuntime) {
     let reload = Event::Commanded(Command::DaemonReload);
     take_at(&rt, &mut keeper, 1 << 62, reload);
     let again = over(&rt, disk_of(keeper));
-    same(&rt, Some(again.state().clock()), Moment::new(1 << 62));
+    same!(&rt, Some(again.state().clock()), Moment::new(1 << 62));
 }
 
 /// Asserts that a file is refused, since the store is to be opened again.
 fn wants_opening<D: Disk>(rt: &(impl AllocGlobal + Abort), keeper: &mut Keeper<D>) {
-    is_refused(rt, submit(keeper, put(rt, A, "")), "E17 Reopen");
+    is_refused!(rt, submit(keeper, put(rt, A, "")), "E17 Reopen");
 }
 
 #[test]
@@ -190,7 +190,7 @@ fn a_failed_checkpoint_wants_the_store_opened_again(rt: HostRuntime) {
     fails_checkpoints(&rt, &mut keeper);
     wants_opening(&rt, &mut keeper);
     let again = over(&rt, disk_of(keeper));
-    same(&rt, again.state().clock(), Moment::FIRST);
+    same!(&rt, again.state().clock(), Moment::FIRST);
     // generation 3 was written and is read: the next one is 4, in slot B
     let header = [
         0x55, 0x4d, 0x53, 0x4c, 0x4f, 0x54, 0x30, 0x31, 0, 0, 0, 0, 0, 0, 0, 4, 0, 0, 0, 0, 0, 0,
@@ -213,11 +213,11 @@ const TORN: &[([usize; 2], usize)] = &[([0, 0], 0), ([1, 0], 0), ([0, 1], 0), ([
 #[test]
 fn a_torn_record_is_absent_and_one_in_its_place_counts_alone(rt: HostRuntime) {
     for (picks, files) in TORN {
-        same(&rt, files_in(&left(&rt, picks)), *files);
+        same!(&rt, files_in(&left(&rt, picks)), *files);
     }
     let mut keeper = left(&rt, &[0, 1]);
     take(&rt, &mut keeper, put_long(&rt, B, 450));
     let again = over(&rt, disk_of(keeper));
-    same(&rt, files_in(&again), 1);
-    same(&rt, again.state().tree().get(B).is_some(), true);
+    same!(&rt, files_in(&again), 1);
+    same!(&rt, again.state().tree().get(B).is_some(), true);
 }

@@ -1,6 +1,6 @@
 //! Deadlines by unit.
-use crate::asserts::{same, unit};
 use std::process::Abort;
+use um_asserts::{same, unit};
 use um_model::Deadline;
 use um_timer::Timers;
 
@@ -8,7 +8,9 @@ use um_timer::Timers;
 fn set(rt: &(impl AllocGlobal + Abort), timers: &mut Timers, deadlines: &[(&str, u64)]) {
     for (name, micros) in deadlines {
         let deadline = Deadline::new(*micros).expect(rt, "no deadline");
-        timers.set(unit(rt, name), deadline).expect(rt, "no memory");
+        timers
+            .set(unit!(rt, name), deadline)
+            .expect(rt, "no memory");
     }
 }
 
@@ -22,18 +24,18 @@ fn first(timers: &Timers) -> Option<(u64, &str)> {
 
 /// Asserts which timer is due first: its deadline in microseconds, and its unit.
 fn is_first(rt: &impl Abort, timers: &Timers, wanted: Option<(u64, &str)>) {
-    same(rt, first(timers), wanted);
+    same!(rt, first(timers), wanted);
 }
 
 /// Asserts the deadline of `a.service`, in microseconds.
 fn has_deadline(rt: &(impl AllocGlobal + Abort), timers: &Timers, micros: u64) {
-    let name = unit(rt, "a.service");
-    same(rt, timers.get(&name), Deadline::new(micros));
+    let name = unit!(rt, "a.service");
+    same!(rt, timers.get(&name), Deadline::new(micros));
 }
 
 /// Takes the deadline of the unit away.
 fn clear(rt: &(impl AllocGlobal + Abort), timers: &mut Timers, name: &str) {
-    timers.clear(&unit(rt, name));
+    timers.clear(&unit!(rt, name));
 }
 
 /// The same timers again.

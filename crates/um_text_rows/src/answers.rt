@@ -1,6 +1,6 @@
 //! What texts and units are read as, and the trees that rows stand on.
-use crate::asserts::text;
 use std::process::Abort;
+use um_asserts::text;
 use um_tree::{Entry, Tree};
 use um_wire::Refusal;
 use um_words::{Command, Variable};
@@ -14,7 +14,7 @@ pub fn repeated(rt: &(impl AllocGlobal + Abort), text: &str, count: usize) -> St
 pub fn list(rt: &(impl AllocGlobal + Abort), texts: &[&str]) -> Vec<String> {
     let mut list = Vec::new(rt.alloc());
     for item in texts {
-        list.push(text(rt, item)).expect(rt, "no memory");
+        list.push(text!(rt, item)).expect(rt, "no memory");
     }
     list
 }
@@ -24,8 +24,8 @@ pub fn variables_of(rt: &(impl AllocGlobal + Abort), list: &[(&str, &str)]) -> V
     let mut variables = Vec::new(rt.alloc());
     for (name, value) in list {
         let variable = Variable {
-            name: text(rt, name),
-            value: text(rt, value),
+            name: text!(rt, name),
+            value: text!(rt, value),
         };
         variables.push(variable).expect(rt, "no memory");
     }

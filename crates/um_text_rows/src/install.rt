@@ -1,7 +1,7 @@
 //! What each verb that changes the links of a unit makes and removes.
 use crate::answers::{list, tree_of};
-use crate::asserts::{same_at, unit};
 use std::process::Abort;
+use um_asserts::{same_at, unit};
 use um_install::{Installed, disable, enable, mask, unmask};
 use um_name::UnitName;
 use um_tree::{Entry, Tree};
@@ -65,13 +65,13 @@ fn install(
 
 /// Asserts that the verb of the row made these links and removed those.
 fn made_and_removed(rt: &(impl AllocGlobal + Abort), installed: &Installed, row: &Row) {
-    same_at(rt, &installed.made, &list(rt, row.made), row.verb);
-    same_at(rt, &installed.removed, &list(rt, row.removed), row.verb);
+    same_at!(rt, &installed.made, &list(rt, row.made), row.verb);
+    same_at!(rt, &installed.removed, &list(rt, row.removed), row.verb);
 }
 
 /// The tree behind the verb of the row, which makes and removes those links.
 fn installed(rt: &(impl AllocGlobal + Abort), tree: &Tree, row: &Row) -> Box<Tree> {
-    let installed = install(rt, row.verb, tree, &unit(rt, "a.service"));
+    let installed = install(rt, row.verb, tree, &unit!(rt, "a.service"));
     let installed = installed.expect(rt, "refused");
     made_and_removed(rt, &installed, row);
     Box::new(rt.alloc(), installed.tree).expect(rt, "no memory")
@@ -84,5 +84,5 @@ fn each_verb_makes_and_removes_its_links(rt: HostRuntime) {
         tree = installed(&rt, tree.as_ref(), row);
     }
     let unmasked = tree.as_ref().get(MASK).is_none();
-    same_at(&rt, unmasked, true, "unmask");
+    same_at!(&rt, unmasked, true, "unmask");
 }

@@ -1,8 +1,8 @@
 //! Unit names, their parts and escapes.
 use crate::answers::repeated;
-use crate::asserts::{is_refused, same, same_at, unit};
 use std::collections::BTreeMap;
 use std::process::Abort;
+use um_asserts::{is_refused_at, same, same_at, unit};
 use um_name::{Suffix, UnitName, escape, is_unit_name, suffix_of, unescape};
 
 /// Names.
@@ -32,8 +32,8 @@ const TAKEN: &[&str] = &[
 #[test]
 fn names_are_taken(rt: HostRuntime) {
     for text in TAKEN {
-        let name = unit(&rt, text);
-        same(&rt, (name.as_str(), is_unit_name(text)), (*text, true));
+        let name = unit!(&rt, text);
+        same!(&rt, (name.as_str(), is_unit_name(text)), (*text, true));
     }
 }
 
@@ -73,8 +73,8 @@ fn other_texts_are_refused_as_names(rt: HostRuntime) {
     for text in REFUSED {
         let wanted = format!(in rt.alloc(); "E3 BadName {text}").expect(&rt, "no memory");
         let refused = UnitName::parse(rt.alloc(), text);
-        is_refused(&rt, refused, Some(wanted.as_str()), text);
-        same_at(&rt, is_unit_name(text), false, text);
+        is_refused_at!(&rt, refused, Some(wanted.as_str()), text);
+        same_at!(&rt, is_unit_name(text), false, text);
     }
 }
 
@@ -84,7 +84,7 @@ fn a_name_has_at_most_255_bytes(rt: HostRuntime) {
         let prefix = repeated(&rt, "a", size);
         let text = format!(in rt.alloc(); "{prefix}.service").expect(&rt, "no memory");
         let taken = 9 <= size + 8 && size + 8 <= 255;
-        same_at(&rt, is_unit_name(text.as_str()), taken, size);
+        same_at!(&rt, is_unit_name(text.as_str()), taken, size);
     }
 }
 
@@ -137,23 +137,23 @@ const PARTS: &[Parts] = &[
 
 /// Asserts that the made name is that one; None: that there is none.
 fn is_named(rt: &impl Abort, made: Option<UnitName>, wanted: Option<&str>, row: &str) {
-    same_at(rt, made.as_ref().map(|made| made.as_str()), wanted, row);
+    same_at!(rt, made.as_ref().map(|made| made.as_str()), wanted, row);
 }
 
 /// Asserts that the name has the parts of the row.
 fn has_parts(rt: &impl Abort, name: &UnitName, row: &Parts) {
     let parts = (name.prefix(), name.instance(), Some(name.suffix()));
     let wanted = (row.prefix, row.instance, suffix_of(row.name));
-    same_at(rt, parts, wanted, row.name);
+    same_at!(rt, parts, wanted, row.name);
     let is_template = row.instance == Some("");
     let told = (name.suffix(), name.is_template());
-    same_at(rt, told, (row.suffix, is_template), row.name);
+    same_at!(rt, told, (row.suffix, is_template), row.name);
 }
 
 #[test]
 fn the_parts_of_a_name_are_told(rt: HostRuntime) {
     for row in PARTS {
-        let name = unit(&rt, row.name);
+        let name = unit!(&rt, row.name);
         has_parts(&rt, &name, row);
         let made = name.template().expect(&rt, "no memory");
         is_named(&rt, made, row.template, row.name);
@@ -213,35 +213,35 @@ fn with_instance(
 #[test]
 fn an_instance_is_put_into_a_name(rt: HostRuntime) {
     for row in INSTANCES {
-        let made = with_instance(&rt, &unit(&rt, row.name), row.instance);
+        let made = with_instance(&rt, &unit!(&rt, row.name), row.instance);
         is_named(&rt, made, row.made, row.name);
     }
 }
 
 #[test]
 fn an_instance_leaves_a_name_of_255_bytes_at_most(rt: HostRuntime) {
-    let name = unit(&rt, "a@.service");
+    let name = unit!(&rt, "a@.service");
     for size in 0..300_usize {
         let instance = repeated(&rt, "x", size);
         let made = with_instance(&rt, &name, instance.as_str());
-        same_at(&rt, made.is_some(), size + 10 <= 255, size);
+        same_at!(&rt, made.is_some(), size + 10 <= 255, size);
     }
 }
 
 /// Asserts that the copy is a copy of the name.
 fn is_copy(rt: &impl Abort, copy: &UnitName, name: &UnitName) {
-    same(rt, copy, name);
+    same!(rt, copy, name);
     let told = (copy.as_str(), copy.suffix());
-    same(rt, told, ("b@x.service", Suffix::Service));
+    same!(rt, told, ("b@x.service", Suffix::Service));
 }
 
 #[test]
 fn names_are_copied_and_shown(rt: HostRuntime) {
-    let name = unit(&rt, "b@x.service");
+    let name = unit!(&rt, "b@x.service");
     let copied: Result<_, _> = name.copy();
     is_copy(&rt, copied.as_ref().expect(&rt, "no memory"), &name);
     let shown = format!(in rt.alloc(); "{name} {name:?}").expect(&rt, "no memory");
-    same(&rt, shown.as_str(), r#"b@x.service "b@x.service""#);
+    same!(&rt, shown.as_str(), r#"b@x.service "b@x.service""#);
 }
 
 /// A map of units, from each name to its text.
@@ -254,7 +254,7 @@ fn units(rt: &(impl AllocGlobal + Abort)) -> BTreeMap<UnitName, &'static str> {
         "a.target",
         "a.service",
     ] {
-        let inserted: Result<_, _> = units.insert(unit(rt, text), text);
+        let inserted: Result<_, _> = units.insert(unit!(rt, text), text);
         inserted.expect(rt, "no memory");
     }
     units
@@ -284,9 +284,9 @@ const ASCENDING: &[&str] = &[
 #[test]
 fn names_are_ordered_by_bytes(rt: HostRuntime) {
     let units = units(&rt);
-    same(&rt, names(&rt, &units).as_slice(), ASCENDING);
-    let found = units.get(&unit(&rt, "b@x.service")).copied();
-    same(&rt, found, Some("b@x.service"));
+    same!(&rt, names(&rt, &units).as_slice(), ASCENDING);
+    let found = units.get(&unit!(&rt, "b@x.service")).copied();
+    same!(&rt, found, Some("b@x.service"));
 }
 
 /// Bytes, and the text that they are escaped as.
@@ -311,7 +311,7 @@ fn escaped_text(rt: &(impl AllocGlobal + Abort), bytes: &[u8]) -> String {
 fn bytes_are_escaped(rt: HostRuntime) {
     for (bytes, wanted) in ESCAPED {
         let text = escaped_text(&rt, bytes.as_bytes());
-        same_at(&rt, text.as_str(), *wanted, bytes);
+        same_at!(&rt, text.as_str(), *wanted, bytes);
     }
 }
 
@@ -347,7 +347,7 @@ fn escapes_are_read_back(rt: HostRuntime) {
     for (text, wanted) in ESCAPES {
         let bytes = read_back(&rt, text);
         let wanted = wanted.map(|wanted| wanted.as_bytes());
-        same_at(&rt, bytes.as_deref(), wanted, text);
+        same_at!(&rt, bytes.as_deref(), wanted, text);
     }
 }
 
@@ -358,5 +358,5 @@ fn each_byte_is_read_back(rt: HostRuntime) {
         bytes.push(b).expect(&rt, "no memory");
     }
     let text = escaped_text(&rt, bytes.as_slice());
-    same(&rt, read_back(&rt, text.as_str()), Some(bytes));
+    same!(&rt, read_back(&rt, text.as_str()), Some(bytes));
 }

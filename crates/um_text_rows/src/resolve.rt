@@ -1,7 +1,7 @@
 //! Where a unit's name leads, and the files that it is read from.
 use crate::answers::{list, tree_of};
-use crate::asserts::{same_at, text, unit};
 use std::process::Abort;
+use um_asserts::{same_at, text, unit};
 use um_resolve::{Files, UnitFile, files_of};
 use um_tree::{Entry, Tree};
 
@@ -165,7 +165,7 @@ const DROPPED_IN: &[Row] = &[
 fn paths(rt: &(impl AllocGlobal + Abort), files: &[UnitFile]) -> Vec<String> {
     let mut paths = Vec::new(rt.alloc());
     for file in files {
-        let path = text(rt, file.path.as_str());
+        let path = text!(rt, file.path.as_str());
         paths.push(path).expect(rt, "no memory");
     }
     paths
@@ -178,14 +178,14 @@ type Led = (Option<Vec<String>>, Option<String>);
 fn led(rt: &(impl AllocGlobal + Abort), files: &Files) -> Led {
     match files {
         Files::Found(files) => (Some(paths(rt, files)), None),
-        Files::Masked { unit } => (None, Some(text(rt, unit.as_str()))),
+        Files::Masked { unit } => (None, Some(text!(rt, unit.as_str()))),
         Files::NotFound => (None, None),
     }
 }
 
 /// Where the name leads in the tree.
 fn follow(rt: &(impl AllocGlobal + Abort), tree: &Tree, name: &str) -> Led {
-    let name = unit(rt, name);
+    let name = unit!(rt, name);
     let files = files_of(rt.alloc(), tree, &name).expect(rt, "no memory");
     let led = led(rt, &files);
     drop(files);
@@ -203,8 +203,8 @@ fn wanted(rt: &(impl AllocGlobal + Abort), row: &Row) -> Option<Vec<String>> {
 /// Asserts that the row's name leads in the tree where it is wanted.
 fn leads(rt: &(impl AllocGlobal + Abort), tree: &Tree, row: &Row) {
     let (files, masked) = follow(rt, tree, row.name);
-    same_at(rt, files, wanted(rt, row), row.name);
-    same_at(rt, masked.as_deref(), row.masked, row.name);
+    same_at!(rt, files, wanted(rt, row), row.name);
+    same_at!(rt, masked.as_deref(), row.masked, row.name);
 }
 
 /// Asserts that the names of the rows lead in the tree where it is wanted.

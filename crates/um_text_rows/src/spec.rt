@@ -1,5 +1,5 @@
 //! Specifiers in a text, under the name of a unit.
-use crate::asserts::{same_at, unit};
+use um_asserts::{same_at, unit};
 use um_spec::expand;
 
 /// A text, and what it is expanded to under the name, where it has an expansion.
@@ -88,9 +88,9 @@ const ROWS: &[Row] = &[
 #[test]
 fn texts_are_expanded_under_a_name(rt: HostRuntime) {
     for row in ROWS {
-        let name = unit(&rt, row.name);
+        let name = unit!(&rt, row.name);
         let expansion: Result<_, _> = expand(rt.alloc(), row.text, &name);
         let got = expansion.expect(&rt, "no memory");
-        same_at(&rt, got.as_deref(), row.wanted, (row.name, row.text));
+        same_at!(&rt, got.as_deref(), row.wanted, (row.name, row.text));
     }
 }

@@ -1,7 +1,7 @@
 //! What the lines of a unit file say.
 use crate::answers::repeated;
-use crate::asserts::{same, same_at};
 use std::process::Abort;
+use um_asserts::{same, same_at};
 use um_syntax::{Item, WarningKind, parse};
 
 /// What a line says, with its number first.
@@ -43,9 +43,9 @@ fn items_of<'t>(rt: &(impl AllocGlobal + Abort), text: &'t str) -> Vec<Item<'t>>
 /// Asserts that the items of the text say this.
 fn says(rt: &(impl AllocGlobal + Abort), text: &str, wanted: &[Said<'_>]) {
     let items = items_of(rt, text);
-    same_at(rt, items.len(), wanted.len(), text);
+    same_at!(rt, items.len(), wanted.len(), text);
     for (item, wanted) in items.iter().zip(wanted) {
-        same_at(rt, Said::of(item), *wanted, text);
+        same_at!(rt, Said::of(item), *wanted, text);
     }
 }
 
@@ -218,7 +218,7 @@ fn texts_say_what_their_lines_say(rt: HostRuntime) {
 
 #[test]
 fn each_warning_has_its_number(rt: HostRuntime) {
-    same(&rt, [NO_SECTION.number(), NO_SIGN.number()], [1, 2]);
+    same!(&rt, [NO_SECTION.number(), NO_SIGN.number()], [1, 2]);
 }
 
 #[test]
@@ -233,8 +233,8 @@ fn a_line_at_the_limit_is_read(rt: HostRuntime) {
 fn lines_at_the_limit_are_read(rt: HostRuntime) {
     let text = repeated(&rt, "a\n", 32_768);
     let items = items_of(&rt, text.as_str());
-    same(&rt, items.len(), 32_768);
+    same!(&rt, items.len(), 32_768);
     for (index, item) in items.iter().enumerate() {
-        same(&rt, Said::of(item), Said::Warned(index + 1, NO_SIGN));
+        same!(&rt, Said::of(item), Said::Warned(index + 1, NO_SIGN));
     }
 }

@@ -1,5 +1,5 @@
 //! Spaces and tabs, and runs of a class of characters.
-use crate::asserts::{same, same_at};
+use um_asserts::{same, same_at};
 use um_text::{Class, is_blank, split_run, trim, trim_end, trim_start};
 
 /// A text, what is left of it where its start, its end and both are trimmed, and whether it is blank.
@@ -68,7 +68,7 @@ fn trimming_takes_spaces_and_tabs_alone(rt: HostRuntime) {
     for row in TRIMMED {
         let text = row.text;
         let got = (trim_start(text), trim_end(text), trim(text), is_blank(text));
-        same_at(&rt, got, (row.start, row.end, row.both, row.blank), text);
+        same_at!(&rt, got, (row.start, row.end, row.both, row.blank), text);
     }
 }
 
@@ -115,12 +115,12 @@ const RUNS: &[Run] = &[
 #[test]
 fn a_run_ends_before_the_first_character_of_another_class(rt: HostRuntime) {
     for row in RUNS {
-        same_at(&rt, split_run(row.text, row.class), row.cut, row.text);
+        same_at!(&rt, split_run(row.text, row.class), row.cut, row.text);
     }
 }
 
 #[test]
 fn the_digits_end_at_9(rt: HostRuntime) {
     let held = [Class::Digit.contains(b'9'), Class::Digit.contains(b':')];
-    same(&rt, held, [true, false]);
+    same!(&rt, held, [true, false]);
 }

@@ -1,7 +1,7 @@
 //! Served paths, and the tree of files and links.
 use crate::answers::{put, repeated, tree_of};
-use crate::asserts::{is_refused, same, same_at};
 use std::process::Abort;
+use um_asserts::{is_refused_at, same, same_at};
 use um_tree::{Entry, Layer, Place, ServedPath, Tree};
 use um_wire::Refusal;
 
@@ -37,7 +37,7 @@ const PATHS: &[(&str, bool)] = &[
 #[test]
 fn paths_have_four_forms(rt: HostRuntime) {
     for (path, served) in PATHS {
-        same_at(&rt, ServedPath::parse(path).is_some(), *served, path);
+        same_at!(&rt, ServedPath::parse(path).is_some(), *served, path);
     }
 }
 
@@ -47,7 +47,7 @@ fn a_drop_in_has_a_name_of_1_to_200_bytes(rt: HostRuntime) {
         let name = repeated(&rt, "x", count);
         let path = format!(in rt.alloc(); "etc/a.service.d/{name}.conf").expect(&rt, "no memory");
         let parsed = ServedPath::parse(path.as_str()).is_some();
-        same_at(&rt, parsed, served, count);
+        same_at!(&rt, parsed, served, count);
     }
 }
 
@@ -91,7 +91,7 @@ fn a_path_is_told_by_its_parts(rt: HostRuntime) {
     for row in PARTS {
         let parts = ServedPath::parse(row.path).expect(&rt, "no served path");
         let told = (parts.layer(), parts.unit(), parts.place());
-        same_at(&rt, told, (row.layer, row.unit, row.place), row.path);
+        same_at!(&rt, told, (row.layer, row.unit, row.place), row.path);
     }
 }
 
@@ -117,9 +117,9 @@ const STANDING: &[(&str, Option<Entry<'static>>)] = &[
 #[test]
 fn a_file_is_put_and_replaced(rt: HostRuntime) {
     let tree = tree_of(&rt, FILLED);
-    same(&rt, tree.len(), 4);
+    same!(&rt, tree.len(), 4);
     for (path, wanted) in STANDING {
-        same_at(&rt, tree.get(path), *wanted, path);
+        same_at!(&rt, tree.get(path), *wanted, path);
     }
 }
 
@@ -144,7 +144,7 @@ const ASCENDING: &[&str] = &[
 fn is_removed(rt: &impl Abort, tree: &mut Tree) {
     let removed: Result<_, _> = tree.remove("etc/a.service");
     removed.expect(rt, "not removed");
-    same(rt, (tree.len(), tree.get("etc/a.service")), (3, None));
+    same!(rt, (tree.len(), tree.get("etc/a.service")), (3, None));
 }
 
 #[test]
@@ -153,7 +153,7 @@ fn a_removal_leaves_a_copy_as_it_was(rt: HostRuntime) {
     let copied: Result<_, _> = tree.copy();
     is_removed(&rt, &mut tree);
     let copy = copied.as_ref().expect(&rt, "no memory");
-    same(&rt, paths(&rt, copy).as_slice(), ASCENDING);
+    same!(&rt, paths(&rt, copy).as_slice(), ASCENDING);
 }
 
 /// What is put one after another: a file or a link at a path, with a text or a target of so many bytes, and what it is refused by.
@@ -234,9 +234,9 @@ fn texts_and_targets_have_limits(rt: HostRuntime) {
     let mut tree = tree_of(&rt, &[("etc/z.service", Entry::Link("lib/a.service"))]);
     for row in SIZED {
         let answer = put_sized(&rt, &mut tree, row);
-        is_refused(&rt, answer, row.wanted, (row.path, row.size));
+        is_refused_at!(&rt, answer, row.wanted, (row.path, row.size));
     }
-    same(&rt, tree.len(), 4);
+    same!(&rt, tree.len(), 4);
 }
 
 /// Links that are set one after another, and what each is refused by.
@@ -294,9 +294,9 @@ fn link_is_refused_in_order(rt: HostRuntime) {
     let mut tree = tree_of(&rt, &[("etc/f.service", Entry::File(""))]);
     for (path, target, wanted) in LINKS {
         let answer = put(&mut tree, path, Entry::Link(target));
-        is_refused(&rt, answer, *wanted, (path, target));
+        is_refused_at!(&rt, answer, *wanted, (path, target));
     }
-    same(&rt, tree.len(), 4);
+    same!(&rt, tree.len(), 4);
 }
 
 /// Paths, and what a removal there is refused by.
@@ -310,16 +310,16 @@ const REMOVALS: &[(&str, Option<&str>)] = &[
 fn remove_is_refused_where_nothing_stands(rt: HostRuntime) {
     let mut tree = tree_of(&rt, &[("lib/a.service", Entry::File(""))]);
     for (path, wanted) in REMOVALS {
-        is_refused(&rt, tree.remove(path), *wanted, path);
+        is_refused_at!(&rt, tree.remove(path), *wanted, path);
     }
-    same(&rt, tree.len(), 0);
+    same!(&rt, tree.len(), 0);
 }
 
 /// Asserts that a removal at this path in an empty tree is refused, and tells the path.
 fn is_no_path(rt: &(impl AllocGlobal + Abort), path: &str, size: usize) {
     let wanted = format!(in rt.alloc(); "E12 BadPath {path}").expect(rt, "no memory");
     let removed = Tree::new(rt.alloc()).remove(path);
-    is_refused(rt, removed, Some(wanted.as_str()), size);
+    is_refused_at!(rt, removed, Some(wanted.as_str()), size);
 }
 
 #[test]
@@ -345,7 +345,7 @@ fn a_boot_leaves_nothing_under_run(rt: HostRuntime) {
     tree.clear_run();
     let left = (tree.get("etc/run.service"), tree.get("lib/a.service"));
     let file = Some(Entry::File(""));
-    same(&rt, (tree.len(), left), (2, (file, file)));
+    same!(&rt, (tree.len(), left), (2, (file, file)));
 }
 
 /// A tree of 4,096 files.
@@ -377,8 +377,8 @@ const PAST_THE_LIMIT: &[(&str, Entry<'static>, Option<&str>)] = &[
 fn a_tree_has_4096_entries_at_most(rt: HostRuntime) {
     let mut tree = full(&rt);
     for (path, entry, wanted) in PAST_THE_LIMIT {
-        same(&rt, tree.len(), 4_096);
-        is_refused(&rt, put(&mut tree, path, *entry), *wanted, path);
+        same!(&rt, tree.len(), 4_096);
+        is_refused_at!(&rt, put(&mut tree, path, *entry), *wanted, path);
     }
-    same(&rt, tree.len(), 4_096);
+    same!(&rt, tree.len(), 4_096);
 }

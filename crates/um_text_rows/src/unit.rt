@@ -1,7 +1,7 @@
 //! Units by their files: settings, warnings, and why they can't be loaded.
 use crate::answers::{Wanted, commands_of, list, put, variables_of};
-use crate::asserts::{same_at, unit};
 use std::process::Abort;
+use um_asserts::{same_at, unit};
 use um_model::{End, RestartPolicy, Span, UnitKind};
 use um_tree::{Entry, Tree};
 use um_unit::{FileWarnings, InstallSettings, LoadedUnit, Loading, ServiceSettings, Warning, load};
@@ -20,7 +20,7 @@ fn tree_with(rt: &(impl AllocGlobal + Abort), files: &[(&str, &str)]) -> Tree {
 /// What becomes of a unit in a tree of these files. Boxed, as it is large: the prover takes it apart, field by field, wherever it is
 /// let go.
 fn loaded(rt: &(impl AllocGlobal + Abort), name: &str, files: &[(&str, &str)]) -> Box<Loading> {
-    let loading = load(rt.alloc(), &tree_with(rt, files), &unit(rt, name)).expect(rt, "no memory");
+    let loading = load(rt.alloc(), &tree_with(rt, files), &unit!(rt, name)).expect(rt, "no memory");
     Box::new(rt.alloc(), loading).expect(rt, "no memory")
 }
 
@@ -121,18 +121,18 @@ const WARNED: &[Warned] = &[
 
 /// Asserts that these are the warnings.
 fn warns(rt: &impl Abort, warnings: &[Warning], wanted: &[(u64, usize)], name: &str) {
-    same_at(rt, warnings.len(), wanted.len(), name);
+    same_at!(rt, warnings.len(), wanted.len(), name);
     for (warning, wanted) in warnings.iter().zip(wanted) {
         let told = (warning.kind.number(), warning.line);
-        same_at(rt, told, *wanted, name);
+        same_at!(rt, told, *wanted, name);
     }
 }
 
 /// Asserts that these are the warnings of the row, by file.
 fn warns_by_file(rt: &impl Abort, files: &[FileWarnings], row: &Warned) {
-    same_at(rt, files.len(), row.warnings.len(), row.name);
+    same_at!(rt, files.len(), row.warnings.len(), row.name);
     for (file, wanted) in files.iter().zip(row.warnings) {
-        same_at(rt, file.path.as_str(), wanted.0, row.name);
+        same_at!(rt, file.path.as_str(), wanted.0, row.name);
         warns(rt, &file.warnings, wanted.1, row.name);
     }
 }
@@ -214,7 +214,7 @@ const COMMANDED: &[Commanded] = &[
 /// Asserts that these are the wanted commands.
 fn runs(rt: &(impl AllocGlobal + Abort), commands: &[Command], wanted: &[Wanted], name: &str) {
     let wanted = commands_of(rt, wanted);
-    same_at(rt, commands, wanted.as_slice(), name);
+    same_at!(rt, commands, wanted.as_slice(), name);
 }
 
 /// Asserts that the service has the commands of the row.
@@ -238,7 +238,7 @@ fn the_environment_of_a_service_is_kept(rt: HostRuntime) {
     let unit = found(&rt, loading.as_ref());
     let wanted = variables_of(&rt, &[("X", "p  q")]);
     let environment = unit.settings.service.environment.as_slice();
-    same_at(&rt, environment, wanted.as_slice(), "a.service");
+    same_at!(&rt, environment, wanted.as_slice(), "a.service");
 }
 
 /// A unit, its files, and the plain settings of its service; each span in microseconds, where there is one.
@@ -335,13 +335,13 @@ fn micros(count: Option<u32>) -> Option<Span> {
 /// Asserts that the service has the plain settings of the row.
 fn keeps(rt: &impl Abort, service: &ServiceSettings, row: &Kept) {
     let got = (service.kind, service.restart, service.limit_burst);
-    same_at(rt, got, (row.kind, row.restart, row.burst), row.files);
+    same_at!(rt, got, (row.kind, row.restart, row.burst), row.files);
     let spans = [service.limit_interval, service.restart_delay];
     let wanted = [micros(row.interval), micros(row.delay)];
-    same_at(rt, spans, wanted, row.files);
+    same_at!(rt, &spans, &wanted, row.files);
     let spans = [service.timeout_start, service.timeout_stop];
     let wanted = [micros(row.start), micros(row.stop)];
-    same_at(rt, spans, wanted, row.files);
+    same_at!(rt, &spans, &wanted, row.files);
 }
 
 #[test]
@@ -423,7 +423,7 @@ const TOLD: &[Told] = &[
 /// Asserts that the texts are these.
 fn names(rt: &(impl AllocGlobal + Abort), texts: &[String], wanted: &[&str], row: &str) {
     let list = list(rt, wanted);
-    same_at(rt, texts, list.as_slice(), row);
+    same_at!(rt, texts, list.as_slice(), row);
 }
 
 /// Asserts that enabling makes what the row says.
@@ -431,14 +431,14 @@ fn installs(rt: &(impl AllocGlobal + Abort), install: &InstallSettings, row: &To
     names(rt, &install.alias, row.alias, row.name);
     names(rt, &install.wanted_by, row.wanted_by, row.name);
     let instance = install.default_instance.as_deref();
-    same_at(rt, instance, row.default_instance, row.name);
+    same_at!(rt, instance, row.default_instance, row.name);
 }
 
 /// Asserts that the unit tells what the row says.
 fn tells(rt: &(impl AllocGlobal + Abort), unit: &LoadedUnit, row: &Told) {
     let settings = &unit.settings;
     let got = (unit.path.as_deref(), settings.description.as_str());
-    same_at(rt, got, (row.path, row.description), row.name);
+    same_at!(rt, got, (row.path, row.description), row.name);
     names(rt, &settings.dependencies.after, row.after, row.name);
     installs(rt, &settings.install, row);
 }
@@ -457,7 +457,7 @@ fn a_target_that_tells_no_truth_value_has_default_dependencies(rt: HostRuntime) 
     let unit = found(&rt, loading.as_ref());
     let defaults = unit.settings.dependencies.default_dependencies;
     let got = (defaults, unit.settings.service.kind);
-    same_at(&rt, got, (true, UnitKind::Target), "w.target");
+    same_at!(&rt, got, (true, UnitKind::Target), "w.target");
 }
 
 /// Why the service can't be loaded; None where it can.
@@ -510,7 +510,7 @@ const REASONS: &[(&str, Option<&str>)] = &[
 fn the_first_reason_counts(rt: HostRuntime) {
     for (text, wanted) in REASONS {
         let loading = service_of(&rt, text);
-        same_at(&rt, reason(&rt, loading.as_ref()), *wanted, text);
+        same_at!(&rt, reason(&rt, loading.as_ref()), *wanted, text);
     }
 }
 
@@ -527,7 +527,7 @@ const ENDS: &[(End, bool)] = &[
 fn takes_ends(rt: &impl Abort, success: &ExitSet, forces_restart: &ExitSet) {
     for (end, wanted) in ENDS {
         let held = (success.holds(*end), forces_restart.holds(*end));
-        same_at(rt, held, (*wanted, false), end);
+        same_at!(rt, held, (*wanted, false), end);
     }
 }
 
@@ -549,7 +549,7 @@ fn masked(loading: &Loading) -> Option<&str> {
 #[test]
 fn a_unit_is_masked_by_an_empty_file_and_not_found_without_one(rt: HostRuntime) {
     let empty = service_of(&rt, "");
-    same_at(
+    same_at!(
         &rt,
         masked(empty.as_ref()),
         Some("a.service"),

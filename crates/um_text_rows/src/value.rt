@@ -1,6 +1,6 @@
 //! Truth values, numbers, time spans, sets of exits and restart policies.
-use crate::asserts::{same, same_at};
 use std::process::Abort;
+use um_asserts::{same, same_at};
 use um_model::{End, Span};
 use um_value::{ExitSet, RestartPolicy, TimeSpan, boolean, exit_set, number, restart, span};
 
@@ -29,7 +29,7 @@ const TRUTHS: &[(&str, Option<bool>)] = &[
 #[test]
 fn a_truth_value_is_one_of_twelve_words(rt: HostRuntime) {
     for (text, wanted) in TRUTHS {
-        same_at(&rt, boolean(text), *wanted, text);
+        same_at!(&rt, boolean(text), *wanted, text);
     }
 }
 
@@ -50,7 +50,7 @@ const NUMBERS: &[(&str, Option<u32>)] = &[
 #[test]
 fn a_number_has_digits_alone(rt: HostRuntime) {
     for (text, wanted) in NUMBERS {
-        same_at(&rt, number(text), *wanted, text);
+        same_at!(&rt, number(text), *wanted, text);
     }
 }
 
@@ -119,9 +119,9 @@ fn micros(count: Option<u64>) -> Option<TimeSpan> {
 #[test]
 fn parts_of_a_span_are_added_up(rt: HostRuntime) {
     for (text, wanted) in SPANS {
-        same_at(&rt, span(text), micros(*wanted), text);
+        same_at!(&rt, &span(text), &micros(*wanted), text);
     }
-    same(&rt, span("infinity"), Some(TimeSpan::Infinite));
+    same!(&rt, span("infinity"), Some(TimeSpan::Infinite));
 }
 
 /// Which of some ends the set of the text holds; None where it can't be read.
@@ -153,7 +153,7 @@ const SETS: &[(&str, Option<[bool; 5]>)] = &[
 #[test]
 fn an_exit_set_holds_what_its_words_tell(rt: HostRuntime) {
     for (text, wanted) in SETS {
-        same_at(&rt, held(text), *wanted, text);
+        same_at!(&rt, held(text), *wanted, text);
     }
 }
 
@@ -180,9 +180,9 @@ fn a_set_is_joined_with_another_and_with_none(rt: HostRuntime) {
     set.add(&set_of(&rt, "255 SIGHUP SIGTERM"));
     let joined = set;
     set.add(&ExitSet::empty());
-    same(&rt, set, joined);
+    same!(&rt, set, joined);
     for (end, wanted) in ENDS {
-        same_at(&rt, joined.holds(*end), *wanted, end);
+        same_at!(&rt, joined.holds(*end), *wanted, end);
     }
 }
 
@@ -191,10 +191,10 @@ fn is_of_signal(rt: &impl Abort, name: &str, number: u8) {
     let set = set_of(rt, name);
     for signal in 0..65u8 {
         let row = (name, signal);
-        same_at(rt, set.holds(End::Signal(signal)), signal == number, row);
+        same_at!(rt, set.holds(End::Signal(signal)), signal == number, row);
     }
     let others = (set.holds(End::Code(number)), set.holds(End::Lost));
-    same_at(rt, others, (false, false), name);
+    same_at!(rt, others, (false, false), name);
 }
 
 /// The signals that have a name, and their numbers.
@@ -239,6 +239,6 @@ const POLICIES: &[(&str, Option<RestartPolicy>)] = &[
 #[test]
 fn a_restart_policy_has_its_word(rt: HostRuntime) {
     for (text, wanted) in POLICIES {
-        same_at(&rt, restart(text), *wanted, text);
+        same_at!(&rt, restart(text), *wanted, text);
     }
 }

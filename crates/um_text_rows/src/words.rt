@@ -1,7 +1,7 @@
 //! Words, commands and the variables in them.
 use crate::answers::{Wanted, commands_of, list, variables_of};
-use crate::asserts::same_at;
 use std::process::Abort;
+use um_asserts::same_at;
 use um_words::{
     Command, Room, Variable, commands, is_executable_word, names, room_after, substitute, words,
 };
@@ -18,7 +18,7 @@ fn is_parted(rt: &(impl AllocGlobal + Abort), got: Option<Vec<String>>, row: &Pa
         Some(texts) => Some(list(rt, texts)),
         None => None,
     };
-    same_at(rt, got, wanted, row.text);
+    same_at!(rt, got, wanted, row.text);
 }
 
 /// Words are split at whitespace, and quoted.
@@ -316,7 +316,7 @@ fn left(rt: &(impl AllocGlobal + Abort), environment: &[Variable], row: &Counted
 fn the_room_of_words_is_counted_with_their_variables(rt: HostRuntime) {
     let environment = variables_of(&rt, VARIABLES);
     for row in COUNTED {
-        same_at(&rt, left(&rt, &environment, row), row.wanted, row.text);
+        same_at!(&rt, left(&rt, &environment, row), row.wanted, row.text);
     }
 }
 
@@ -400,7 +400,7 @@ fn wanted(rt: &(impl AllocGlobal + Abort), row: &Commanded) -> Option<Vec<Comman
 fn commands_have_words_and_signs(rt: HostRuntime) {
     for row in COMMANDS {
         let got: Result<_, _> = commands(rt.alloc(), row.text);
-        same_at(
+        same_at!(
             &rt,
             got.expect(&rt, "no memory"),
             wanted(&rt, row),
@@ -415,6 +415,6 @@ const RUNNABLE: &[(&str, bool)] = &[("/bin/x", true), ("x", true), ("bin/x", fal
 #[test]
 fn paths_and_names_can_be_run(rt: HostRuntime) {
     for (word, wanted) in RUNNABLE {
-        same_at(&rt, is_executable_word(word), *wanted, word);
+        same_at!(&rt, is_executable_word(word), *wanted, word);
     }
 }
