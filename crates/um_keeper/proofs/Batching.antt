@@ -1,7 +1,7 @@
 -- Of inputs that are taken one behind the other.
-use Rattle.std.proofs.Common.{◌≡◌, ◌⊎◌, ◌∙◌, ℕ, zero, suc, ◌+◌, ◌-◌, ◌<◌, ◌≤◌, arith, Bool, true, false, if◌then◌else◌, List, [], ◌∷◌, ◌++◌, append_assoc, append-nil, length, length-append, map, replicate, take, drop, refl, sym, ap, subst, inl, inr}
+use Rattle.std.proofs.Common.{◌≡◌, ◌⊎◌, ◌∙◌, ℕ, zero, suc, ◌+◌, ◌-◌, arith, Bool, true, false, if◌then◌else◌, List, [], ◌∷◌, ◌++◌, append_assoc, append-nil, length, length-append, map, replicate, take, drop, refl, sym, ap, subst, inl, inr}
 use Rattle.std.specs.List.{AllByRecursion, Contains}
-use Rattle.std.specs.Prelude.{Ok, Err, IsTrue}
+use Rattle.std.specs.Prelude.{Ok, Err}
 use Rattle.std.proofs.lemmas.Bool.{false≢true}
 use Rattle.std.proofs.lemmas.List.{take-append-drop}
 use Rattle.std.proofs.lemmas.List.Elements.{Contains-append_left, Contains-append_right, Contains-append_cases, Contains-push_cases}
@@ -17,7 +17,7 @@ use Rattle.um_model.specs.Store.{body_limit}
 use Rattle.um_model.specs.declared.layout.Layout.{Layout}
 use Rattle.um_laws.proofs.DiskLaws.{weaker, followed}
 use Rattle.um_laws.proofs.NumbersLaws.{run_numbers_rise}
-use Rattle.um_keeper.specs.Answering.{Answer, is_turned_away, Answered, accepted, refused, turned_away, AreAnswered, all_answered, and_next, FellBack, StopsAt, HasFault, HasReceipt, denied, where_step, taken, all_asked, IsIdle, IsRefusal, NeedNoRecord, HasNoRecord, HaveNoRecord, sectors_for, all_sectors, state_before_all}
+use Rattle.um_keeper.specs.Answering.{Answer, is_turned_away, Answered, accepted, refused, turned_away, AreAnswered, all_answered, and_next, Recorded, all_recorded, without_record, with_record, FailsAt, at_sync, at_record, FellBack, FellThere, StopsAt, HasFault, denied, where_step, taken, all_asked, IsIdle, IsRefusal, NeedNoRecord, HasNoRecord, HaveNoRecord, sectors_for, all_sectors, state_before_all}
 use Rattle.um_keeper.specs.Keeping.{IsBegun}
 use Rattle.um_engine.specs.OfStore.{is_of_store}
 use Rattle.um_sector.specs.Refused.{IsLost}
@@ -132,16 +132,24 @@ no_record_front s [] answers rest all same = tt
 no_record_front s (input ∷ inputs) [] rest all same = absurd (omega (arith, same))
 no_record_front s (input ∷ inputs) (answer ∷ answers) rest all same = (all.0, no_record_front s inputs answers rest all.1 (omega (arith, same)))
 
--- where something is to be synced there is a receipt
-pub receipt_more : (s : State) (input : Input) (answers : List Answer) (answer : Answer) (all : List Answer) (old new : Bool) → all ≡ answers ++ answer ∷ [] → (HasNoRecord s input answer → new ≡ old)
-    → (old ≡ true → HasReceipt answers) → new ≡ true → HasReceipt all
-receipt_more s input answers (Ok given) all old new is still before now = (given, subst (λ l. Contains l (Ok given)) (sym is) (Contains-append_right answers (Ok given ∷ []) (Ok given) (0, omega arith, refl)))
-receipt_more s input answers (Err e) all old new is still before now =
-    let (given, has) = before (sym (still tt) ∙ now) in (given, subst (λ l. Contains l (Ok given)) (sym is) (Contains-append_left answers (Err e ∷ []) (Ok given) has))
-
 -- the sectors of those that are left
 pub sectors_left : {left more : List Input} {input : Input} (answer : Answer) (rest : List Answer) → left ≡ input ∷ more → all_sectors left (answer ∷ rest) ≡ sectors_for answer input + all_sectors more rest
 sectors_left answer rest is = ap (λ l. all_sectors l (answer ∷ rest)) is
+
+-- one more of which there is no record, and one more with its own
+pub recorded_without : {size : ℕ} {s t : State} {inputs : List Input} {answers : List Answer} {sectors : ℕ} (input : Input) (answer : Answer) → Recorded size s inputs answers sectors t
+    → HasNoRecord t input answer → Recorded size s (inputs ++ input ∷ []) (answers ++ answer ∷ []) sectors t
+recorded_without input answer all_recorded none = without_record none all_recorded
+recorded_without input answer (without_record first more) none = without_record first (recorded_without input answer more none)
+recorded_without input answer (with_record first some more) none = with_record first some (recorded_without input answer more none)
+
+pub recorded_with : {size : ℕ} {s t u : State} {inputs : List Input} {answers : List Answer} {sectors : ℕ} {input : Input} {answer : Answer} → Recorded size s inputs answers sectors t
+    → Answered size t input answer u → ¬ HasNoRecord t input answer → Recorded size s (inputs ++ input ∷ []) (answers ++ answer ∷ []) (sectors + sectors_for answer input) u
+recorded_with {size} {u = u} {input = input} {answer} (all_recorded {s}) one some =
+    subst (λ n. Recorded size s (input ∷ []) (answer ∷ []) n u) (omega arith) (with_record one some all_recorded)
+recorded_with (without_record first more) one some = without_record first (recorded_with more one some)
+recorded_with {size} {u = u} {input = input} {answer} (with_record {s} {input = x} {inputs} {answer = a} {answers} {sectors} first needs more) one some =
+    subst (λ n. Recorded size s (x ∷ (inputs ++ input ∷ [])) (a ∷ (answers ++ answer ∷ [])) n u) (omega arith) (with_record first needs (recorded_with more one some))
 
 -- ---- where the disk failed
 
@@ -198,9 +206,18 @@ taken_over [] (a ∷ answers) same = absurd (omega (arith, same))
 taken_over (x ∷ inputs) [] same = absurd (omega (arith, same))
 taken_over (x ∷ inputs) (a ∷ answers) same = ap (λ l. where_step a x ++ l) (taken_over inputs answers (omega (arith, same)))
 
-some_fault : (count : ℕ) → 0 < count → HasFault (replicate count (Err Device))
-some_fault zero some = absurd (omega (arith, some))
-some_fault (suc count) some = (0, omega arith, refl)
+-- one of the answers is a receipt
+abbrev HasReceipt : List Answer → Type 0
+HasReceipt answers = (given : Reply × List Action) × Contains answers (Ok given)
+
+-- where something was recorded one is
+has_receipt : (s : State) (inputs : List Input) (answers : List Answer) → ¬ HaveNoRecord s inputs answers → HasReceipt answers
+has_receipt s [] answers some = absurd (some tt)
+has_receipt s (input ∷ inputs) [] some = absurd (some tt)
+has_receipt s (input ∷ inputs) (Ok given ∷ answers) some = (given, (0, omega arith, refl))
+has_receipt s (input ∷ inputs) (Err e ∷ answers) some =
+    let (given, has) = has_receipt s inputs answers (λ none. some (tt, none)) in
+    (given, Contains-append_right (Err e ∷ []) answers (Ok given) has)
 
 -- a receipt that is denied is a fault
 denied_fault : (answers : List Answer) → HasReceipt answers → HasFault (map denied answers)
@@ -211,8 +228,14 @@ denied_fault (Err e ∷ answers) (given, has) = elim (Contains-append_cases (Err
   | inr there ↦ Contains-append_right (Err e ∷ []) (map denied answers) (Err Device) (denied_fault answers (given, there))
 ]
 
+-- some answer is denied, or there is none of it
+some_told : (size : ℕ) (s u : State) (judged rest : List Input) (meant : List Answer) → FailsAt size s judged meant u rest → HasFault (map denied meant ++ replicate (length rest) (Err Device))
+some_told size s u judged rest meant (at_sync some) = Contains-append_left (map denied meant) [] (Err Device) (denied_fault meant (has_receipt s judged meant some))
+some_told size s u judged rest meant (at_record {behind = behind} needs) =
+    Contains-append_right (map denied meant) (Err Device ∷ replicate (length behind) (Err Device)) (Err Device) (0, omega arith, refl)
+
 -- the answers before those that it leaves without one
-module _ {size : ℕ} {s : State} {inputs : List Input} {meant : List Answer} (stopped : StopsAt size s inputs meant) where
+module _ {next end before now : ℕ} {size : ℕ} {s : State} {inputs : List Input} {meant : List Answer} (stopped : StopsAt next end before now size s inputs meant) where
   pub fell_whole : length inputs ≡ length meant + length stopped.rest
   fell_whole = omega (arith, ap (λ (l : List Input). length l) stopped.parts, length-append stopped.judged stopped.rest, same_length stopped.were)
 
@@ -230,15 +253,17 @@ module _ {size : ℕ} {s : State} {inputs : List Input} {meant : List Answer} (s
       meant = meant;
       u = stopped.u;
       were = stopped.were;
+      fails = stopped.fails;
       are = are;
       state = state;
     }
 
+    pub fell_there : {t : State} → t ≡ s → FellThere next end before now size s inputs told t
+    unfolding fell_back
+    fell_there state = record { fell = fell_back state; sectors = stopped.sectors; recorded = stopped.recorded; few = stopped.few }
+
     pub fell_told : HasFault told
-    fell_told = subst HasFault (sym are) (elim stopped.some [
-      | inl left ↦ Contains-append_right (map denied meant) (replicate (length stopped.rest) (Err Device)) (Err Device) (some_fault (length stopped.rest) left)
-      | inr given ↦ Contains-append_left (map denied meant) (replicate (length stopped.rest) (Err Device)) (Err Device) (denied_fault meant given)
-    ])
+    fell_told = subst HasFault (sym are) (some_told size s stopped.u stopped.judged stopped.rest meant stopped.fails)
 
     -- a crash leaves a beginning of what isn't turned away
     all_taken : taken inputs told ≡ taken stopped.judged meant ++ stopped.rest

@@ -1,10 +1,7 @@
 -- Of results.
-use Rattle.std.proofs.Common.{◌≡◌, ◌⊎◌, ◌↔◌, inl, inr, ℕ, Bool, true, false, refl, sym, subst}
+use Rattle.std.proofs.Common.{◌≡◌, ◌⊎◌, ◌↔◌, ◌∙◌, inl, inr, Bool, true, false, refl, sym, subst}
 use Rattle.std.specs.Prelude.{Result, Ok, Err, OnOk, OnErr, IfOk, IfErr}
 use Rattle.std.specs.Result.{IsErrAnd}
-use Rattle.um_sector.specs.Refused.{CountsDevice}
-use Rattle.um_wire.specs.declared.refusal.Refusal.{Refusal}
-use Rattle.um_wire.specs.declared.refusal.Refusal.TheVariants.{Device}
 use Rattle.std.proofs.lemmas.Result.{err_from_is_err_and}
 
 -- what follows at Ok
@@ -24,6 +21,12 @@ err_from (Err e) p = p
 -- what a `?` hands on as it is
 pub err_same : {T E : Type 0} (P : E → Type 0) (result : Result T E) (e : E) → IsErrAnd result (λ y. y ≡ e) → P e → IfErr result P
 err_same P result e is p = let (y, r, q) = err_from_is_err_and result is in subst (λ x. IfErr x P) (sym r) (subst P (sym q) p)
+
+pub err_is : {T E : Type 0} (result : Result T E) (e d : E) → IsErrAnd result (λ y. y ≡ e) → result ≡ Err d → e ≡ d
+err_is result e d is told = let (y, r, q) = err_from_is_err_and result is in sym q ∙ one_err (sym r ∙ told)
+  where
+    one_err : {T E : Type 0} {y d : E} → ◌≡◌ {A = Result T E} (Err y) (Err d) → y ≡ d
+    one_err is = cc
 
 -- what follows of the value at Ok
 pub if_ok_from : {T E : Type 0} (result : Result T E) (P Q : T → Type 0) → ((x : T) → P x → Q x) → IfOk result P → IfOk result Q

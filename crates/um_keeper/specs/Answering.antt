@@ -1,7 +1,7 @@
 -- What a list of inputs is answered that are taken one behind the other, and what a crash leaves of them.
 -- No manual page has it: it is the project's own (docs/CRASH.md tells it in plain words).
 -- `Keeper::submit_all` and the running manager stand on this file.
-use Rattle.std.specs.Prelude.{◌≡◌, ◌≢◌, ◌⊎◌, ◌+◌, ◌-◌, ◌^◌, ◌<◌, ◌≤◌, ◌++◌, ℕ, Bool, true, false, if◌then◌else◌, List, [], ◌∷◌, length, map, replicate, Contains, Result, Ok, Err}
+use Rattle.std.specs.Prelude.{◌≡◌, ◌≢◌, ◌⊎◌, ◌+◌, ◌-◌, ◌^◌, ◌≤◌, ◌++◌, ℕ, Bool, true, false, if◌then◌else◌, List, [], ◌∷◌, length, map, replicate, Contains, Result, Ok, Err}
 use Rattle.um_engine.specs.Engine.{state_before}
 use Rattle.um_engine.specs.OfStore.{is_of_store}
 use Rattle.um_engine.specs.declared.engine.Back.{Back}
@@ -48,31 +48,6 @@ pub data AreAnswered (size : ℕ) : State → List Input → List Answer → Sta
 abbrev pub denied : Answer → Answer
 denied (Ok given) = Err Device
 denied (Err e) = Err e
-
--- The answers to a list in which a call on the disk failed: those of the inputs before it are denied, and from it on each is E16. The state
--- is that from before.
-pub record FellBack (size : ℕ) (s : State) (inputs : List Input) (answers : List Answer) (t : State) : Type 0 where
-  pub judged : List Input
-  pub rest : List Input
-  pub parts : inputs ≡ judged ++ rest
-  pub meant : List Answer
-  pub u : State
-  pub were : AreAnswered size s judged meant u
-  pub are : answers ≡ map denied meant ++ replicate (length rest) (Err Device)
-  pub state : t ≡ s
-
--- one of the answers is a receipt
-abbrev pub HasReceipt : List Answer → Type 0
-HasReceipt answers = (given : Reply × List Action) × Contains answers (Ok given)
-
--- The answers to a beginning of the inputs, behind which a call on the disk failed: somebody is to be told.
-pub record StopsAt (size : ℕ) (s : State) (inputs : List Input) (answers : List Answer) : Type 0 where
-  pub judged : List Input
-  pub rest : List Input
-  pub parts : inputs ≡ judged ++ rest
-  pub u : State
-  pub were : AreAnswered size s judged answers u
-  pub some : (0 < length rest) ⊎ HasReceipt answers
 
 -- some answer is E16
 abbrev pub HasFault : List Answer → Type 0
@@ -135,6 +110,74 @@ sectors_for (Err e) input = 0
 abbrev pub all_sectors : List Input → List Answer → ℕ
 all_sectors (input ∷ inputs) (answer ∷ answers) = sectors_for answer input + all_sectors inputs answers
 all_sectors inputs answers = 0
+
+-- Inputs are judged one behind the other from a state on, and so many sectors their records take: none that of an input which has no effect in its state, or
+-- isn't accepted.
+pub data Recorded (size : ℕ) : State → List Input → List Answer → (sectors : ℕ) → State → Type 0 where
+  all_recorded : {s : State} → Recorded size s [] [] 0 s
+  without_record : {s u : State} {input : Input} {inputs : List Input} {answer : Answer} {answers : List Answer} {sectors : ℕ} → HasNoRecord s input answer
+      → Recorded size s inputs answers sectors u → Recorded size s (input ∷ inputs) (answer ∷ answers) sectors u
+  with_record : {s t u : State} {input : Input} {inputs : List Input} {answer : Answer} {answers : List Answer} {sectors : ℕ}
+      → Answered size s input answer t → ¬ HasNoRecord s input answer → Recorded size t inputs answers sectors u
+      → Recorded size s (input ∷ inputs) (answer ∷ answers) (sectors_for answer input + sectors) u
+
+-- The input is accepted in the state, and has an effect in it: so its record is to be written.
+pub record NeedsRecord (size : ℕ) (s : State) (input : Input) : Type 0 where
+  pub reply : Reply
+  pub actions : List Action
+  pub t : State
+  pub step : Step size s input reply actions t
+  pub accepted : (r : Refused) → reply ≢ Refusal r
+  pub effect : ¬ IsIdle s input
+
+-- Where a call on the disk failed, behind inputs that were judged, for those that are left: none is, and it failed at the sync of what was recorded; or it
+-- failed at the first of them, at its record or the checkpoint before that.
+pub data FailsAt (size : ℕ) (s : State) (judged : List Input) (meant : List Answer) (u : State) : List Input → Type 0 where
+  at_sync : ¬ HaveNoRecord s judged meant → FailsAt size s judged meant u []
+  at_record : {input : Input} {behind : List Input} → NeedsRecord size u input → FailsAt size s judged meant u (input ∷ behind)
+
+-- the sectors of the record at which it failed
+abbrev pub sectors_there : List Input → ℕ
+sectors_there [] = 0
+sectors_there (input ∷ behind) = part_count (length (input_spelling input))
+
+-- the calls that are made there at most: one for each of these sectors, or the sync
+abbrev pub calls_there : List Input → ℕ
+calls_there [] = 1
+calls_there (input ∷ behind) = part_count (length (input_spelling input))
+
+-- The answers to a list in which a call on the disk failed: those of the inputs before it are denied, and from it on each is E16. The state
+-- is that from before.
+pub record FellBack (size : ℕ) (s : State) (inputs : List Input) (answers : List Answer) (t : State) : Type 0 where
+  pub judged : List Input
+  pub rest : List Input
+  pub parts : inputs ≡ judged ++ rest
+  pub meant : List Answer
+  pub u : State
+  pub were : AreAnswered size s judged meant u
+  pub fails : FailsAt size s judged meant u rest
+  pub are : answers ≡ map denied meant ++ replicate (length rest) (Err Device)
+  pub state : t ≡ s
+
+-- The same, and it failed no further on than there, by the calls that were made: where the records have room between these sectors of the log, no more than
+-- one for each of their sectors, and the sync where it failed at that.
+pub record FellThere (next end before now : ℕ) (size : ℕ) (s : State) (inputs : List Input) (answers : List Answer) (t : State) : Type 0 where
+  pub fell : FellBack size s inputs answers t
+  pub sectors : ℕ
+  pub recorded : Recorded size s fell.judged fell.meant sectors fell.u
+  pub few : next + sectors + sectors_there fell.rest ≤ end → now ≤ before + sectors + calls_there fell.rest
+
+-- The answers to a beginning of the inputs, behind which a call on the disk failed, and the calls that were made.
+pub record StopsAt (next end before now : ℕ) (size : ℕ) (s : State) (inputs : List Input) (answers : List Answer) : Type 0 where
+  pub judged : List Input
+  pub rest : List Input
+  pub parts : inputs ≡ judged ++ rest
+  pub u : State
+  pub were : AreAnswered size s judged answers u
+  pub fails : FailsAt size s judged answers u rest
+  pub sectors : ℕ
+  pub recorded : Recorded size s judged answers sectors u
+  pub few : next + sectors + sectors_there rest ≤ end → now ≤ before + sectors + calls_there rest
 
 -- E20 turns an input away only where the log's generation is the last, and its record has no room in it from this sector on
 abbrev pub IsSpentAt : Layout → (generation from : ℕ) → Input → Answer → Type 0

@@ -1,15 +1,16 @@
 -- What stands on a keeper's disk while a list of inputs is taken: its records may be written ahead of the last sync.
 -- No manual page has it: it is the project's own.
 -- The taking of lists stands on this file.
-use Rattle.std.specs.Prelude.{◌≡◌, ◌+◌, ◌-◌, ◌^◌, ◌≤◌, ◌≢◌, ℕ, Bool, false, if◌then◌else◌, List, [], ◌++◌, take, Some}
+use Rattle.std.specs.Prelude.{◌≡◌, ◌+◌, ◌-◌, ◌^◌, ◌≤◌, ◌≢◌, ℕ, Bool, false, if◌then◌else◌, List, [], ◌++◌, length, take, Some}
 use Rattle.um_model.specs.Bytes.{nothing_left}
 use Rattle.um_model.specs.Disk.{Past}
+use Rattle.um_model.specs.InputSpellings.{input_spelling}
 use Rattle.um_model.specs.Machine.{State, Input, Refusal, Run, Step}
 use Rattle.um_model.specs.Refusals.{Refused}
 use Rattle.um_model.specs.Servable.{IsServable}
 use Rattle.um_model.specs.Stands.{inputs_of}
 use Rattle.um_model.specs.StateSpellings.{state_at}
-use Rattle.um_model.specs.Store.{body_limit, log_start}
+use Rattle.um_model.specs.Store.{body_limit, log_start, log_end, part_count}
 use Rattle.um_model.specs.declared.layout.Layout.{Layout}
 use Rattle.um_model.specs.declared.layout.Slot.{Slot}
 use Rattle.um_engine.specs.Engine.{reply_in, actions_in, state_after, size_in, state_in, standing_in}
@@ -64,6 +65,10 @@ KeptIn past sectors a state = Keeps past sectors a.log.layout a.home.slot a.log.
 -- one disk call is owed where something is to be synced
 abbrev pub owed : Bool → ℕ
 owed unsynced = if unsynced then 1 else 0
+
+-- the log has room for the record of an input, as it is
+abbrev pub HasRoomFor : Log → Input → Type 0
+HasRoomFor log input = log.next + part_count (length (input_spelling input)) ≤ log_end log.layout log.generation
 
 -- the log has no room for a record of so many bytes, and its generation is the last
 pub record LacksRoom (log : Log) (bytes : ℕ) : Type 0 where

@@ -2,10 +2,10 @@
 ghost use Rattle.std.specs.Prelude.{◌≡◌, ◌≢◌, ◌⊎◌, ◌↔◌, ◌+◌, ◌-◌, ◌<◌, ◌≤◌, ◌∷◌, ◌++◌, [], ℕ, false, true, List, length, map, replicate, vec_len, vec_capacity, Ok, Err, IfOk, IfErr, OnOk, OnErr, IsTrue};
 ghost use Rattle.std.specs.List.{AllByRecursion};
 ghost use Rattle.um_engine.specs.Engine as machine;
-ghost use Rattle.um_keeper.specs.Answering.{Answered, AreAnswered, FellBack, StopsAt, HasFault, CountsFault, denied, all_asked, IsIdle, NeedNoRecord, HasNoRecord, HaveNoRecord, HasReceipt, sectors_for, all_sectors, where_step, taken, AreSpentAt, most_calls, state_before_all};
+ghost use Rattle.um_keeper.specs.Answering.{Answered, AreAnswered, Recorded, NeedsRecord, FellBack, FellThere, StopsAt, HasFault, CountsFault, denied, all_asked, IsIdle, NeedNoRecord, HasNoRecord, HaveNoRecord, sectors_for, all_sectors, where_step, taken, AreSpentAt, most_calls, state_before_all};
 ghost use Rattle.um_keeper.specs.Keepers.{disk_in, state_in, size_in, layout_in, log_generation_in, next_in, has_failed, IsSamePlace, IsFreeFrom};
 ghost use Rattle.um_keeper.specs.Keeping.{MayHold, IsBegun, record_calls};
-ghost use Rattle.um_keeper.specs.Underway.{UnderwayIn, KeptIn, owed, LacksRoom, IsFreeAt};
+ghost use Rattle.um_keeper.specs.Underway.{UnderwayIn, KeptIn, owed, LacksRoom, HasRoomFor, IsFreeAt};
 ghost use Rattle.um_keeper.specs.Answering.{Answer};
 ghost use Rattle.um_keeper.specs.Keeping.{snapshot_calls};
 ghost use Rattle.um_engine.specs.OfStore.{is_of_store};
@@ -134,6 +134,7 @@ fn take_step<D: Disk>(
     ensures sized { machine.size_in engine.new ≡ machine.size_in engine.old }
     ensures filled { OnOk result ((from : ℕ) → IsFreeAt ahead.old.log from → IsFreeAt ahead.new.log (from + part_count (length (input_spelling (input_of input.now))))) }
     ensures idle { IsIdle (machine.state_in engine.old) (input_of input.now) → (disk.new ≡ disk.old) × (ahead.new ≡ ahead.old) × (machine.state_in engine.new ≡ machine.state_in engine.old) }
+    ensures either { OnOk result (IsIdle (machine.state_in engine.old) (input_of input.now) ⊎ (¬ IsIdle (machine.state_in engine.old) (input_of input.now))) }
     ensures clean { OnOk result (ahead.new.unsynced ≡ false → (ahead.old.unsynced ≡ false) × IsIdle (machine.state_in engine.old) (input_of input.now)) }
     ensures layout { ahead.new.log.layout ≡ ahead.old.log.layout }
     ensures grows { ahead.old.log.generation ≤ ahead.new.log.generation }
@@ -141,11 +142,13 @@ fn take_step<D: Disk>(
     ensures state { OnErr result (engine.new ≡ engine.old) }
     ensures refused { IfErr result (λ e. IsLost e ⊎ (e ≡ Refusal.GenerationsSpent) ⊎ ((is_of_store e ≡ false)
         × Step (machine.size_in engine.old) (machine.state_in engine.old) (input_of input.now) (model.Refusal (refused_of e)) [] (machine.state_in engine.old))) }
+    ensures fault { result ≡ Err Refusal.Device → NeedsRecord (machine.size_in engine.old) (machine.state_in engine.old) (input_of input.now) }
     ensures spent { result ≡ Err Refusal.GenerationsSpent → LacksRoom ahead.old.log (length (input_spelling (input_of input.now))) }
     ensures fitted { OnOk result (ahead.old.log.next + part_count (length (input_spelling (input_of input.now))) ≤ log_end ahead.old.log.layout ahead.old.log.generation
         → (IsTrue (D.honest disk.old) → sync_count (D.past disk.new) ≡ sync_count (D.past disk.old))
         × (ahead.new.log.next ≤ ahead.old.log.next + part_count (length (input_spelling (input_of input.now))))
         × (D.calls disk.new ≤ D.calls disk.old + part_count (length (input_spelling (input_of input.now))))) }
+    ensures few { HasRoomFor ahead.old.log (input_of input.now) → D.calls disk.new ≤ D.calls disk.old + part_count (length (input_spelling (input_of input.now))) }
     ensures calls { D.calls disk.new + owed ahead.new.unsynced ≤ D.calls disk.old + owed ahead.old.unsynced + snapshot_calls (machine.state_in engine.old) + record_calls (input_of input.now) }
     ensures device { CountsDevice result (D.failures disk.old) (D.failures disk.new) }
     ensures size { D.size disk.new ≡ D.size disk.old }
@@ -186,14 +189,17 @@ fn take_one<D: Disk>(
     ensures grows { ahead.old.log.generation ≤ ahead.new.log.generation }
     ensures free { IfOk result (λ answer. (from : ℕ) → IsFreeAt ahead.old.log from → IsFreeAt ahead.new.log (from + sectors_for answer (input_of input.now))) }
     ensures refused { IfErr result (λ e. e ≡ Refusal.Device) }
+    ensures fault { OnErr result (NeedsRecord (machine.size_in engine.old) (machine.state_in engine.old) (input_of input.now)) }
     ensures idle { IsIdle (machine.state_in engine.old) (input_of input.now) → (disk.new ≡ disk.old) × (ahead.new ≡ ahead.old) × (machine.state_in engine.new ≡ machine.state_in engine.old) }
     ensures unrecorded { IfOk result (λ answer. HasNoRecord (machine.state_in engine.old) (input_of input.now) answer
         → (disk.new ≡ disk.old) × (ahead.new ≡ ahead.old) × (machine.state_in engine.new ≡ machine.state_in engine.old)) }
+    ensures either { IfOk result (λ answer. HasNoRecord (machine.state_in engine.old) (input_of input.now) answer ⊎ (¬ HasNoRecord (machine.state_in engine.old) (input_of input.now) answer)) }
     ensures clean { IfOk result (λ answer. ahead.new.unsynced ≡ false → (ahead.old.unsynced ≡ false) × HasNoRecord (machine.state_in engine.old) (input_of input.now) answer) }
     ensures fitted { IfOk result (λ answer. ahead.old.log.next + sectors_for answer (input_of input.now) ≤ log_end ahead.old.log.layout ahead.old.log.generation
         → (IsTrue (D.honest disk.old) → sync_count (D.past disk.new) ≡ sync_count (D.past disk.old))
         × (ahead.new.log.next ≤ ahead.old.log.next + sectors_for answer (input_of input.now))
         × (D.calls disk.new ≤ D.calls disk.old + sectors_for answer (input_of input.now))) }
+    ensures few { OnErr result (HasRoomFor ahead.old.log (input_of input.now) → D.calls disk.new ≤ D.calls disk.old + part_count (length (input_spelling (input_of input.now)))) }
     ensures spent { IfOk result (λ answer. answer ≡ Err Refusal.GenerationsSpent → LacksRoom ahead.old.log (length (input_spelling (input_of input.now)))) }
     ensures calls { D.calls disk.new + owed ahead.new.unsynced ≤ D.calls disk.old + owed ahead.old.unsynced + (sector_count (body_limit ahead.old.log.layout) + 3) + record_calls (input_of input.now) }
     ensures device { CountsDevice result (D.failures disk.old) (D.failures disk.new) }
@@ -238,7 +244,8 @@ fn take_all<D: Disk>(
         → During (D.past disk.old) (D.past disk.new) (IsBegun ahead.old.log.layout (machine.state_in engine.old) (taken (map input_of inputs.now) answers.new.items))) }
     ensures under { OnOk result (IsTrue (D.honest disk.old) → KeptIn (D.past disk.old) (D.size disk.old) ahead.old (machine.state_in engine.old)
         → UnderwayIn (machine.state_in engine.old) (taken (map input_of inputs.now) answers.new.items) (D.past disk.new) ahead.new (machine.state_in engine.new)) }
-    ensures stopped { OnErr result (StopsAt (machine.size_in engine.old) (machine.state_in engine.old) (map input_of inputs.now) answers.new.items) }
+    ensures stopped { OnErr result (StopsAt ahead.old.log.next (log_end ahead.old.log.layout ahead.old.log.generation) (D.calls disk.old) (D.calls disk.new)
+        (machine.size_in engine.old) (machine.state_in engine.old) (map input_of inputs.now) answers.new.items) }
     ensures lost { OnErr result (IsTrue (D.honest disk.old) → KeptIn (D.past disk.old) (D.size disk.old) ahead.old (machine.state_in engine.old)
         → During (D.past disk.old) (D.past disk.new)
         (IsBegun ahead.old.log.layout (machine.state_in engine.old) (taken (map input_of inputs.now) (answers.new.items ++ Err Refusal.Device ∷ [])))) }
@@ -253,10 +260,12 @@ fn take_all<D: Disk>(
         → disk.new ≡ disk.old) }
     ensures left { OnErr result (length answers.new.items < length inputs.now) }
     ensures clean { OnOk result (ahead.new.unsynced ≡ false → HaveNoRecord (machine.state_in engine.old) (map input_of inputs.now) answers.new.items) }
-    ensures dirty { OnOk result (ahead.new.unsynced ≡ true → HasReceipt answers.new.items) }
     ensures fitted { OnOk result (ahead.old.log.next + all_sectors (map input_of inputs.now) answers.new.items ≤ log_end ahead.old.log.layout ahead.old.log.generation
         → (IsTrue (D.honest disk.old) → sync_count (D.past disk.new) ≡ sync_count (D.past disk.old))
         × (D.calls disk.new ≤ D.calls disk.old + all_sectors (map input_of inputs.now) answers.new.items)) }
+    ensures recorded { OnOk result ((sectors : ℕ)
+        × Recorded (machine.size_in engine.old) (machine.state_in engine.old) (map input_of inputs.now) answers.new.items sectors (machine.state_in engine.new)
+        × (ahead.old.log.next + sectors ≤ log_end ahead.old.log.layout ahead.old.log.generation → D.calls disk.new ≤ D.calls disk.old + sectors)) }
     ensures capacity { length inputs.now ≤ vec_capacity answers.new }
     ensures spent { (count from : ℕ) → IsFreeAt ahead.old.log from
         → AreSpentAt ahead.old.log.layout ahead.new.log.generation from (map input_of inputs.now) (answers.new.items ++ replicate count (Err Refusal.Device)) }
@@ -313,7 +322,8 @@ fn record_all<D: Disk>(
         → During (D.past disk.old) (D.past disk.new) (IsBegun ahead.old.log.layout (machine.state_in engine.old) (taken (map input_of inputs.now) answers.new.items))) }
     ensures kept { OnOk result (IsTrue (D.honest disk.old) → KeptIn (D.past disk.old) (D.size disk.old) ahead.old (machine.state_in engine.old)
         → KeptIn (D.past disk.new) (D.size disk.old) ahead.new (machine.state_in engine.new)) }
-    ensures stopped { OnErr result (StopsAt (machine.size_in engine.old) (machine.state_in engine.old) (map input_of inputs.now) answers.new.items) }
+    ensures stopped { OnErr result (StopsAt ahead.old.log.next (log_end ahead.old.log.layout ahead.old.log.generation) (D.calls disk.old) (D.calls disk.new)
+        (machine.size_in engine.old) (machine.state_in engine.old) (map input_of inputs.now) answers.new.items) }
     ensures lost { OnErr result (IsTrue (D.honest disk.old) → KeptIn (D.past disk.old) (D.size disk.old) ahead.old (machine.state_in engine.old)
         → During (D.past disk.old) (D.past disk.new)
         (IsBegun ahead.old.log.layout (machine.state_in engine.old) (taken (map input_of inputs.now) (answers.new.items ++ Err Refusal.Device ∷ [])))) }
@@ -364,6 +374,9 @@ impl<D: Disk> Keeper<D> {
             → AreAnswered (size_in self.old) (state_in self.old) (map input_of inputs.items) answers.items (state_in self.new)) }
         ensures fell { IfOk result (λ answers. has_failed self.new ≡ true
             → FellBack (size_in self.old) (state_in self.old) (map input_of inputs.items) answers.items (state_in self.new)) }
+        ensures fell_there { IfOk result (λ answers. has_failed self.new ≡ true
+            → FellThere (next_in self.old) (log_end (layout_in self.old) (log_generation_in self.old)) (D.calls (disk_in self.old)) (D.calls (disk_in self.new))
+            (size_in self.old) (state_in self.old) (map input_of inputs.items) answers.items (state_in self.new)) }
         ensures told { IfOk result (λ answers. (has_failed self.new ≡ true) ↔ HasFault answers.items) }
         ensures during { IfOk result (λ answers. IsTrue (D.honest (disk_in self.old))
             → During (D.past (disk_in self.old)) (D.past (disk_in self.new))

@@ -2,7 +2,7 @@
 ghost use Rattle.std.specs.Prelude.{◌≡◌, ◌⊎◌, ◌+◌, ◌-◌, ◌^◌, ◌<◌, ◌≤◌, ◌∷◌, ◌++◌, [], ℕ, List, true, false, length, Err, IfOk, IfErr, OnOk, OnErr, IsTrue};
 ghost use Rattle.um_engine.specs.Engine.{reply_in, actions_in, standing_in, state_in, size_in, state_after, state_before};
 ghost use Rattle.um_keeper.specs.Keeping.{MayHold, IsBegun, snapshot_calls};
-ghost use Rattle.um_keeper.specs.Underway.{UnderwayIn, LacksRoom, IsFreeAt, IsPlannedBy};
+ghost use Rattle.um_keeper.specs.Underway.{UnderwayIn, LacksRoom, HasRoomFor, IsFreeAt, IsPlannedBy};
 ghost use Rattle.um_log.specs.Reading.{Fits};
 ghost use Rattle.um_model.specs.Disk.{During};
 ghost use Rattle.um_model.specs.InputSpellings.{FitInput, input_limit, input_spelling};
@@ -125,8 +125,8 @@ fn write<D: Disk>(
         → IsTrue (D.honest disk.old) → sync_count (D.past disk.new) ≡ sync_count (D.past disk.old)) }
     ensures fits_next { OnOk result (ahead.old.log.next + part_count (length (input_spelling (input_of input.now))) ≤ log_end ahead.old.log.layout ahead.old.log.generation
         → ahead.new.log.next ≡ ahead.old.log.next + part_count (length (input_spelling (input_of input.now)))) }
-    ensures fits_calls { OnOk result (ahead.old.log.next + part_count (length (input_spelling (input_of input.now))) ≤ log_end ahead.old.log.layout ahead.old.log.generation
-        → D.calls disk.new ≤ D.calls disk.old + part_count (length (input_spelling (input_of input.now)))) }
+    ensures fits_calls { ahead.old.log.next + part_count (length (input_spelling (input_of input.now))) ≤ log_end ahead.old.log.layout ahead.old.log.generation
+        → D.calls disk.new ≤ D.calls disk.old + part_count (length (input_spelling (input_of input.now))) }
     ensures calls { D.calls disk.new ≤ D.calls disk.old + snapshot_calls (state_in engine.now) + part_count (length (input_spelling (input_of input.now))) }
     ensures device { CountsDevice result (D.failures disk.old) (D.failures disk.new) }
     ensures size { D.size disk.new ≡ D.size disk.old }
@@ -176,6 +176,7 @@ pub(crate) fn record<D: Disk>(
         → (IsTrue (D.honest disk.old) → sync_count (D.past disk.new) ≡ sync_count (D.past disk.old))
         × (ahead.new.log.next ≡ ahead.old.log.next + part_count (length (input_spelling (input_of input.now))))
         × (D.calls disk.new ≤ D.calls disk.old + part_count (length (input_spelling (input_of input.now))))) }
+    ensures few { HasRoomFor ahead.old.log (input_of input.now) → D.calls disk.new ≤ D.calls disk.old + part_count (length (input_spelling (input_of input.now))) }
     ensures calls { D.calls disk.new ≤ D.calls disk.old + snapshot_calls (state_in engine.old) + part_count (length (input_spelling (input_of input.now))) }
     ensures device { CountsDevice result (D.failures disk.old) (D.failures disk.new) }
     ensures size { D.size disk.new ≡ D.size disk.old }

@@ -1,6 +1,6 @@
-use Rattle.std.proofs.Common.{◌≡◌, ◌∙◌, ◌+◌, ◌≤◌, ◌<◌, ◌++◌, ℕ, zero, suc, Bool, true, false, List, [], ◌∷◌, length, map, replicate, inl, inr, refl, sym, ap, subst, arith, append-nil}
+use Rattle.std.proofs.Common.{◌≡◌, ◌∙◌, ◌+◌, ◌≤◌, ◌<◌, ◌++◌, ℕ, zero, suc, Bool, true, false, List, [], ◌∷◌, length, map, replicate, inl, inr, sym, ap, subst, arith, append-nil}
 use Rattle.std.specs.Prelude.{Err}
-use Rattle.std.proofs.lemmas.Bool.{cases_Bool}
+use Rattle.std.proofs.lemmas.Bool.{cases_Bool, true≢false}
 use Rattle.std.proofs.lemmas.List.{length-map}
 use Rattle.um_engine.specs.Engine.{state_in}
 use Rattle.um_model.specs.Disk.{During}
@@ -8,7 +8,7 @@ use Rattle.um_model.specs.Machine.{State, Input}
 use Rattle.um_model.specs.Store.{store_sectors}
 use Rattle.um_model.specs.declared.layout.Layout.{Layout}
 use Rattle.um_state.specs.View.{input_of}
-use Rattle.um_keeper.specs.Answering.{Answer, denied, taken, NeedNoRecord, HaveNoRecord}
+use Rattle.um_keeper.specs.Answering.{Answer, at_sync, denied, NeedNoRecord, HaveNoRecord}
 use Rattle.um_keeper.specs.Keeping.{IsBegun}
 use Rattle.um_keeper.specs.Underway.{owed}
 use Rattle.um_keeper.specs.declared.ahead.Ahead.{Ahead}
@@ -52,7 +52,13 @@ returns-clause-stopped g c = err_more c.settle.result (λ needed. record {
   parts = sym (append-nil (map input_of c.args.inputs.now));
   u = state_in c.take_all.new.engine;
   were = c.in_ok-take_all.ensures.ok;
-  some = inr (c.in_ok-take_all.ensures.dirty needed);
+  fails = at_sync (λ none. true≢false (sym needed ∙ ap (λ (a : Ahead). a.unsynced) (c.in_ok-take_all.ensures.unrecorded none).1 ∙ c.requires.synced));
+  sectors = c.in_ok-take_all.ensures.recorded.0;
+  recorded = c.in_ok-take_all.ensures.recorded.1;
+  few = λ room.
+      let calls = c.in_ok-take_all.ensures.recorded.2 (omega (arith, room)) in
+      let owes = owed_most c.take_all.new.ahead.unsynced in
+      omega (arith, c.settle.ensures.calls, owes, calls);
 }) c.settle.ensures.needed
 
 pub returns-clause-lost : goal.returns-clause-lost

@@ -1,20 +1,18 @@
-use Rattle.std.proofs.Common.{◌≡◌, ◌∙◌, ◌<◌, ◌≤◌, ◌+◌, ◌++◌, ℕ, Bool, true, false, List, [], ◌∷◌, append-nil, length, take, drop, map, replicate, get_or, inl, inr, refl, sym, ap, subst, arith}
-use Rattle.std.specs.Prelude.{Err, IsTrue}
-use Rattle.std.proofs.lemmas.Bool.{false≢true, true≢false}
+use Rattle.std.proofs.Common.{◌≡◌, ◌∙◌, ◌<◌, ◌≤◌, ◌+◌, ◌++◌, ℕ, List, [], ◌∷◌, append-nil, length, take, drop, map, replicate, get_or, inl, inr, refl, sym, ap, subst, arith}
+use Rattle.std.specs.Prelude.{Err}
 use Rattle.std.proofs.lemmas.List.{take_more, take_all, drop_more, take-append-drop, map-append, nil_from_length, length-drop, length-take, length-map}
-use Rattle.um_engine.specs.Engine.{standing_in, state_in, size_in}
-use Rattle.um_engine.specs.declared.engine.Engine.{Engine}
+use Rattle.um_engine.specs.Engine.{state_in, size_in}
 use Rattle.um_model.specs.Disk.{During}
 use Rattle.um_model.specs.Machine as model
 use Rattle.um_model.specs.Store.{body_limit, log_end, sector_count}
 use Rattle.um_model.specs.declared.layout.Layout.{Layout}
 use Rattle.um_state.specs.View.{input_of}
 use Rattle.um_state.specs.declared.input.Input.{Input}
-use Rattle.um_keeper.specs.Answering.{Answer, Answered, AreAnswered, all_answered, where_step, taken, IsIdle, NeedNoRecord, HasNoRecord, HaveNoRecord, sectors_for, all_sectors, AreSpentAt, most_calls}
+use Rattle.um_keeper.specs.Answering.{Answer, Answered, AreAnswered, all_answered, where_step, taken, IsIdle, NeedsRecord, at_record, NeedNoRecord, HasNoRecord, HaveNoRecord, sectors_for, all_sectors, Recorded, all_recorded, AreSpentAt, most_calls}
 use Rattle.um_keeper.specs.Keeping.{IsBegun, record_calls}
 use Rattle.um_keeper.specs.Underway.{UnderwayIn, owed}
 use Rattle.um_keeper.specs.declared.ahead.Ahead.{Ahead}
-use Rattle.um_keeper.proofs.Batching.{appended, answered_more, same_length, taken_more, idle_left, need_no_record, no_record_left, no_record_more, receipt_more, sectors_left}
+use Rattle.um_keeper.proofs.Batching.{appended, answered_more, same_length, taken_more, idle_left, need_no_record, no_record_left, no_record_more, recorded_with, recorded_without, sectors_left}
 use Rattle.um_keeper.proofs.Results.{err_from}
 use Rattle.um_keeper.proofs.Spent.{spent_at, spent_left, faults_spent}
 use Rattle.um_keeper.proofs.Underway.{still_begun, underway_kept, then_begun}
@@ -87,12 +85,12 @@ loop-input-init g c =
       idle = λ here. (refl, refl, refl, here);
       unrecorded = λ rest here. (refl, refl, refl, subst (λ l. HaveNoRecord (state_in first) all (l ++ rest)) none here);
       clean = λ is. (tt, refl);
-      dirty = λ is. absurd (false≢true (sym c.requires.synced ∙ is));
       fitted = λ rest room. (
         (λ h. refl),
         subst (λ l. a.log.next + all_sectors all (l ++ rest) ≤ log_end a.log.layout a.log.generation) none room,
         subst (λ l. D.calls c.args.disk.now + all_sectors all rest ≤ D.calls c.args.disk.now + all_sectors all (l ++ rest)) (sym none) (omega arith),
       );
+      recorded = (0, subst (λ l. Recorded (size_in first) (state_in first) [] l 0 (state_in first)) (sym none) all_recorded, λ room. (omega arith, omega arith));
       spent = λ from free. (from, free, (λ generation high rest behind. subst (λ l. AreSpentAt a.log.layout generation from all (l ++ rest)) (sym none) behind));
       calls = let clean = ap owed c.requires.synced in omega (arith, clean);
       held = c.requires.held;
@@ -129,6 +127,10 @@ loop-input-preserved g c =
     let longer = one_longer c.input-item.result (drop (at.input-index + 1) c.args.inputs.now) (drop at.input-index c.args.inputs.now) left in
     let more : (rest : List Answer) → answers ++ rest ≡ at.answers.items ++ (answer ∷ rest) = λ rest. appended at.answers.items answers answer rest c.note.ensures.items in
     let size = same_length inv.answered in
+    let all_of : (n : ℕ) (u : model.State) → Recorded (size_in first) (state_in first) (front ++ input ∷ []) (at.answers.items ++ answer ∷ []) n u
+    → Recorded (size_in first) (state_in first) (map input_of (take (at.input-index + 1) c.args.inputs.now)) answers n u =
+    λ n u here. subst (λ l. Recorded (size_in first) (state_in first) l answers n u) (sym further)
+    (subst (λ l. Recorded (size_in first) (state_in first) (front ++ input ∷ []) l n u) (sym c.note.ensures.items) here) in
     let sum : taken (map input_of (take (at.input-index + 1) c.args.inputs.now)) answers ≡ taken front at.answers.items ++ where_step answer input =
     ap (λ l. taken l answers) further ∙ ap (taken (front ++ input ∷ [])) c.note.ensures.items ∙ taken_more front at.answers.items input [] answer size in
     record {
@@ -159,8 +161,6 @@ loop-input-preserved g c =
                 (no_record_more (state_in first) front at.answers.items input answer size all_before (subst (λ z. HasNoRecord z input answer) s one))),
             (told.unrecorded one).2 ∙ s,
           );
-      dirty = receipt_more (state_in at.engine) input at.answers.items answer answers at.ahead.unsynced made.ahead.unsynced c.note.ensures.items
-          (λ none. ap (λ (x : Ahead). x.unsynced) (told.unrecorded none).1) inv.dirty;
       fitted = λ rest room.
           let (syncs, next, calls) = inv.fitted (answer ∷ rest) (subst (λ l. a.log.next + all_sectors all l ≤ log_end layout a.log.generation) (more rest) room) in
           let sum_of = sectors_left answer rest step in
@@ -171,6 +171,29 @@ loop-input-preserved g c =
             subst (λ l. D.calls made.disk + all_sectors (map input_of (drop (at.input-index + 1) c.args.inputs.now)) rest ≤ D.calls c.args.disk.now + all_sectors all l) (sym (more rest))
                 (rest_has_room (D.calls at.disk) (D.calls made.disk) (sectors_for answer input) _ _ _ sum_of one.2 calls),
           );
+      recorded =
+          let (sectors, here, most) = inv.recorded in
+          let same_end : log_end at.ahead.log.layout at.ahead.log.generation ≡ log_end layout a.log.generation = ap (λ (z : Layout). log_end z 0) inv.layout in
+          elim told.either [
+            | inl none ↦ (
+              sectors,
+              all_of sectors (state_in made.engine) (subst (Recorded (size_in first) (state_in first) (front ++ input ∷ []) (at.answers.items ++ answer ∷ []) sectors) (sym (told.unrecorded none).2) (recorded_without input answer here none)),
+              λ room.
+                  let (next, calls) = most room in
+                  let still = ap (λ (x : Ahead). x.log.next) (told.unrecorded none).1 in
+                  let none_more = ap (λ d. D.calls d) (told.unrecorded none).0 in
+                  (omega (arith, next, still), omega (arith, calls, none_more)),
+            )
+            | inr some ↦ (
+              sectors + sectors_for answer input,
+              all_of (sectors + sectors_for answer input) (state_in made.engine)
+                  (recorded_with here (subst (λ n. Answered n (state_in at.engine) input answer (state_in made.engine)) inv.sized told.ok) some),
+              λ room.
+                  let (next, calls) = most (omega (arith, room)) in
+                  let one = told.fitted (omega (arith, next, same_end, room)) in
+                  (omega (arith, next, one.1), omega (arith, calls, one.2)),
+            )
+          ];
       spent = λ from free.
           let (here, is_free, so_far) = inv.spent from free in (
             here + sectors_for answer input,
@@ -245,6 +268,16 @@ returns-clause-fitted g c room =
     fewer_calls : (now left old all : ℕ) → now + left ≤ old + all → now ≤ old + all
     fewer_calls now left old all most = omega (arith, most)
 
+pub returns-clause-recorded : goal.returns-clause-recorded
+returns-clause-recorded g c =
+    let at = c.loop-input in
+    let first = c.args.engine.now in
+    let (sectors, here, most) = at.invariant.recorded in (
+      sectors,
+      subst (λ l. Recorded (size_in first) (state_in first) (map input_of l) at.answers.items sectors (state_in at.engine)) (take_all at.input-index c.args.inputs.now c.loop-input-test.false) here,
+      λ room. (most room).1,
+    )
+
 pub returns-clause-spent : goal.returns-clause-spent
 returns-clause-spent g c count from free =
     let at = c.loop-input in
@@ -261,16 +294,29 @@ returns-clause-calls g c = omega (arith, c.loop-input.invariant.calls)
 pub returns-in_err-answer-clause-stopped : goal.returns-in_err-answer-clause-stopped
 returns-in_err-answer-clause-stopped g c =
     let at = c.loop-input in
+    let inv = at.invariant in
+    let a = c.args.ahead.now in
     let inputs = c.args.inputs.now in
+    let input = input_of c.input-item.result in
+    let front = map input_of (take at.input-index inputs) in
+    let rest = map input_of (drop (at.input-index + 1) inputs) in
     let left = one_more inputs at.input-index c.input-item.result c.loop-input-test.true c.input-item.is in
+    let parts : map input_of inputs ≡ front ++ input ∷ rest = ap (map input_of) (sym (take-append-drop at.input-index inputs) ∙ ap (λ l. take at.input-index inputs ++ l) left)
+    ∙ map-append input_of (take at.input-index inputs) (c.input-item.result ∷ drop (at.input-index + 1) inputs) in
     err_from c.from_residual.result (record {
-      judged = map input_of (take at.input-index inputs);
-      rest = input_of c.input-item.result ∷ map input_of (drop (at.input-index + 1) inputs);
-      parts = ap (map input_of) (sym (take-append-drop at.input-index inputs) ∙ ap (λ l. take at.input-index inputs ++ l) left)
-          ∙ map-append input_of (take at.input-index inputs) (c.input-item.result ∷ drop (at.input-index + 1) inputs);
+      judged = front;
+      rest = input ∷ rest;
+      parts = parts;
       u = state_in at.engine;
-      were = at.invariant.answered;
-      some = inl (omega arith);
+      were = inv.answered;
+      sectors = inv.recorded.0;
+      recorded = inv.recorded.1;
+      fails = at_record (subst (λ n. NeedsRecord n (state_in at.engine) input) inv.sized c.in_err-answer.ensures.fault);
+      few = λ room.
+          let same_end : log_end at.ahead.log.layout at.ahead.log.generation ≡ log_end a.log.layout a.log.generation = ap (λ (z : Layout). log_end z 0) inv.layout in
+          let (next, calls) = inv.recorded.2 (omega (arith, room)) in
+          let last = c.in_err-answer.ensures.few (omega (arith, room, same_end, next)) in
+          omega (arith, calls, last);
     })
 
 pub returns-in_err-answer-clause-left : goal.returns-in_err-answer-clause-left

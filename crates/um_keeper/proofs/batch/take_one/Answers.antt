@@ -1,4 +1,4 @@
-use Rattle.std.proofs.Common.{◌≡◌, ◌∙◌, ◌+◌, ◌≤◌, [], ◌∷◌, ◌++◌, length, Err, refl, sym, ap, subst, arith}
+use Rattle.std.proofs.Common.{◌≡◌, ◌∙◌, ◌+◌, [], ◌∷◌, ◌++◌, length, Err, inl, refl, sym, ap, subst, arith}
 use Rattle.std.proofs.lemmas.Bool.{false≢true}
 use Rattle.um_engine.specs.Engine.{standing_in, state_in, size_in}
 use Rattle.um_engine.specs.declared.engine.Engine.{Engine}
@@ -33,7 +33,13 @@ returns-then-is_idle-clause-under g c h s before under = underway_stayed under (
 pub returns-then-is_idle-clause-free : goal.returns-then-is_idle-clause-free
 returns-then-is_idle-clause-free g c from free = free_at_more (part_count (length (input_spelling (input_of c.args.input.now)))) free
 
+pub returns-then-is_idle-clause-either : goal.returns-then-is_idle-clause-either
+returns-then-is_idle-clause-either g c = inl (c.is_idle.ensures.lacks c.if-is_idle.true)
+
 -- ---- one that is accepted
+
+pub returns-in-Ok-clause-either : goal.returns-in-Ok-clause-either
+returns-in-Ok-clause-either g c = c.in-Ok.ensures.either
 
 pub returns-in-Ok-clause-ok : goal.returns-in-Ok-clause-ok
 returns-in-Ok-clause-ok g c = accepted c.in-Ok.ensures.ok c.in-Ok.ensures.accepted
@@ -48,6 +54,9 @@ pub returns-in-Ok-clause-calls : goal.returns-in-Ok-clause-calls
 returns-in-Ok-clause-calls g c = calls_at_most c.requires.held _ _ _ c.take_step.ensures.calls
 
 -- ---- one at which the disk failed
+
+pub returns-then-is_fault-clause-fault : goal.returns-then-is_fault-clause-fault
+returns-then-is_fault-clause-fault g c = c.take_step.ensures.fault (c.in-Err.is ∙ ap Err (c.is_fault.ensures.0 c.if-is_fault.true))
 
 pub returns-then-is_fault-clause-calls : goal.returns-then-is_fault-clause-calls
 returns-then-is_fault-clause-calls g c = calls_at_most c.requires.held _ _ _ c.take_step.ensures.calls
@@ -95,6 +104,9 @@ returns-else-is_fault-clause-fitted g c fits =
     let next = ap (λ (a : Ahead). a.log.next) same.1 in
     let calls = ap (λ d. g.D.Disk.calls d) same.0 in
     ((λ h. ap (λ d. sync_count (g.D.Disk.past d)) same.0), omega (arith, next), omega (arith, calls))
+
+pub returns-else-is_fault-clause-either : goal.returns-else-is_fault-clause-either
+returns-else-is_fault-clause-either g c = inl tt
 
 pub returns-else-is_fault-clause-clean : goal.returns-else-is_fault-clause-clean
 returns-else-is_fault-clause-clean g c is =

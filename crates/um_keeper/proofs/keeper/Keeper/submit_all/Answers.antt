@@ -12,10 +12,10 @@ use Rattle.um_model.specs.declared.layout.Slot.{Slot}
 use Rattle.um_sector.specs.Unsynced.{sync_count}
 use Rattle.um_state.specs.View.{input_of}
 use Rattle.um_state.specs.declared.input.Input.{Input}
-use Rattle.um_keeper.specs.Answering.{AreAnswered, FellBack, NeedNoRecord, HaveNoRecord, all_sectors, AreSpentAt, taken, state_before_all}
+use Rattle.um_keeper.specs.Answering.{AreAnswered, FellBack, FellThere, NeedNoRecord, HaveNoRecord, all_sectors, AreSpentAt, taken, state_before_all}
 use Rattle.um_keeper.specs.Keepers.{disk_in, standing_in, state_in, size_in, layout_in, log_generation_in, next_in}
 use Rattle.um_keeper.specs.Keeping.{Keeps, IsBegun}
-use Rattle.um_keeper.proofs.Batching.{numbers_asked, denied_new, no_fault, need_no_record, fell_whole, fell_back, fell_told, fell_during, fell_unrecorded}
+use Rattle.um_keeper.proofs.Batching.{numbers_asked, denied_new, no_fault, need_no_record, fell_whole, fell_back, fell_there, fell_told, fell_during, fell_unrecorded}
 use Rattle.um_keeper.proofs.Kept.{stores, stores_at, keeps_for}
 use Rattle.um_keeper.proofs.Offered.{each_stays, fell_stays, list_goes_on}
 use Rattle.um_keeper.proofs.Results.{of_first}
@@ -118,6 +118,16 @@ returns-clause-fell g c failed =
     let same = ap (λ (s : Standing). s.state) (c.go_back.ensures.state ∙ c.record_all.ensures.back ∙ ap (λ (b : List Back). state_before_all b (standing_in first)) c.in_ok-backs.ensures.items) in
     subst (λ i. FellBack (size_in first) (state_in first) (map input_of i) c.deny.new.answers.items (machine.state_in c.go_back.new.engine)) c.deref.ensures.value
     (fell_back c.in-Err.ensures.stopped c.len-count.result (counted c.len-count.result c.deref.result.now c.args.inputs.items n c.deref.ensures.value) c.deny.ensures same)
+
+pub returns-clause-fell_there : goal.returns-clause-fell_there
+returns-clause-fell_there g c failed =
+    let D = g.D.Disk in
+    let first = c.args.self.now in
+    let n : c.len-count.result ≡ length c.args.inputs.items = search rules in
+    let same = ap (λ (s : Standing). s.state) (c.go_back.ensures.state ∙ c.record_all.ensures.back ∙ ap (λ (b : List Back). state_before_all b (standing_in first)) c.in_ok-backs.ensures.items) in
+    subst (λ i. FellThere (next_in first) (log_end (layout_in first) (log_generation_in first)) (D.calls (disk_in first)) (D.calls c.record_all.new.disk)
+    (size_in first) (state_in first) (map input_of i) c.deny.new.answers.items (machine.state_in c.go_back.new.engine)) c.deref.ensures.value
+    (fell_there c.in-Err.ensures.stopped c.len-count.result (counted c.len-count.result c.deref.result.now c.args.inputs.items n c.deref.ensures.value) c.deny.ensures same)
 
 pub returns-clause-told : goal.returns-clause-told
 returns-clause-told g c =
