@@ -1,12 +1,12 @@
 -- Inputs that were offered as a part of a life: what a crash leaves of them, a life may leave whose last offers they are.
 use Rattle.std.proofs.Common.{⊎_elim, IfOk, IfErr, OnErr, ◌≡◌, ◌≢◌, ◌⊎◌, ◌∙◌, ◌++◌, inl, inr, ℕ, zero, suc, List, [], ◌∷◌, length, map, replicate, take, Bool, true, false, if◌then◌else◌, Result, Ok, Err, append_assoc, refl, sym, ap, subst, true≢false}
 use Rattle.std.proofs.lemmas.Bool.{false≢true}
-use Rattle.std.specs.List.{AllByRecursion}
 use Rattle.um_engine.specs.OfStore.{is_of_store}
 use Rattle.um_keeper.specs.Answering.{Answer, Answered, accepted, refused, turned_away, AreAnswered, all_answered, and_next, FellBack, denied, is_turned_away, where_step, taken}
 use Rattle.um_keeper.specs.Keeping.{IsBegun}
 use Rattle.um_keeper.specs.Offers.{outcome_of, offers, untold, untold_offers, HasCome, GoesOn}
 use Rattle.um_keeper.specs.Opening.{IsSomeStore, IsStill, IsAsBefore}
+use Rattle.um_keeper.specs.Parts.{NoReopen}
 use Rattle.um_laws.proofs.DiskLaws.{weaker}
 use Rattle.um_model.specs.Disk.{Image, Past, During, Images}
 use Rattle.um_model.specs.Lives.{Outcome, Offer, AreUnanswered, none, turned, lost, MayLeave, holds, takes, turns_away}
@@ -119,10 +119,6 @@ come_leaves layout s t offered image come store = subst (λ l. MayLeave layout s
     ends_so (x ∷ l) = ap (λ r. x ∷ r) (ends_so l)
 
 -- ---- inputs that a crash meets
-
--- none is E17
-abbrev pub NoReopen : List Answer → Type 0
-NoReopen answers = AllByRecursion (λ (answer : Answer). answer ≢ Err Reopen) answers
 
 same_refusal : {T : Type 0} {d e : Refusal} → ◌≡◌ {A = Result T Refusal} (Err d) (Err e) → d ≡ e
 same_refusal is = cc

@@ -2,6 +2,7 @@
 ghost use Rattle.std.specs.Prelude.{◌≡◌, ◌↔◌, ◌+◌, ◌-◌, ◌^◌, ◌<◌, ◌≤◌, ℕ, List};
 ghost use Rattle.um_keeper.specs.Finished.{RepeatsNone, WaitsForCommand};
 ghost use Rattle.um_keeper.specs.Opening.{IsUnread, IsUntaken, IsTakenUp, IsNextOf};
+ghost use Rattle.um_keeper.specs.Parts.{ArePartsOfLives};
 ghost use Rattle.um_log.specs.Greatest.{IsGreatest};
 ghost use Rattle.um_model.specs.Disk.{Image};
 ghost use Rattle.um_model.specs.Finished.{IsAtRest};
@@ -40,6 +41,12 @@ pub fn lives()
         → (kept : List Input) × AreKept lives kept × (t : State) × Run (body_limit layout) s kept t × RunsThrough (body_limit layout) s lives kept t
         × IsStoreOf layout last t }
     ensures answered { (lives : List Life) (kept : List Input) → AreKept lives kept → HasInOrder (all_answered lives) kept }
+{}
+
+/// What is offered to a store is a part of a life of it, answered or not: inputs that were answered bring it to the state behind them; and of
+/// those that a crash meets it may leave a beginning, without those that were turned away. So calls may follow each other, and `lives` hold of them.
+pub fn offers_are_parts_of_lives()
+    ensures { ArePartsOfLives }
 {}
 
 /// A finished job is never repeated: wherever in a run a oneshot finishes and no start of it is pending then, none of its starts begins

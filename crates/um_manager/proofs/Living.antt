@@ -5,15 +5,16 @@ use Rattle.std.specs.List.{AllByRecursion}
 use Rattle.std.proofs.lemmas.Grind.{flat_map-append}
 use Rattle.um_keeper.specs.Answering.{Answer, AreAnswered, all_asked, taken}
 use Rattle.um_keeper.specs.Keeping.{IsBegun}
+use Rattle.um_keeper.specs.Finished.{RepeatsNone}
 use Rattle.um_keeper.specs.Offers.{offers, untold_offers, HasCome}
 use Rattle.um_keeper.specs.Opening.{IsSomeStore, IsAsBefore}
-use Rattle.um_keeper.proofs.Offered.{NoReopen, answered_come, come_on, come_leaves, each_stays, fell_stays, all_untold, begun_leaves}
+use Rattle.um_keeper.specs.Parts.{NoReopen, ArePartsOfLives}
 use Rattle.um_fates.specs.Fates.{asks_for}
 use Rattle.um_model.specs.Children.{Call, Tale, ForgotOthers, orders}
 use Rattle.um_model.specs.Disk.{Image, Past, IsImage, Images, ImageSince, During, onto, moment, seen}
 use Rattle.um_model.specs.Disk as disks
 use Rattle.um_model.specs.Lives.{Offer, AreUnanswered, lost, MayLeave, holds, takes}
-use Rattle.um_model.specs.Machine.{State, Input, Reply, Done, Step, empty_state}
+use Rattle.um_model.specs.Machine.{State, Input, Reply, Done, Run, Step, empty_state}
 use Rattle.um_model.specs.Numbers.{AreNew, started_numbers}
 use Rattle.um_model.specs.Service.{Action, SpawnProcess, SendSignal}
 use Rattle.um_model.specs.Stands.{StandsFor, IsStoreOf}
@@ -90,10 +91,10 @@ at_moment old new at P during while image there =
         longer (x ∷ xs) ys = omega (arith, longer xs ys)
 
 -- none of the answers of a store that is relied on is E17
-pub none_again : (at : Place) → IsTrue at.trusted → (s t : State) (inputs : List Input) (answers : List Answer) → Answers at s inputs answers t → NoReopen answers
-none_again at trusted s t inputs answers (each are) = each_stays are
-none_again at trusted s t inputs answers (fell back) = fell_stays back
-none_again at trusted s t inputs answers (reopen failed are same) = absurd (true≢false (sym trusted ∙ failed))
+pub none_again : ArePartsOfLives → (at : Place) → IsTrue at.trusted → (s t : State) (inputs : List Input) (answers : List Answer) → Answers at s inputs answers t → NoReopen answers
+none_again offering at trusted s t inputs answers (each are) = offering.judged at.size s t inputs answers are
+none_again offering at trusted s t inputs answers (fell back) = offering.fell at.size s t inputs answers back
+none_again offering at trusted s t inputs answers (reopen failed are same) = absurd (true≢false (sym trusted ∙ failed))
 
 -- a turn that ended Ok had its store's Ok
 pub store_ok : (store later : Result Unit Refusal) → Ok tt ≡ first_refusal store later → store ≡ Ok tt
@@ -113,7 +114,7 @@ record Stood (layout : Layout) (disk : Past) (before : List Call) (offered : Lis
   past : b.past ≡ before ++ more
   new : AreNew s.next b.state.next (started_numbers (orders more))
 
-module _ (layout : Layout) (on : Reliance) (sure : IsTrue on.disk) (honest : IsTrue on.children) (whole : IsTrue on.history) where
+module _ (offering : ArePartsOfLives) (layout : Layout) (on : Reliance) (sure : IsTrue on.disk) (honest : IsTrue on.children) (whole : IsTrue on.history) where
   opened_stood : (disk : Past) (before : List Call) {moment : ℕ} {boot : List ℕ} {count sectors : ℕ} {b : Now}
       (opened : Opened (place_on layout on) on.children on.history moment boot count sectors disk before b) → Stood layout disk before (offers_of_opening opened) b
   opened_stood disk before {moment} {boot} {b = b} opened =
@@ -132,7 +133,7 @@ module _ (layout : Layout) (on : Reliance) (sure : IsTrue on.disk) (honest : IsT
         s = a.state;
         found = (opened.found sure).stands;
         come = λ more image m. takes began.reply [] refl began.booted
-            (answered_come layout mid.state b.state (adoptions moment adopted.told) adopted.answers told more image m);
+            (offering.answered layout mid.state b.state (adoptions moment adopted.told) adopted.answers told more image m);
         stored = adopted.stored sure refl;
         more = ForgotOthers adopted.live ∷ (map asks_for adopted.told ++ called.given);
         past = called.past_is ∙ ap (λ p. (p ++ ForgotOthers adopted.live ∷ []) ++ (map asks_for adopted.told ++ called.given)) (began.asked_none ∙ opened.unasked)
@@ -160,8 +161,8 @@ module _ (layout : Layout) (on : Reliance) (sure : IsTrue on.disk) (honest : IsT
       record {
         s = stood.s;
         found = stood.found;
-        come = come_on layout stood.s a.state b.state offered (offers (offered_in turned) turned.answers) stood.come
-            (answered_come layout a.state b.state (offered_in turned) turned.answers told);
+        come = offering.further layout stood.s a.state b.state offered (offers (offered_in turned) turned.answers) stood.come
+            (offering.answered layout a.state b.state (offered_in turned) turned.answers told);
         stored = turned.stored sure ok;
         more = stood.more ++ given;
         past = called.past_is ∙ ap (λ p. p ++ given) stood.past ∙ append_assoc before stood.more given;
@@ -216,7 +217,7 @@ module _ (layout : Layout) (on : Reliance) (sure : IsTrue on.disk) (honest : IsT
       was = read;
       state = stood.s;
       store = found_store disk stood.s stores read stood.found;
-      leaves = come_leaves layout stood.s b.state offered image stood.come (stood.stored image there);
+      leaves = offering.stored layout stood.s b.state offered image stood.come (stood.stored image there);
     };
     started = λ new image there t store.
         let same : b.state ≡ t = one_state layout image b.state t (stood.stored image there).stands store.stands in
@@ -255,7 +256,7 @@ module _ (layout : Layout) (on : Reliance) (sure : IsTrue on.disk) (honest : IsT
       untold = untold_offers (offered_in turned) turned.answers
 
       here : (image : Image) → IsImage stop image → MayLeave layout a.state untold image
-      here image there = begun_leaves layout a.state (offered_in turned) turned.answers image (none_again (place_on layout on) sure a.state b.state (offered_in turned) turned.answers turned.answered)
+      here image there = offering.begun layout a.state (offered_in turned) turned.answers image (none_again offering (place_on layout on) sure a.state b.state (offered_in turned) turned.answers turned.answered)
           (at_moment a.disk b.disk stop (IsBegun layout a.state (taken (offered_in turned) turned.answers)) (turned.left sure) while image there)
 
   -- a stop before any order: where each image comes from
@@ -299,7 +300,7 @@ module _ (layout : Layout) (on : Reliance) (sure : IsTrue on.disk) (honest : IsT
   boot_leaves : (a : State) (moment : ℕ) (boot : List ℕ) (inputs : List Input) (answers : List Answer) (image : Image) → NoReopen answers
       → IsBegun layout a (boot_at moment boot ∷ taken inputs answers) image → MayLeave layout a (boot_untold moment boot ∷ untold_offers inputs answers) image
   boot_leaves a moment boot inputs answers image stay begun =
-      begun_leaves layout a (boot_at moment boot ∷ inputs) (booted ∷ answers) image ((λ is. cc), stay) begun
+      offering.begun layout a (boot_at moment boot ∷ inputs) (booted ∷ answers) image ((λ is. cc), stay) begun
     where
       booted : Answer
       booted = Ok (Done, [])
@@ -309,7 +310,7 @@ module _ (layout : Layout) (on : Reliance) (sure : IsTrue on.disk) (honest : IsT
       → MayLead layout (record { disk = disk; before = before; offers = untold_of_opening opened; stop = stop; calls = before ++ calls })
   opening_leads disk stop before calls {moment} {boot} b opened while =
       early_leads disk stop before calls opened.a.state (untold_of_opening opened) (boot_at moment boot ∷ taken inputs answers) (opened.found sure).stands
-      (lost (all_untold inputs answers)) (λ image. boot_leaves opened.a.state moment boot inputs answers image stay)
+      (lost (offering.untold inputs answers)) (λ image. boot_leaves opened.a.state moment boot inputs answers image stay)
       (λ stores. at_moment disk b.disk stop (IsOfOpening layout disk opened.a.state (boot_at moment boot ∷ taken inputs answers))
       (opened.left sure (λ image there. let (s, store) = stores image there in record { state = s; stands = store.stands })) while)
     where
@@ -320,7 +321,7 @@ module _ (layout : Layout) (on : Reliance) (sure : IsTrue on.disk) (honest : IsT
       answers = opened.began.adopted.answers
 
       stay : NoReopen answers
-      stay = none_again (place_on layout on) sure opened.began.mid.state b.state inputs answers opened.began.adopted.answered
+      stay = none_again offering (place_on layout on) sure opened.began.mid.state b.state inputs answers opened.began.adopted.answered
 
   -- a stop in an opening that is refused
   refused_leads : (disk left stop : Past) (before told calls : List Call) {moment : ℕ} {boot : List ℕ} {sectors : ℕ}
@@ -336,7 +337,7 @@ module _ (layout : Layout) (on : Reliance) (sure : IsTrue on.disk) (honest : IsT
       (opening_left layout a.state (boot_at moment boot ∷ []) disk a.disk b.disk stays (during refl)) (subst (λ p. IsMeanwhile disk p stop) disk_is while)) none
   refused_leads disk left stop before told calls {moment} {boot} (taken_up a b found unasked stays (unadopted device began) disk_is calls_is) while none =
       early_leads disk stop before calls a.state (boot_untold moment boot ∷ untold_offers inputs answers) (boot_at moment boot ∷ taken inputs answers) found.stands
-      (lost (all_untold inputs answers)) (λ image. boot_leaves a.state moment boot inputs answers image stay)
+      (lost (offering.untold inputs answers)) (λ image. boot_leaves a.state moment boot inputs answers image stay)
       (λ stores. at_moment disk b.disk stop (IsOfOpening layout disk a.state (boot_at moment boot ∷ taken inputs answers))
       (opening_left layout a.state (boot_at moment boot ∷ taken inputs answers) disk a.disk b.disk stays
       (boot_then (place (body_limit layout) layout true) a.state began.mid.state (boot_at moment boot) began.reply (taken inputs answers) a.disk began.mid.disk b.disk refl
@@ -349,7 +350,7 @@ module _ (layout : Layout) (on : Reliance) (sure : IsTrue on.disk) (honest : IsT
       answers = began.adopted.answers
 
       stay : NoReopen answers
-      stay = none_again (place (body_limit layout) layout true) refl began.mid.state b.state inputs answers began.adopted.answered
+      stay = none_again offering (place (body_limit layout) layout true) refl began.mid.state b.state inputs answers began.adopted.answered
 
   -- ---- all lives
 
@@ -365,8 +366,8 @@ module _ (layout : Layout) (on : Reliance) (sure : IsTrue on.disk) (honest : IsT
   all_leads (life ∷ all) each_is = (life_leads life each_is.0, all_leads all each_is.1)
 
 -- A service manager outlives crashes.
-pub manager_outlives : (layout : Layout) (all : List Life) (stop : Past) (calls : List Call) (image : Image) → Premises layout all stop calls → IsImage stop image
+pub manager_outlives : ArePartsOfLives → ((size : ℕ) (s t : State) (inputs : List Input) (run : Run size s inputs t) → RepeatsNone run) → (layout : Layout) (all : List Life) (stop : Past) (calls : List Call) (image : Image) → Premises layout all stop calls → IsImage stop image
     → Outlives layout all calls image
-manager_outlives layout all stop calls image given there =
-    outlives layout given.made given.first all stop calls given.created given.unstarted given.follow
-    (all_leads layout given.on given.disk given.children given.history all given.each) image there
+manager_outlives offering repeats_none layout all stop calls image given there =
+    outlives repeats_none layout given.made given.first all stop calls given.created given.unstarted given.follow
+    (all_leads offering layout given.on given.disk given.children given.history all given.each) image there

@@ -3,7 +3,7 @@ use Rattle.std.proofs.Common.{◌≡◌, ◌⊎◌, ◌∙◌, inl, inr, ℕ, ze
 use Rattle.std.proofs.lemmas.Option.{none-some, same_Some}
 use Rattle.std.specs.List.{AllByRecursion}
 use Rattle.um_keeper.specs.Creating.{IsEmptyStore}
-use Rattle.um_keeper.proofs.Repeating.{repeats_none}
+use Rattle.um_keeper.specs.Finished.{RepeatsNone}
 use Rattle.um_model.specs.Children.{Call, orders}
 use Rattle.um_model.specs.Disk.{Image, Past, IsImage, Images, seen}
 use Rattle.um_model.specs.Lives.{Offer, MayLeave, RunsOver, answered_in, HasInOrder, no_others, has, between}
@@ -190,10 +190,10 @@ each_was_next Run.rests = tt
 each_was_next (goes reply actions step run) = (begun_next step, each_was_next run)
 
 -- Of lives that follow one another, from a new store and children that had started nothing on, each leading as far as a life does.
-pub outlives : (layout : Layout) (made : Past) (first : List Call) (lives : List Life) (stop : Past) (calls : List Call) → Images made (IsEmptyStore layout)
+pub outlives : ((size : ℕ) (s t : State) (inputs : List Input) (run : Run size s inputs t) → RepeatsNone run) → (layout : Layout) (made : Past) (first : List Call) (lives : List Life) (stop : Past) (calls : List Call) → Images made (IsEmptyStore layout)
     → started_numbers (orders first) ≡ [] → Follow made first lives stop calls → AllByRecursion (MayLead layout) lives → (image : Image) → IsImage stop image
     → Outlives layout lives calls image
-outlives layout made first lives stop calls created unstarted follow lead image there =
+outlives repeats_none layout made first lives stop calls created unstarted follow lead image there =
     let stores : HasStores layout made = λ one was. (empty_state, (created one was).store) in
     let new : AreStarted layout made first = λ one was s store.
     let same : empty_state ≡ s = one_state layout one empty_state s (created one was).store.stands store.stands in
@@ -211,5 +211,5 @@ outlives layout made first lives stop calls created unstarted follow lead image 
       answered = has_answered run;
       started = all.started image there come.t come.store;
       ready = each_was_next;
-      finished = repeats_none;
+      finished = repeats_none (body_limit layout) empty_state come.t come.kept;
     }

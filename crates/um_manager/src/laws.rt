@@ -42,7 +42,9 @@ pub fn what_a_crash_leaves()
         (result : Result Unit Refusal) (moment : ℕ) (pieces : List Piece)
         → place.size ≡ body_limit place.layout → IsTrue place.trusted → (next : Turned place honest still result moment pieces b c)
         → During b.disk c.disk (IsLeft place.layout a.state (all_offers turns) (offered_in next) next.answers) }
-{}
+{
+    um_keeper::laws::offers_are_parts_of_lives();
+}
 
 /// A service manager outlives crashes. However many lives managers have over one store, each stopped at any moment of any call and the next one
 /// opened on what the disk holds then: the disk is a store of the state to which one run of the machine comes, from the empty state over a
@@ -52,4 +54,7 @@ pub fn what_a_crash_leaves()
 pub fn a_service_manager_outlives_crashes()
     ensures { (layout : Layout) (lives : List Life) (stop : Past) (calls : List Call) (image : Image) → Premises layout lives stop calls → IsImage stop image
         → Outlives layout lives calls image }
-{}
+{
+    um_keeper::laws::offers_are_parts_of_lives();
+    um_keeper::laws::finished();
+}
