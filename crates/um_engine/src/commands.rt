@@ -41,7 +41,7 @@ fn cancel_waiting(work: &mut Work<'_>, unit: &UnitName) -> Result<(), Refusal>
     ensures actions { OnOk result (work.new.actions ≡ work.old.actions) }
     ensures refused { RefusesBy (λ r. (has_waiting (jobs_of_unit (state_of work.old.now).pending unit.now) ≡ false) × (r ≡ told.no_such_job unit.now)) result }
 {
-    let Some(number) = work.number(unit) else {
+    let Some(number) = work.graph().number(unit) else {
         return Err(no_such_job(work.alloc(), unit.as_str())?);
     };
     let mut jobs = jobs_in(work)?;
