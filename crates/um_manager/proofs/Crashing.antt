@@ -1,16 +1,15 @@
 -- What a crash leaves of turns that follow each other.
-use Rattle.std.proofs.Common.{◌≡◌, ℕ, List, [], ◌∷◌, length, map, Bool, Result, Ok, refl, sym, ap, subst, arith}
+use Rattle.std.proofs.Common.{◌≡◌, ℕ, List, [], ◌∷◌, length, map, Bool, Result, refl, ap, subst, arith}
 use Rattle.std.specs.Bool.{IsTrue}
 use Rattle.um_keeper.specs.Answering.{Answer, AreAnswered, taken}
 use Rattle.um_keeper.specs.Keeping.{IsBegun}
 use Rattle.um_keeper.specs.Offers.{offers, untold_offers, HasCome}
 use Rattle.um_keeper.specs.Parts.{ArePartsOfLives}
 use Rattle.um_laws.proofs.DiskLaws.{weaker}
-use Rattle.um_model.specs.Disk.{Image, Past, During}
+use Rattle.um_model.specs.Disk.{Image, During}
 use Rattle.um_model.specs.Lives.{Offer}
-use Rattle.um_model.specs.Machine.{State, Input}
+use Rattle.um_model.specs.Machine.{Input}
 use Rattle.um_model.specs.Store.{body_limit}
-use Rattle.um_model.specs.declared.layout.Layout.{Layout}
 use Rattle.um_wire.specs.declared.refusal.Refusal.{Refusal}
 use Rattle.um_manager.proofs.Living.{store_ok, none_again}
 use Rattle.um_manager.proofs.Offering.{length-told}

@@ -1,20 +1,20 @@
 -- What a life of a manager comes to, by what its calls promise.
-use Rattle.std.proofs.Common.{◌≡◌, ◌≢◌, ◌⊎◌, ◌∙◌, inl, inr, ◌≤◌, arith, length, ℕ, List, [], ◌∷◌, ◌++◌, map, flat_map, Bool, true, false, Result, Ok, Err, append_assoc, append-nil, refl, sym, ap, subst, true≢false}
+use Rattle.std.proofs.Common.{◌≡◌, ◌∙◌, inl, inr, ◌≤◌, arith, length, ℕ, List, [], ◌∷◌, ◌++◌, map, true, Result, Ok, Err, append_assoc, append-nil, refl, sym, ap, subst, true≢false}
 use Rattle.std.specs.Bool.{IsTrue}
 use Rattle.std.specs.List.{AllByRecursion}
 use Rattle.std.proofs.lemmas.Grind.{flat_map-append}
-use Rattle.um_keeper.specs.Answering.{Answer, AreAnswered, all_asked, taken}
+use Rattle.um_keeper.specs.Answering.{Answer, all_asked, taken}
 use Rattle.um_keeper.specs.Keeping.{IsBegun}
 use Rattle.um_keeper.specs.Finished.{RepeatsNone}
 use Rattle.um_keeper.specs.Offers.{offers, untold_offers, HasCome}
-use Rattle.um_keeper.specs.Opening.{IsSomeStore, IsAsBefore}
+use Rattle.um_keeper.specs.Opening.{IsAsBefore}
 use Rattle.um_keeper.specs.Parts.{NoReopen, ArePartsOfLives}
 use Rattle.um_fates.specs.Fates.{asks_for}
 use Rattle.um_model.specs.Children.{Call, Tale, ForgotOthers, orders}
 use Rattle.um_model.specs.Disk.{Image, Past, IsImage, Images, ImageSince, During, onto, moment, seen}
 use Rattle.um_model.specs.Disk as disks
 use Rattle.um_model.specs.Lives.{Offer, AreUnanswered, lost, MayLeave, holds, takes}
-use Rattle.um_model.specs.Machine.{State, Input, Reply, Done, Run, Step, empty_state}
+use Rattle.um_model.specs.Machine.{State, Input, Done, Run, empty_state}
 use Rattle.um_model.specs.Numbers.{AreNew, started_numbers}
 use Rattle.um_model.specs.Service.{Action, SpawnProcess, SendSignal}
 use Rattle.um_model.specs.Stands.{StandsFor, IsStoreOf}
@@ -22,19 +22,19 @@ use Rattle.um_model.specs.Store.{body_limit}
 use Rattle.um_model.specs.declared.layout.Layout.{Layout}
 use Rattle.um_model.specs.declared.service.Signal.{Signal}
 use Rattle.um_model.specs.declared.service.Signal.TheVariants.{Term, Kill}
-use Rattle.um_laws.proofs.DiskLaws.{weaker, followed, at_end, counts_now}
+use Rattle.um_laws.proofs.DiskLaws.{counts_now}
 use Rattle.um_laws.proofs.LivesLaws.{one_life, run_of}
 use Rattle.um_laws.proofs.NumbersLaws.{numbers_rise, run_numbers_rise}
 use Rattle.um_laws.proofs.StandsLaws.{one_state}
 use Rattle.um_wire.specs.declared.refusal.Refusal.{Refusal}
 use Rattle.um_manager.proofs.Beginning.{boot_then, opening_left}
-use Rattle.um_manager.proofs.Outliving.{none_new, new_both, new_front, new_longer, HasStores, AreStarted, ComesFrom, Leads, MayLead, outlives}
+use Rattle.um_manager.proofs.Outliving.{new_both, new_front, new_longer, HasStores, AreStarted, ComesFrom, MayLead, outlives}
 use Rattle.um_manager.specs.Lives.{Life, IsMeanwhile, Outlives}
 use Rattle.um_manager.specs.Living.{offered_in, offers_of_opening, boot_untold, untold_of_opening, untold_of_refused, Reliance, place_on, HasLived, opens, turns, waits, IsLife, behind, in_turn, in_opening, in_refused, Premises}
-use Rattle.um_manager.specs.Opening.{Opened, Began, Ended, IsRefused, untaken, taken_up, unbooted, unadopted, IsOfOpening, adoptions, boot_at}
+use Rattle.um_manager.specs.Opening.{Opened, Ended, IsRefused, untaken, taken_up, unbooted, unadopted, IsOfOpening, adoptions, boot_at}
 use Rattle.um_manager.specs.Orders.{signals}
 use Rattle.um_manager.specs.Places.{Place, place}
-use Rattle.um_manager.specs.Turns.{Now, Answers, each, fell, reopen, Called, first_refusal, Turned}
+use Rattle.um_manager.specs.Turns.{Now, Answers, each, fell, reopen, first_refusal, Turned}
 use Rattle.um_manager.specs.declared.pieces.Piece.{Piece}
 
 -- ---- what is started

@@ -1,20 +1,19 @@
 -- Lives of managers that follow one another are one run over what was kept of them, and no number was started twice in all of them.
-use Rattle.std.proofs.Common.{◌≡◌, ◌⊎◌, ◌∙◌, inl, inr, ℕ, zero, suc, ◌+◌, ◌<◌, ◌≤◌, List, [], ◌∷◌, ◌++◌, length, slice_get, Some, refl, sym, ap, subst, arith}
-use Rattle.std.proofs.lemmas.Option.{none-some, same_Some}
+use Rattle.std.proofs.Common.{◌≡◌, ◌⊎◌, inl, inr, ℕ, zero, suc, ◌+◌, ◌<◌, ◌≤◌, List, [], ◌∷◌, ◌++◌, length, slice_get, Some, sym, subst, arith}
+use Rattle.std.proofs.lemmas.Option.{none-some}
 use Rattle.std.specs.List.{AllByRecursion}
 use Rattle.um_keeper.specs.Creating.{IsEmptyStore}
 use Rattle.um_keeper.specs.Finished.{RepeatsNone}
 use Rattle.um_model.specs.Children.{Call, orders}
 use Rattle.um_model.specs.Disk.{Image, Past, IsImage, Images, seen}
-use Rattle.um_model.specs.Lives.{Offer, MayLeave, RunsOver, answered_in, HasInOrder, no_others, has, between}
+use Rattle.um_model.specs.Lives.{MayLeave, RunsOver, answered_in, HasInOrder, no_others, has, between}
 use Rattle.um_model.specs.Machine.{State, Input, Run, goes, empty_state}
 use Rattle.um_model.specs.Numbers.{AreNew, started_numbers}
 use Rattle.um_model.specs.Stands.{IsStoreOf}
 use Rattle.um_model.specs.Store.{body_limit}
 use Rattle.um_model.specs.declared.layout.Layout.{Layout}
 use Rattle.um_laws.proofs.BegunLaws.{begun_next}
-use Rattle.um_laws.proofs.LivesLaws.{one_life, kept_of, run_of, life_has_answered}
-use Rattle.um_laws.proofs.NumbersLaws.{run_numbers_rise}
+use Rattle.um_laws.proofs.LivesLaws.{one_life, kept_of, life_has_answered}
 use Rattle.um_laws.proofs.StandsLaws.{one_state}
 use Rattle.um_manager.specs.Lives.{Life, IsFound, Follow, RunsThrough, at_end, and_on, all_answered, EachWasNext, Outlives}
 
