@@ -1,6 +1,6 @@
 //! The start limit of a unit.
 use std::process::Abort;
-use um_asserts::same_at;
+use um_asserts::{same, same_at};
 use um_limit::{Counted, Window};
 use um_model::{Moment, Span};
 
@@ -91,8 +91,8 @@ fn counts(rt: &impl Abort, row: &Row) {
         same_at!(rt, passed, *passes, label);
     }
     let wanted = window(rt, row.after);
-    same_at!(rt, &counting.copy(), &wanted, label);
     same_at!(rt, counting.counted(), wanted.counted(), label);
+    same!(rt, counting, wanted);
 }
 
 #[test]
