@@ -91,7 +91,7 @@ fn counts(rt: &impl Abort, row: &Row) {
         same_at!(rt, passed, *passes, label);
     }
     let wanted = window(rt, row.after);
-    same_at!(rt, counting.counted(), wanted.counted(), label);
+    same!(rt, counting.counted(), wanted.counted());
     same!(rt, counting, wanted);
 }
 
