@@ -24,7 +24,8 @@ pub record ArePartsOfLives : Type 0 where
   pub answered : (layout : Layout) (s t : State) (inputs : List Input) (answers : List Answer) → AreAnswered (body_limit layout) s inputs answers t
       → HasCome layout s (offers inputs answers) t
   -- one that has come to a state, and from there to another, has come to that
-  pub further : (layout : Layout) (s t u : State) (first more : List Offer) → HasCome layout s first t → HasCome layout t more u → HasCome layout s (first ++ more) u
+  pub further : (layout : Layout) (s t u : State) (first more : List Offer) → HasCome layout s first t → HasCome layout t more u
+      → HasCome layout s (first ++ more) u
   -- a store of the state to which it has come it may leave
   pub stored : (layout : Layout) (s t : State) (offered : List Offer) (image : Image) → HasCome layout s offered t → IsStoreOf layout image t
       → MayLeave layout s offered image
