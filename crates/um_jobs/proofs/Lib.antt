@@ -1,6 +1,7 @@
 pub mod NamedLaws
 pub mod DropLaws
-pub mod ReadyLaws
+pub mod PassedLaws
+mod ReadyLaws
 pub mod LeastLaws
 pub mod SumLaws
 pub mod MirrorLaws

@@ -1,5 +1,5 @@
 -- The first unit with a ready job by its row has the least ready job.
-use Rattle.std.proofs.Common.{◌≡◌, ◌≢◌, ◌∙◌, ◌<◌, ◌&&◌, ◌||◌, ℕ, zero, suc, Bool, true, false, true≢false, cond, not, List, [], ◌∷◌, length, Contains, Option, Some, None, is_none, is_some, refl, sym, ap, subst, inl, inr, arith}
+use Rattle.std.proofs.Common.{◌≡◌, ◌≢◌, ◌⊎◌, ◌∙◌, ◌<◌, ◌&&◌, ◌||◌, ℕ, zero, suc, Bool, true, false, true≢false, cond, not, List, [], ◌∷◌, length, Contains, Option, Some, None, is_none, is_some, refl, sym, ap, subst, inl, inr, arith}
 use Rattle.std.specs.List.{list_any}
 use Rattle.std.proofs.lemmas.Bool.{and_from, and_parts, cases_lt, not-true, or_cases, or_left, or_right}
 use Rattle.um_model.specs.Jobs.{Job, ComesBefore, GoesBefore, IsToldBefore, by_name, job_of, jobs_of_unit, no_jobs, of_one_unit, start_job, starts, state_of_job, stop_first, stop_job, stops, stops_then_starts, stops_then_starts_before}
@@ -15,7 +15,7 @@ use Rattle.um_graph.specs.Graph.{GraphView, IsGraph, Stands, row_of}
 use Rattle.um_graph.specs.Kinds.{after_bit, before_bit, has}
 use Rattle.um_graph.specs.Named.{Joins, name_at}
 use Rattle.um_graph.specs.declared.row.Neighbour.{Neighbour}
-use Rattle.um_graph.proofs.NamedLaws.{AreOnce, IsAmong, among_or_apart, got_within, item_at, name_got, name_is, named_before, names_once}
+use Rattle.um_graph.proofs.NamedLaws.{AreOnce, IsAmong, among_or_apart, got_within, item_at, name_got, name_is, named_before, names_once, not_before}
 use Rattle.um_graph.proofs.StandLaws.{stands_within}
 use Rattle.um_jobs.specs.Jobs.{IsReadyIn, JobsView, held_at, job_named}
 use Rattle.um_jobs.specs.Named.{jobs_at, jobs_by}
@@ -324,3 +324,31 @@ module _ (g : GraphView) (is : IsGraph g) (v : JobsView) where
 
   pub none_ready : ((w : ℕ) → Inside w → ready_kind g v w ≡ None) → (j : Job) → ¬ IsReadyIn g v j
   none_ready none j r = let a = known_of j r in kind_whole a.0 a.1 j.kind (subst (IsReadyIn g v) (at_unit j a.0 a.2) r) (none a.0 a.1)
+
+  -- ---- what has been passed over
+  told_of : (j k : Job) → IsToldBefore j k → IsNamedBefore j.unit k.unit ⊎ (j.unit ≡ k.unit)
+  told_of j k (by_name h) = inl h
+  told_of j k stop_first = inr refl
+
+  pub least_passes : (u : ℕ) → Inside u → (k : JobKind) → IsLeast IsToldBefore (IsReadyIn g v) (job_named g u k) → (w : ℕ) → w < u → ready_kind g v w ≡ None
+  least_passes u l k least w lower = by (ready_kind g v w) refl
+    where
+      here : Inside w
+      here = omega (arith, l, lower)
+
+      apart : (m : JobKind) → job_named g w m ≢ job_named g u k
+      apart m same = omega (arith, once w u here l (ap (λ (j : Job). j.unit) same), lower)
+
+      by : (o : Option JobKind) → ready_kind g v w ≡ o → o ≡ None
+      by None e = refl
+      by (Some m) e = absurd (elim (told_of (job_named g u k) (job_named g w m) (least.first (job_named g w m) (kind_sound w here m e) (apart m))) as (λ _. ⊥) [
+        | inl before ↦ not_before g.names is.sorted w u (omega (arith, lower)) l before
+        | inr same ↦ omega (arith, once u w l here same, lower)
+      ])
+
+  pub none_passes : ((j : Job) → ¬ IsReadyIn g v j) → (w : ℕ) → Inside w → ready_kind g v w ≡ None
+  none_passes none w l = by (ready_kind g v w) refl
+    where
+      by : (o : Option JobKind) → ready_kind g v w ≡ o → o ≡ None
+      by None e = refl
+      by (Some m) e = absurd (none (job_named g w m) (kind_sound w l m e))

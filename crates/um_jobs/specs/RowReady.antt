@@ -1,11 +1,13 @@
 -- Which job of a unit is ready, as the unit's own row says it: by what is pending of the neighbours.
 -- Follows systemd.unit(5), "Before=, After="; it is what the definition of ready jobs comes to for one unit.
 -- The search for the next job stands on this file, and what is proved of the counts.
-use Rattle.std.specs.Prelude.{ℕ, Bool, not, ◌&&◌, ◌||◌, if◌then◌else◌, List, Option, Some, None, is_none, is_some}
+use Rattle.std.specs.Prelude.{◌≡◌, ◌<◌, ℕ, Bool, true, false, not, ◌&&◌, ◌||◌, if◌then◌else◌, List, Option, Some, None, is_none, is_some}
 use Rattle.std.specs.List.{list_any}
 use Rattle.um_model.specs.Machine.{is_waiting}
 use Rattle.um_model.specs.declared.jobs.JobKind.{JobKind}
 use Rattle.um_model.specs.declared.jobs.JobKind.TheVariants.{Stop, Start}
+use Rattle.um_model.specs.declared.jobs.JobState.{JobState}
+use Rattle.um_model.specs.declared.jobs.JobState.TheVariants.{Running, Waiting}
 use Rattle.um_model.specs.declared.jobs.UnitJobs.{UnitJobs}
 use Rattle.um_graph.specs.Graph.{GraphView, row_of}
 use Rattle.um_graph.specs.Kinds.{has, after_bit, before_bit}
@@ -36,3 +38,20 @@ is_start_ready g units held u =
 -- the first job of the unit that is ready
 abbrev pub ready_kind : GraphView → JobsView → ℕ → Option JobKind
 ready_kind g v u = if is_stop_ready g v.units u then Some Stop else (if is_start_ready g v.units v.held u then Some Start else None)
+
+-- ---- what needn't be looked at again
+
+-- none of so many units, from the first on, has a ready job
+abbrev pub ArePassed : GraphView → List UnitJobs → List Bool → ℕ → Type 0
+ArePassed g units held n = (u : ℕ) → u < n → ready_kind g (record { graph = g; units = units; held = held }) u ≡ None
+
+-- the job is as it was, or runs now
+abbrev pub stays_or_runs : Option JobState → Option JobState → Bool
+stays_or_runs before (Some Running) = true
+stays_or_runs (Some Waiting) (Some Waiting) = true
+stays_or_runs None None = true
+stays_or_runs before after = false
+
+-- each job of the unit is as it was, or runs now: it comes before the same jobs as it did, and is ready no sooner
+abbrev pub binds_as_before : UnitJobs → UnitJobs → Bool
+binds_as_before before after = stays_or_runs before.stop after.stop && stays_or_runs before.start after.start

@@ -16,7 +16,7 @@ ghost use Rattle.um_wire.specs.declared.refusal.Refusal.TheVariants.{NoMemory};
 use crate::counts::Blockers;
 use crate::least::LeastSet;
 use crate::marks::{change, change_all, is_stop_free, mark};
-use crate::rows::{is_held, next_ready};
+use crate::rows::{is_held, next_ready, passed_with, still_passed};
 use crate::table::{has_waiting, jobs_of, put_all, without_waiting};
 use std::alloc::{AllocError, Global};
 use std::marker::Model;
@@ -44,19 +44,23 @@ pub struct Jobs<'g> {
     units: Vec<UnitJobs>,
     held: Vec<bool>,
     counted: Option<Counted>,
+    /// So many of the units, from the first on, are known to have no ready job.
+    passed: usize,
 }
 
 impl<'g> Model for Jobs<'g> {
     ghost use Rattle.std.specs.Prelude.{IfSome};
     ghost use Rattle.um_jobs.specs.Counts.{IsKept, IsTable};
     ghost use Rattle.um_jobs.specs.Jobs.{JobsView};
+    ghost use Rattle.um_jobs.specs.RowReady.{ArePassed};
 
     ghost Value = { JobsView };
 
     ghost view = { λ j. record { graph = j.graph.now; units = j.units.items; held = j.held.items } };
 
     ghost invariant = { λ j. IsTable j.graph.now j.units.items j.held.items
-        × IfSome j.counted (λ c. IsKept j.graph.now j.units.items j.held.items c.blockers.items c.ready) };
+        × IfSome j.counted (λ c. IsKept j.graph.now j.units.items j.held.items c.blockers.items c.ready)
+        × ArePassed j.graph.now j.units.items j.held.items j.passed };
 }
 
 // One call, where a derived one is taken apart at each exit.
@@ -67,6 +71,7 @@ impl<'g> Drop for Jobs<'g> {
             units: _units,
             held: _held,
             counted: _counted,
+            passed: _,
         } = self;
     }
 }
@@ -84,6 +89,7 @@ impl<'g> Jobs<'g> {
             units: vec![in alloc; UnitJobs::NONE; len]?,
             held: vec![in alloc; false; len]?,
             counted: None,
+            passed: 0,
         })
     }
 
@@ -109,6 +115,7 @@ impl<'g> Jobs<'g> {
             units: self.units.clone()?,
             held: self.held.clone()?,
             counted: None,
+            passed: 0,
         })
     }
 
@@ -145,6 +152,7 @@ impl Jobs<'_> {
         ensures held { self.new.held ≡ self.old.held }
         ensures graph { self.new.graph ≡ self.old.graph }
     {
+        self.passed = 0;
         match &mut self.counted {
             Some(counted) => change_all(
                 self.graph,
@@ -163,6 +171,7 @@ impl Jobs<'_> {
         ensures { self.new ≡ with_held_at self.old unit deactivating }
     {
         if unit < self.held.len() && self.held[unit] != deactivating {
+            self.passed = passed_with(&self.held, unit, deactivating, self.passed);
             self.held[unit] = deactivating;
             if let Some(counted) = &mut self.counted {
                 mark(
@@ -182,6 +191,7 @@ impl Jobs<'_> {
         ensures { self.new ≡ with_jobs_at self.old unit jobs }
     {
         if unit < self.units.len() {
+            self.passed = still_passed(&self.units, unit, jobs, self.passed);
             match &mut self.counted {
                 Some(counted) => change(
                     self.graph,
@@ -265,7 +275,7 @@ impl Jobs<'_> {
         ensures within { IfSome result (λ r. r.0 < length self.now.graph.names) }
     {
         let Some(counted) = &self.counted else {
-            return next_ready(self.graph, &self.units, &self.held);
+            return next_ready(self.graph, &self.units, &self.held, self.passed);
         };
         let Some(unit) = counted.ready.least() else {
             return None;
@@ -274,6 +284,21 @@ impl Jobs<'_> {
             return Some((unit, JobKind::Stop));
         }
         Some((unit, JobKind::Start))
+    }
+
+    /// What `ready` gives. A search behind it doesn't go over the units before that one again, until a change may let one of their jobs be ready.
+    pub fn find_ready(&mut self) -> Option<(usize, JobKind)>
+        ensures same { self.new ≡ self.old }
+        ensures least { MatchOption result ((job : Job) → ¬ IsReadyIn self.old.graph self.old job)
+            (λ r. IsLeast IsToldBefore (IsReadyIn self.old.graph self.old) (job_named self.old.graph r.0 r.1)) }
+        ensures within { IfSome result (λ r. r.0 < length self.old.graph.names) }
+    {
+        let found = self.ready();
+        self.passed = match found {
+            Some((unit, _kind)) => unit,
+            None => self.units.len(),
+        };
+        found
     }
 }
 

@@ -1,13 +1,15 @@
 //! Which job is ready by the rows of the units, where nothing is counted.
 
 ghost use Rattle.std.specs.List.{list_any};
-ghost use Rattle.std.specs.Prelude.{◌≡◌, ◌<◌, length, IfSome, MatchOption};
+ghost use Rattle.std.specs.Prelude.{◌≡◌, ◌<◌, Bool, List, length, slice_set, IfSome, MatchOption};
+ghost use Rattle.um_graph.specs.Graph.{GraphView};
 ghost use Rattle.um_jobs.specs.Jobs.{IsReadyIn, held_at, job_named};
 ghost use Rattle.um_jobs.specs.RowReady as told;
+ghost use Rattle.um_jobs.specs.RowReady.{ArePassed};
 ghost use Rattle.um_model.specs.Jobs.{IsToldBefore, Job};
 ghost use Rattle.um_model.specs.Least.{IsLeast};
 
-use crate::table::{is_waiting, jobs_of};
+use crate::table::{binds_as_before, is_waiting, jobs_of};
 use um_graph::{Graph, Neighbour};
 use um_model::{JobKind, UnitJobs};
 
@@ -80,16 +82,41 @@ fn ready_kind(graph: &Graph, units: &[UnitJobs], held: &[bool], unit: usize) -> 
     }
 }
 
-/// The least ready job with the number of its unit, found by going over the units; None where none is ready. It takes no memory.
-pub fn next_ready(graph: &Graph, units: &[UnitJobs], held: &[bool]) -> Option<(usize, JobKind)>
+/// The least ready job with the number of its unit, found by going over the units, but for so many from the first on that have none; None where
+/// none is ready. It takes no memory.
+pub fn next_ready(
+    graph: &Graph,
+    units: &[UnitJobs],
+    held: &[bool],
+    passed: usize,
+) -> Option<(usize, JobKind)>
+    requires { ArePassed graph.now units.now held.now passed }
     ensures least { MatchOption result ((job : Job) → ¬ IsReadyIn graph.now (record { graph = graph.now; units = units.now; held = held.now }) job)
         (λ r. IsLeast IsToldBefore (IsReadyIn graph.now (record { graph = graph.now; units = units.now; held = held.now })) (job_named graph.now r.0 r.1)) }
     ensures within { IfSome result (λ r. r.0 < length graph.now.names) }
 {
-    for unit in 0..graph.len() {
+    for unit in passed..graph.len() {
         if let Some(kind) = ready_kind(graph, units, held, unit) {
             return Some((unit, kind));
         }
     }
     None
+}
+
+/// How many of the units, from the first on, are still known to have no ready job where so many were, once the unit with this number has just
+/// these jobs.
+pub fn still_passed(units: &[UnitJobs], unit: usize, jobs: UnitJobs, passed: usize) -> usize
+    ensures { (g : GraphView) (held : List Bool) → ArePassed g units.now held passed → ArePassed g (slice_set units.now unit jobs) held result }
+{
+    match units.get(unit) {
+        Some(before) if !binds_as_before(*before, jobs) => 0,
+        _ => passed,
+    }
+}
+
+/// The same, once the unit with this number counts as deactivating or not.
+pub fn passed_with(held: &[bool], unit: usize, deactivating: bool, passed: usize) -> usize
+    ensures { (g : GraphView) (units : List UnitJobs) → ArePassed g units held.now passed → ArePassed g units (slice_set held.now unit deactivating) result }
+{
+    if deactivating { passed } else { 0 }
 }

@@ -3,6 +3,7 @@
 ghost use Rattle.std.specs.Prelude.{◌≡◌, ◌||◌, ◌<◌, ℕ, Some, length, unwrap_or};
 ghost use Rattle.um_jobs.specs.Drops.{drops_one, is_dropped};
 ghost use Rattle.um_jobs.specs.Named.{jobs_at};
+ghost use Rattle.um_jobs.specs.RowReady.{binds_as_before, stays_or_runs};
 ghost use Rattle.um_model.specs.Jobs as model;
 ghost use Rattle.um_model.specs.Machine as machine;
 ghost use Rattle.um_model.specs.Waiting.{has_waiting};
@@ -33,6 +34,25 @@ pub fn is_waiting(job: Option<JobState>) -> bool
     ensures { result ≡ machine.is_waiting job }
 {
     matches!(job, Some(JobState::Waiting))
+}
+
+/// Whether a job of a unit is as it was, or runs now.
+fn stays_or_runs(old: Option<JobState>, new: Option<JobState>) -> bool
+    ensures { result ≡ stays_or_runs old new }
+{
+    match (old, new) {
+        (_, Some(JobState::Running)) => true,
+        (Some(JobState::Waiting), Some(JobState::Waiting)) => true,
+        (None, None) => true,
+        _ => false,
+    }
+}
+
+/// Whether each job of a unit is as it was, or runs now. Then no job of it or of another unit is ready that wasn't.
+pub fn binds_as_before(old: UnitJobs, new: UnitJobs) -> bool
+    ensures { result ≡ binds_as_before old new }
+{
+    stays_or_runs(old.stop, new.stop) && stays_or_runs(old.start, new.start)
 }
 
 /// Whether one of a unit's jobs waits.

@@ -56,9 +56,11 @@ fn jobs_of<'g>(
     Box::new(rt.alloc(), jobs).expect(rt, "no memory")
 }
 
-/// Asserts that this is the job that begins next.
-fn is_ready(rt: &impl Abort, jobs: &Jobs<'_>, wanted: Option<(usize, JobKind)>) {
+/// Asserts that this is the job that begins next, also behind a search that went over the units in front of it.
+fn is_ready(rt: &impl Abort, jobs: &mut Jobs<'_>, wanted: Option<(usize, JobKind)>) {
+    same!(rt, jobs.find_ready(), wanted);
     same!(rt, jobs.ready(), wanted);
+    same!(rt, jobs.find_ready(), wanted);
 }
 
 /// The graph of a and b, which know nothing of each other.

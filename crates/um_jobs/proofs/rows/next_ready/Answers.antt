@@ -1,4 +1,4 @@
-use Rattle.std.proofs.Common.{◌≡◌, ◌∙◌, ◌<◌, None, Some, length, rules, sym, subst, inl, inr, arith}
+use Rattle.std.proofs.Common.{◌≡◌, ◌∙◌, ◌<◌, None, length, rules, sym, subst, inl, inr, arith}
 use Rattle.std.proofs.lemmas.Bool.{cases_lt}
 use Rattle.um_jobs.specs.Jobs.{JobsView}
 use Rattle.um_jobs.specs.RowReady.{ready_kind}
@@ -11,6 +11,9 @@ returns-in-Some-clause-least c =
     let v : JobsView = record { graph = g; units = c.args.units.now; held = c.args.held.now } in
     let within : c.loop-unit.unit < length g.names = omega (arith, c.loop-unit-test.true, c.len-unit-end.ensures.len) in
     ready_least g c.len-unit-end.ensures.graph v c.loop-unit.unit within c.in-Some.kind (sym c.ready_kind.ensures ∙ c.in-Some.is) c.loop-unit.invariant
+
+pub loop-unit-init : goal.loop-unit-init
+loop-unit-init c = c.requires
 
 pub loop-unit-preserved : goal.loop-unit-preserved
 loop-unit-preserved c = λ u below.

@@ -25,4 +25,5 @@ invariant_of-self c =
       table,
       kept_as c.self.inside.graph.now c.change_all.new.units c.self.inside.units.items c.deref.result.now c.self.inside.held.items
           counts (take c.in_ok-blockers.blockers.len (counts ++ rest)) c.change_all.new.ready same_units c.deref.ensures.value (sym same_counts) kept,
+      c.self.invariant.2,
     )
