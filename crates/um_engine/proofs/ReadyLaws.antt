@@ -1,11 +1,12 @@
--- The job that begins next by the graph is the one that begins next by the tree.
-use Rattle.std.proofs.Common.{◌≡◌, ◌≢◌, ◌∙◌, ◌+◌, ◌<◌, ◌≤◌, ℕ, Bool, true, false, true≢false, List, length, set, sum_by, Contains, Option, Some, None, slice_get, unwrap_or, refl, sym, ap, subst, inl, inr, arith}
-use Rattle.std.proofs.lemmas.Bool.{cases_lt}
+-- The job that begins next by the graph is the one that begins next by the tree, unless it is a start that is held back.
+use Rattle.std.proofs.Common.{◌≡◌, ◌≢◌, ◌∙◌, ◌+◌, ◌<◌, ◌≤◌, ℕ, Bool, true, false, true≢false, List, length, replicate, set, sum_by, Contains, Option, Some, None, slice_get, unwrap_or, refl, sym, ap, subst, inl, inr, arith}
+use Rattle.std.proofs.lemmas.Bool.{cases_eq, cases_lt}
 use Rattle.std.proofs.lemmas.Grind.{get_or-set_at}
-use Rattle.std.proofs.lemmas.List.{get_or-set_other, length-set}
+use Rattle.std.proofs.lemmas.List.{get_or-replicate, get_or-set_other, get_or_past, length-replicate, length-set}
+use Rattle.std.proofs.lemmas.List.Sums.{sum_by-set}
 use Rattle.std.proofs.lemmas.Option.{none-some, same_Some}
 use Rattle.std.specs.FinMap as map
-use Rattle.um_model.specs.Jobs.{Job, BeginsNext, ComesBefore, GoesBefore, IsReady, IsToldBefore, job_of, jobs_of_unit, no_jobs, with_job, with_jobs, of_one_unit, starts, state_of_job, stops, stops_then_starts, stops_then_starts_before}
+use Rattle.um_model.specs.Jobs.{Job, ComesBefore, GoesBefore, IsReady, IsToldBefore, job_of, jobs_of_unit, no_jobs, with_job, with_jobs, of_one_unit, starts, state_of_job, stops, stops_then_starts, stops_then_starts_before}
 use Rattle.um_model.specs.Least.{IsLeast}
 use Rattle.um_model.specs.Machine.{State, IsBefore, IsStill, begun}
 use Rattle.um_model.specs.Service.{active_state_of, state_of_unit}
@@ -29,54 +30,29 @@ use Rattle.um_jobs.specs.Named.{jobs_at, jobs_by}
 use Rattle.um_jobs.proofs.NamedLaws.{jobs_by_at, jobs_by_none}
 use Rattle.um_falling.specs.Carrying.{KeepsOthers}
 use Rattle.um_engine.specs.Planned.{ArePending}
-use Rattle.um_engine.specs.Filled.{Tells, TellsBelow, deactivates, is_deactivating, told_of}
+use Rattle.um_engine.specs.Filled.{Begins, Tells, deactivates, is_deactivating, is_held_back, told_of}
 use Rattle.um_falling.specs.Over.{Serves}
 use Rattle.um_falling.proofs.AlongLaws.{number_by, sum_drops}
 use Rattle.um_falling.proofs.TakenLaws.{before_by, stands_by}
 
 -- ---- the jobs by number are filled
 
--- as they are filled in: of no unit is told whether it counts as deactivating
+nothing_held : (n i : ℕ) → held_at (replicate n false) i ≢ true
+nothing_held n i is = true≢false (sym is ∙ elim (cases_lt i n) as (λ _. held_at (replicate n false) i ≡ false) [
+  | inl within ↦ get_or-replicate n i false false within
+  | inr past ↦ get_or_past (replicate n false) i false (omega (arith, past, length-replicate n false))
+])
+
+-- as they are filled in: of no unit is told that it counts as deactivating
 pub none_told : (g : GraphView) (s : State) (v : JobsView) (pending : List UnitJobs) → IsGraph g → v.graph ≡ g → length pending ≡ length g.names → ArePending g s pending
-    → v.units ≡ pending → length v.held ≡ length g.names → TellsBelow g s 0 v
-none_told g s v pending graph same long pends e wide = record {
+    → v.units ≡ pending → v.held ≡ replicate (length g.names) false → Tells g s v
+none_told g s v pending graph same long pends e held = record {
   graph = graph;
   same = same;
   long = ap length e ∙ long;
-  wide = wide;
+  wide = ap length held ∙ length-replicate (length g.names) false;
   jobs = subst (ArePending g s) (sym e) pends;
-  held = λ i unit below. absurd (omega (arith, below));
-}
-
-pub told_more : (g : GraphView) (s : State) (n : ℕ) (v : JobsView) → TellsBelow g s n v → (deactivating : Bool) (w : JobsView)
-    → ((unit : List ℕ) → IsNumberOf g n unit → deactivating ≡ deactivates s unit) → w ≡ with_held_at v n deactivating → TellsBelow g s (n + 1) w
-told_more g s n v tells deactivating w told is = subst (TellsBelow g s (n + 1)) (sym is) (record {
-  graph = tells.graph;
-  same = tells.same;
-  long = tells.long;
-  wide = length-set v.held n deactivating ∙ tells.wide;
-  jobs = tells.jobs;
-  held = held_now;
-})
-  where
-    held_now : (i : ℕ) (unit : List ℕ) → i < n + 1 → IsNumberOf g i unit → held_at (set v.held n deactivating) i ≡ deactivates s unit
-    held_now i unit below m = elim (cases_lt i n) as (λ _. held_at (set v.held n deactivating) i ≡ deactivates s unit) [
-      | inl lower ↦ get_or-set_other v.held n i deactivating false (λ e. omega (arith, e, lower)) ∙ tells.held i unit lower m
-      | inr past ↦
-          let at : i ≡ n = omega arith in
-          let number : IsNumberOf g n unit = subst (λ k. IsNumberOf g k unit) at m in
-          get_or-set_at v.held n i deactivating false at (let within = got_within g.names n unit number in omega (arith, within, tells.wide)) ∙ told unit number
-    ]
-
--- all of them are filled
-pub told_all : (g : GraphView) (s : State) (n : ℕ) (v : JobsView) → TellsBelow g s n v → length g.names ≤ n → Tells g s v
-told_all g s n v tells past = record {
-  graph = tells.graph;
-  same = tells.same;
-  long = tells.long;
-  wide = tells.wide;
-  jobs = tells.jobs;
-  held = λ i unit below m. tells.held i unit (omega (arith, below, past)) m;
+  held = λ i unit m is. absurd (nothing_held (length g.names) i (sym (ap (λ h. held_at h i) held) ∙ is));
 }
 
 -- ---- one job goes before another by an order, and by one that puts the same of these units before the other
@@ -167,36 +143,100 @@ module _ (g : GraphView) (s : State) (serves : Serves g s) (v : JobsView) (tells
         goes = goes_by (IsBefore s.loaded) (Joins g before_bit) j k (before_joins j.unit k.unit c d) (before_joins k.unit j.unit d c) h.goes;
       }
 
-  same_held : (x : List ℕ) → Contains g.names x → item_for false g.names v.held x ≡ deactivates s x
-  same_held x c =
-      let (i, within, is, number) = named x c in
-      ap (item_for false g.names v.held) (sym is) ∙ (item_at false g.names v.held once i within ∙ tells.held i x within number)
+  told_held : (x : List ℕ) → Contains g.names x → item_for false g.names v.held x ≡ true → deactivates s x ≡ true
+  told_held x c is =
+      let (i, within, at, number) = named x c in
+      tells.held i x number (sym (ap (item_for false g.names v.held) (sym at) ∙ item_at false g.names v.held once i within) ∙ is)
 
-  ready_here : (j : Job) → IsReadyIn g v j → IsReady (IsBefore s.loaded) s.units s.pending j
-  ready_here j h =
-      let w = sym (same_state j) ∙ h.waits in
-      record {
-        waits = w;
-        free = λ other c. h.free other (comes_there other j c);
-        still = λ start. isnt_deactivating (active_state_of (state_of_unit s.units j.unit).sub) (sym (same_held j.unit (waiting_known j w)) ∙ h.still start);
-      }
+  ready_here : (j : Job) → IsReadyIn g v j → is_held_back s j.unit j.kind ≡ false → IsReady (IsBefore s.loaded) s.units s.pending j
+  ready_here j h free = record {
+    waits = sym (same_state j) ∙ h.waits;
+    free = λ other c. h.free other (comes_there other j c);
+    still = λ start. isnt_deactivating (active_state_of (state_of_unit s.units j.unit).sub) (sym (ap (is_held_back s j.unit) start) ∙ free);
+  }
 
   ready_there : (j : Job) → IsReady (IsBefore s.loaded) s.units s.pending j → IsReadyIn g v j
   ready_there j h = record {
     waits = same_state j ∙ h.waits;
     free = λ other c. h.free other (comes_here other j c);
-    still = λ start. same_held j.unit (waiting_known j h.waits) ∙ not_deactivating (active_state_of (state_of_unit s.units j.unit).sub) (h.still start);
+    still = λ start. by (item_for false g.names v.held j.unit) refl start;
   }
+    where
+      by : (b : Bool) → item_for false g.names v.held j.unit ≡ b → j.kind ≡ Start → b ≡ false
+      by true is start =
+          absurd (true≢false (sym (told_held j.unit (waiting_known j h.waits) is) ∙ not_deactivating (active_state_of (state_of_unit s.units j.unit).sub) (h.still start)))
+      by false is start = refl
 
   pub still_here : ((j : Job) → ¬ IsReadyIn g v j) → IsStill s
   still_here none j h = none j (ready_there j h)
 
   pub next_here : (u : ℕ) (name : List ℕ) (kind : JobKind) → IsNumberOf g u name → IsLeast IsToldBefore (IsReadyIn g v) (job_named g u kind)
-      → BeginsNext (IsBefore s.loaded) s.units s.pending (record { unit = name; kind = kind })
-  next_here u name kind number least = subst (λ x. BeginsNext (IsBefore s.loaded) s.units s.pending (record { unit = x; kind = kind })) (name_is g.names u name number) (record {
-    has = ready_here (job_named g u kind) least.has;
-    first = λ other ready apart. least.first other (ready_there other ready) apart;
-  })
+      → is_held_back s name kind ≡ false → Begins s (record { unit = name; kind = kind })
+  next_here u name kind number least free =
+      let is = name_is g.names u name number in
+      subst (λ x. Begins s (record { unit = x; kind = kind })) is (record {
+        has = ready_here (job_named g u kind) least.has (subst (λ x. is_held_back s x kind ≡ false) (sym is) free);
+        first = λ other ready apart. least.first other (ready_there other ready) apart;
+      })
+
+-- ---- a start that is found, and held back
+
+abbrev one_free : Bool → ℕ
+one_free true = 0
+one_free false = 1
+
+-- of so many units isn't told that they count as deactivating
+abbrev pub free_in : List Bool → ℕ
+free_in held = sum_by one_free held
+
+held_starts : (s : State) (name : List ℕ) (kind : JobKind) → is_held_back s name kind ≡ true → (kind ≡ Start) × (deactivates s name ≡ true)
+held_starts s name Stop is = absurd (true≢false (sym is))
+held_starts s name Start is = (refl, is)
+
+module _ (g : GraphView) (s : State) (v : JobsView) (tells : Tells g s v) (u : ℕ) (kind : JobKind) (within : u < length v.graph.names)
+    (least : IsLeast IsToldBefore (IsReadyIn v.graph v) (job_named v.graph u kind)) where
+  within_here : u < length g.names
+  within_here = subst (λ (x : GraphView). u < length x.names) tells.same within
+
+  pub found_named : IsNumberOf g u (name_at g.names u)
+  found_named = name_got g.names u within_here
+
+  pub found_least : IsLeast IsToldBefore (IsReadyIn g v) (job_named g u kind)
+  found_least = subst (λ x. IsLeast IsToldBefore (IsReadyIn x v) (job_named x u kind)) tells.same least
+
+  module _ (back : is_held_back s (name_at g.names u) kind ≡ true) (w : JobsView) (is : w ≡ with_held_at v u true) where
+    starts_it : (kind ≡ Start) × (deactivates s (name_at g.names u) ≡ true)
+    starts_it = held_starts s (name_at g.names u) kind back
+
+    wide_there : u < length v.held
+    wide_there = omega (arith, within_here, tells.wide)
+
+    free_there : held_at v.held u ≡ false
+    free_there = sym (item_at false g.names v.held (names_once g.names tells.graph.sorted) u within_here) ∙ found_least.has.still starts_it.0
+
+    -- fewer are left
+    pub back_drops : free_in w.held < free_in v.held
+    back_drops =
+        let sums = sum_by-set one_free v.held u true false wide_there in
+        let one : one_free (held_at v.held u) ≡ 1 = ap one_free free_there in
+        let held : free_in w.held ≡ free_in (set v.held u true) = ap (λ (x : JobsView). free_in x.held) is in
+        omega (arith, sums, one, held)
+
+    pub back_told : Tells g s w
+    back_told = subst (Tells g s) (sym is) (record {
+      graph = tells.graph;
+      same = tells.same;
+      long = tells.long;
+      wide = length-set v.held u true ∙ tells.wide;
+      jobs = tells.jobs;
+      held = held_now;
+    })
+      where
+        held_now : (i : ℕ) (unit : List ℕ) → IsNumberOf g i unit → held_at (set v.held u true) i ≡ true → deactivates s unit ≡ true
+        held_now i unit m e = elim (cases_eq i u) as (λ _. deactivates s unit ≡ true) [
+          | inl at ↦ subst (λ x. deactivates s x ≡ true) (ap (name_at g.names) (sym at) ∙ name_is g.names i unit m) starts_it.1
+          | inr apart ↦ tells.held i unit m (sym (get_or-set_other v.held u i true false apart) ∙ e)
+        ]
 
 -- ---- a job that begins is one fewer that waits
 
@@ -251,8 +291,8 @@ module _ (to : JobState) (g : GraphView) (s b : State) (v w : JobsView) (n : ℕ
     long = ap (λ (x : JobsView). length x.units) by_number ∙ (length-set v.units n (with_job kind to (jobs_at v.units n)) ∙ tells.long);
     wide = ap (λ (x : JobsView). length x.held) by_number ∙ tells.wide;
     jobs = jobs_now;
-    held = λ i unit below m.
-        ap (λ (x : JobsView). held_at x.held i) by_number ∙ (tells.held i unit below m ∙ ap (λ (x : State). deactivates x unit) (sym units_same));
+    held = λ i unit m is.
+        ap (λ (x : State). deactivates x unit) units_same ∙ tells.held i unit m (sym (ap (λ (x : JobsView). held_at x.held i) by_number) ∙ is);
   }
     where
       units_same : record s { units = b.units } ≡ s
@@ -300,10 +340,12 @@ told_anew g s t v w n name tells number keeps is = subst (Tells g t) (sym is) (r
           get_or-set_other v.units n i (jobs_of_unit t.pending name) no_jobs (λ e. elsewhere i unit m apart (omega (arith, e))) ∙ (tells.jobs i unit m ∙ sym (keeps.jobs unit apart))
     ]
 
-    held_now : (i : ℕ) (unit : List ℕ) → i < length g.names → IsNumberOf g i unit → held_at (set v.held n (deactivates t name)) i ≡ deactivates t unit
-    held_now i unit below m = elim (same_name unit name) as (λ _. held_at (set v.held n (deactivates t name)) i ≡ deactivates t unit) [
-      | inl same ↦ get_or-set_at v.held n i (deactivates t name) false (here i unit below m same) (omega (arith, within, tells.wide)) ∙ ap (deactivates t) (sym same)
+    held_now : (i : ℕ) (unit : List ℕ) → IsNumberOf g i unit → held_at (set v.held n (deactivates t name)) i ≡ true → deactivates t unit ≡ true
+    held_now i unit m is = elim (same_name unit name) as (λ _. deactivates t unit ≡ true) [
+      | inl same ↦
+          let told = get_or-set_at v.held n i (deactivates t name) false (here i unit (got_within g.names i unit m) m same) (omega (arith, within, tells.wide)) in
+          ap (deactivates t) same ∙ (sym told ∙ is)
       | inr apart ↦
-          get_or-set_other v.held n i (deactivates t name) false (λ e. elsewhere i unit m apart (omega (arith, e)))
-          ∙ (tells.held i unit below m ∙ ap (λ u. is_deactivating (active_state_of u.sub)) (sym (keeps.states unit apart)))
+          let told = get_or-set_other v.held n i (deactivates t name) false (λ e. elsewhere i unit m apart (omega (arith, e))) in
+          ap (λ u. is_deactivating (active_state_of u.sub)) (keeps.states unit apart) ∙ tells.held i unit m (sym told ∙ is)
     ]

@@ -120,5 +120,5 @@ all_first g s n v tells past = record {
   long = tells.long;
   wide = tells.wide;
   jobs = λ i unit m. tells.jobs i unit (let within = got_within g.names i unit m in omega (arith, within, past)) m;
-  held = λ i unit below m. tells.held i unit (omega (arith, below, past)) m;
+  held = λ i unit m is. sym (tells.held i unit (let within = got_within g.names i unit m in omega (arith, within, past)) m) ∙ is;
 }

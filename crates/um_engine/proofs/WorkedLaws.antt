@@ -1,10 +1,9 @@
 -- What settles, fires and is forgotten step by step in a work, over the graph and the moment with which it began.
 use Rattle.std.proofs.Common.{◌≡◌, ◌∙◌, ◌<◌, ℕ, Bool, false, List, ◌++◌, Contains, Some, length, sym, subst}
 use Rattle.std.specs.FinMap as map
-use Rattle.um_model.specs.Jobs.{IsToldBefore, Job, state_of_job}
-use Rattle.um_model.specs.Least.{IsLeast}
+use Rattle.um_model.specs.Jobs.{Job, state_of_job}
 use Rattle.um_model.specs.Machine as machine
-use Rattle.um_model.specs.Machine.{State, AreReset, Fires, FiresOne, Settles, begins, begun}
+use Rattle.um_model.specs.Machine.{State, AreReset, Fires, FiresOne, IsStill, Settles, begins, begun}
 use Rattle.um_model.specs.Service.{Action}
 use Rattle.um_model.specs.Timers.{Timers}
 use Rattle.um_model.specs.Waiting.{NoMoreWait}
@@ -14,7 +13,7 @@ use Rattle.um_model.specs.declared.transition.UnitEvent.{UnitEvent}
 use Rattle.um_graph.specs.Graph.{GraphView, IsNumberOf}
 use Rattle.um_graph.specs.Named.{name_at}
 use Rattle.um_graph.proofs.NamedLaws.{name_got}
-use Rattle.um_jobs.specs.Jobs.{IsReadyIn, JobsView, job_named}
+use Rattle.um_jobs.specs.Jobs.{JobsView}
 use Rattle.um_state.specs.View.{state_of}
 use Rattle.um_falling.specs.Carrying.{Adds, KeepsOthers}
 use Rattle.um_falling.specs.Over.{Serves}
@@ -22,8 +21,8 @@ use Rattle.um_falling.specs.Work.{Goes, Keeps, WorkView}
 use Rattle.um_falling.proofs.AlongLaws.{known_by}
 use Rattle.um_falling.proofs.WorkLaws.{keeps_all, keeps_then, number_on}
 use Rattle.um_engine.specs.Engine.{IsDue, NoneIsDue}
-use Rattle.um_engine.specs.Filled.{Tells}
-use Rattle.um_engine.proofs.ReadyLaws.{begun_drops, next_here, still_here, waiting_in, waits_named}
+use Rattle.um_engine.specs.Filled.{Begins, Tells}
+use Rattle.um_engine.proofs.ReadyLaws.{begun_drops, waiting_in}
 use Rattle.um_engine.proofs.ResetLaws.{resets_more}
 use Rattle.um_engine.proofs.Steps.{fires_more, none_fires, settled, settles_more}
 
@@ -39,14 +38,19 @@ pub record Settling (u v : WorkView) (jobs : JobsView) : Type 0 where
 pub settling_first : (u : WorkView) (jobs : JobsView) → Serves u.graph (state_of u.now) → Tells u.graph (state_of u.now) jobs → Settling u u jobs
 settling_first u jobs serves tells = record { keeps = keeps_all u; serves = serves; tells = tells; whole = λ t after later. later }
 
-pub settling_done : (u v : WorkView) (jobs : JobsView) → Settling u v jobs → ((job : Job) → ¬ IsReadyIn jobs.graph jobs job) → Goes (Settles u.moment (state_of u.now)) u v
-settling_done u v jobs at none =
-    at.whole (state_of v.now) v.actions
-    (settled u.moment (state_of v.now) v.actions (still_here u.graph (state_of v.now) at.serves jobs at.tells (subst (λ g. (job : Job) → ¬ IsReadyIn g jobs job) at.tells.same none)))
+-- the graph serves where the work has come to
+pub settling_serves : (u v : WorkView) (jobs : JobsView) → Settling u v jobs → Serves v.graph (state_of v.now)
+settling_serves u v jobs at = subst (λ g. Serves g (state_of v.now)) (sym at.keeps.graph) at.serves
 
--- a job that begins
-module _ (u v : WorkView) (jobs : JobsView) (at : Settling u v jobs) (unit : ℕ) (kind : JobKind) (within : unit < length jobs.graph.names)
-    (least : IsLeast IsToldBefore (IsReadyIn jobs.graph jobs) (job_named jobs.graph unit kind)) where
+pub settling_tells : (u v : WorkView) (jobs : JobsView) → Settling u v jobs → Tells v.graph (state_of v.now) jobs
+settling_tells u v jobs at = subst (λ g. Tells g (state_of v.now) jobs) (sym at.keeps.graph) at.tells
+
+pub settling_done : (u v : WorkView) (jobs : JobsView) → Settling u v jobs → IsStill (state_of v.now) → Goes (Settles u.moment (state_of u.now)) u v
+settling_done u v jobs at still = at.whole (state_of v.now) v.actions (settled u.moment (state_of v.now) v.actions still)
+
+-- a job that begins, with what is told of the jobs by then
+module _ (u v : WorkView) (jobs found : JobsView) (at : Settling u v jobs) (tells_here : Tells v.graph (state_of v.now) found) (unit : ℕ) (kind : JobKind)
+    (within : unit < length v.graph.names) (next : (x : List ℕ) → IsNumberOf v.graph unit x → Begins (state_of v.now) (record { unit = x; kind = kind })) where
   abbrev name : List ℕ
   name = name_at u.graph.names unit
 
@@ -54,27 +58,21 @@ module _ (u v : WorkView) (jobs : JobsView) (at : Settling u v jobs) (unit : ℕ
   job = record { unit = name; kind = kind }
 
   number : IsNumberOf u.graph unit name
-  number = name_got u.graph.names unit (subst (λ (g : GraphView). unit < length g.names) at.tells.same within)
+  number = name_got u.graph.names unit (subst (λ (g : GraphView). unit < length g.names) at.keeps.graph within)
 
   known : Contains u.graph.names name
   known = known_by u.graph unit name number
 
-  least_here : IsLeast IsToldBefore (IsReadyIn u.graph jobs) (job_named u.graph unit kind)
-  least_here = subst (λ g. IsLeast IsToldBefore (IsReadyIn g jobs) (job_named g unit kind)) at.tells.same least
-
-  waits : state_of_job (state_of v.now).pending job ≡ Some Waiting
-  waits = waits_named u.graph (state_of v.now) jobs at.tells unit name kind number least_here.has.waits
-
   at_loop : IsNumberOf v.graph unit name
   at_loop = number_on u v unit name at.keeps number
 
-  tells_at_loop : Tells v.graph (state_of v.now) jobs
-  tells_at_loop = subst (λ g. Tells g (state_of v.now) jobs) (sym at.keeps.graph) at.tells
+  waits : state_of_job (state_of v.now).pending job ≡ Some Waiting
+  waits = (next name at_loop).has.waits
 
   module _ (b w : WorkView) (first : Keeps v b) (later : Keeps b w)
-      (begins_so : (x : List ℕ) → IsNumberOf v.graph unit x → Tells v.graph (state_of v.now) jobs → state_of b.now ≡ begun (state_of v.now) (record { unit = x; kind = kind })) where
+      (begins_so : (x : List ℕ) → IsNumberOf v.graph unit x → Tells v.graph (state_of v.now) found → state_of b.now ≡ begun (state_of v.now) (record { unit = x; kind = kind })) where
     is_begun : state_of b.now ≡ begun (state_of v.now) job
-    is_begun = begins_so name at_loop tells_at_loop
+    is_begun = begins_so name at_loop tells_here
 
     keeps_here : Keeps u w
     keeps_here = keeps_then u v w at.keeps (keeps_then v b w first later)
@@ -88,7 +86,7 @@ module _ (u v : WorkView) (jobs : JobsView) (at : Settling u v jobs) (unit : ℕ
 
     -- and the rest settles from there
     pub settling_more : (told anew : JobsView) (event : UnitEvent) (spreads : Bool) → event ≡ begins kind → b.actions ≡ v.actions
-        → ((x : List ℕ) → IsNumberOf v.graph unit x → Tells v.graph (state_of v.now) jobs → Tells v.graph (state_of b.now) told)
+        → ((x : List ℕ) → IsNumberOf v.graph unit x → Tells v.graph (state_of v.now) found → Tells v.graph (state_of b.now) told)
         → ((x : List ℕ) → IsNumberOf b.graph unit x → Goes (machine.Happens b.moment x event (state_of b.now)) b w)
         → ((x : List ℕ) → IsNumberOf b.graph unit x → spreads ≡ false → KeepsOthers x (state_of b.now) (state_of w.now))
         → ((before : State) (x : List ℕ) → IsNumberOf w.graph unit x → Tells w.graph before told → (spreads ≡ false → KeepsOthers x before (state_of w.now)) → Tells w.graph (state_of w.now) anew)
@@ -98,11 +96,11 @@ module _ (u v : WorkView) (jobs : JobsView) (at : Settling u v jobs) (unit : ℕ
       serves = serves_here;
       tells = subst (λ g. Tells g (state_of w.now) anew) keeps_here.graph
           (tells_anew (state_of b.now) name (number_on u w unit name keeps_here number)
-          (subst (λ g. Tells g (state_of b.now) told) (sym (keeps_then v b w first later).graph) (tells name at_loop tells_at_loop)) (others name at_begun));
+          (subst (λ g. Tells g (state_of b.now) told) (sym (keeps_then v b w first later).graph) (tells name at_loop tells_here)) (others name at_begun));
       whole = λ t after rest.
           at.whole t after
           (settles_more u.moment (state_of v.now) (state_of w.now) t v.actions w.actions after job
-          (next_here u.graph (state_of v.now) at.serves jobs at.tells unit name kind number least_here) happened rest);
+          (next name at_loop) happened rest);
     }
       where
         at_begun : IsNumberOf b.graph unit name
@@ -110,8 +108,7 @@ module _ (u v : WorkView) (jobs : JobsView) (at : Settling u v jobs) (unit : ℕ
 
         serves_here : Serves u.graph (state_of w.now)
         serves_here =
-            let v_serves : Serves v.graph (state_of v.now) = subst (λ g. Serves g (state_of v.now)) (sym at.keeps.graph) at.serves in
-            subst (λ g. Serves g (state_of w.now)) keeps_here.graph (later.serves (first.serves v_serves))
+            subst (λ g. Serves g (state_of w.now)) keeps_here.graph (later.serves (first.serves (settling_serves u v jobs at)))
 
         happened : Adds (machine.Happens u.moment name (begins kind) (begun (state_of v.now) job)) v.actions (state_of w.now) w.actions
         happened =

@@ -1,10 +1,12 @@
 -- When the pending jobs by number are those of the state, and what the state's units tell of deactivating.
 -- Follows no manual page: it turns names into numbers.
 -- Settling stands on this file.
-use Rattle.std.specs.Prelude.{◌≡◌, ◌⊎◌, ◌↔◌, ℕ, ◌<◌, Bool, true, false, List, Contains, length}
-use Rattle.um_model.specs.Jobs.{jobs_of_unit}
-use Rattle.um_model.specs.Machine.{State, IsHeld}
+use Rattle.std.specs.Prelude.{◌≡◌, ◌⊎◌, ◌↔◌, ℕ, Bool, true, false, List, Contains, length}
+use Rattle.um_model.specs.Jobs.{BeginsNext, Job, jobs_of_unit}
+use Rattle.um_model.specs.Machine.{State, IsBefore, IsHeld}
 use Rattle.um_model.specs.Service.{active_state_of, state_of_unit}
+use Rattle.um_model.specs.declared.jobs.JobKind.{JobKind}
+use Rattle.um_model.specs.declared.jobs.JobKind.TheVariants.{Stop, Start}
 use Rattle.um_model.specs.declared.service.ActiveState.{ActiveState}
 use Rattle.um_model.specs.declared.service.ActiveState.TheVariants.{Deactivating}
 use Rattle.um_graph.specs.Graph.{GraphView, IsGraph, IsNumberOf}
@@ -19,23 +21,27 @@ is_deactivating other = false
 abbrev pub deactivates : State → List ℕ → Bool
 deactivates s unit = is_deactivating (active_state_of (state_of_unit s.units unit).sub)
 
+-- a job of this kind of the unit waits while that counts as deactivating: a start does
+abbrev pub is_held_back : State → List ℕ → JobKind → Bool
+is_held_back s unit Stop = false
+is_held_back s unit Start = deactivates s unit
+
 -- with what the state tells of the unit of this number and name
 abbrev pub told_of : State → ℕ → List ℕ → JobsView → JobsView
 told_of s i unit v = with_held_at (with_jobs_at v i (jobs_of_unit s.pending unit)) i (deactivates s unit)
 
--- the jobs are told by the numbers of the graph's units as the state holds them, and of the units with a number below n is told whether
--- they count as deactivating
-pub record TellsBelow (g : GraphView) (s : State) (n : ℕ) (v : JobsView) : Type 0 where
+-- the jobs are told by the numbers of the graph's units as the state holds them; of a unit that counts as deactivating it may be told, of no other
+pub record Tells (g : GraphView) (s : State) (v : JobsView) : Type 0 where
   pub graph : IsGraph g
   pub same : v.graph ≡ g
   pub long : length v.units ≡ length g.names
   pub wide : length v.held ≡ length g.names
   pub jobs : (i : ℕ) (unit : List ℕ) → IsNumberOf g i unit → jobs_at v.units i ≡ jobs_of_unit s.pending unit
-  pub held : (i : ℕ) (unit : List ℕ) → i < n → IsNumberOf g i unit → held_at v.held i ≡ deactivates s unit
+  pub held : (i : ℕ) (unit : List ℕ) → IsNumberOf g i unit → held_at v.held i ≡ true → deactivates s unit ≡ true
 
--- so it is of all of them
-abbrev pub Tells : GraphView → State → JobsView → Type 0
-Tells g s v = TellsBelow g s (length g.names) v
+-- the job is the one of the state that begins next
+abbrev pub Begins : State → Job → Type 0
+Begins s job = BeginsNext (IsBefore s.loaded) s.units s.pending job
 
 -- the names are those that were there, and that of the unit where the state holds anything of it
 abbrev pub AddsHeld : State → List ℕ → List (List ℕ) → List (List ℕ) → Type 0

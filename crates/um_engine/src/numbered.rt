@@ -1,7 +1,7 @@
 //! The pending jobs of a state by the numbers of a graph's units, with what of them counts as deactivating.
 
 ghost use Rattle.std.specs.Prelude.{◌≡◌, ℕ, List, Contains, IfOk, MatchOption, length};
-ghost use Rattle.um_engine.specs.Filled.{Tells, is_deactivating, told_of};
+ghost use Rattle.um_engine.specs.Filled.{Tells, is_deactivating, is_held_back, told_of};
 ghost use Rattle.um_engine.specs.Planned.{ArePending};
 ghost use Rattle.um_graph.specs.Graph.{IsGraph, IsNumberOf};
 ghost use Rattle.um_jobs.specs.Jobs.{with_jobs_at, without_job};
@@ -53,16 +53,22 @@ fn is_deactivating(stands: UnitState) -> bool
     matches!(stands.sub.active_state(), ActiveState::Deactivating)
 }
 
-/// The pending jobs of the units by their numbers, and which of the units count as deactivating.
+/// Whether a job of this kind of the unit with this number waits while that counts as deactivating: a start does.
+pub fn is_held_back(work: &Work<'_>, unit: usize, kind: JobKind) -> bool
+    ensures { (x : List ℕ) → IsNumberOf work.now.graph unit x → result ≡ is_held_back (state_of work.now.now) x kind }
+{
+    match kind {
+        JobKind::Stop => false,
+        JobKind::Start => is_deactivating(work.unit(unit)),
+    }
+}
+
+/// The pending jobs of the units by their numbers. Of no unit is told that it counts as deactivating.
 pub fn jobs_in<'g>(work: &Work<'g>) -> Result<Jobs<'g>, AllocError>
     ensures { IfOk result (λ jobs. Tells work.now.graph (state_of work.now.now) jobs) }
 {
     let graph = work.graph();
-    let mut jobs = Jobs::of(work.alloc(), graph, work.pending())?;
-    for unit in 0..graph.len() {
-        jobs.hold(unit, is_deactivating(work.unit(unit)));
-    }
-    Ok(jobs)
+    Jobs::of(work.alloc(), graph, work.pending())
 }
 
 /// Tells of the job of this kind of the unit with this number.

@@ -1,16 +1,16 @@
-ghost use Rattle.std.specs.Prelude.{◌≡◌, ℕ, List, false, Some, IfOk, OnOk, MatchOption};
+ghost use Rattle.std.specs.Prelude.{◌≡◌, ◌<◌, ℕ, List, false, Some, IfOk, IfSome, OnOk, MatchOption, length};
 ghost use Rattle.um_engine.specs.Engine.{waits_to_restart, IsDue, NoneIsDue};
-ghost use Rattle.um_engine.specs.Filled.{Tells};
+ghost use Rattle.um_engine.specs.Filled.{Begins, Tells};
 ghost use Rattle.um_falling.specs.Carrying.{KeepsOthers};
 ghost use Rattle.um_falling.specs.Over.{Serves};
 ghost use Rattle.um_falling.specs.Work.{Goes, Keeps};
 ghost use Rattle.um_graph.specs.Graph.{IsNumberOf};
 ghost use Rattle.um_model.specs.Machine as model;
-ghost use Rattle.um_model.specs.Machine.{begins, begun};
+ghost use Rattle.um_model.specs.Machine.{IsStill, begins, begun};
 ghost use Rattle.um_state.specs.View.{state_of};
 
 use crate::jobs::begins;
-use crate::numbered::{jobs_in, tell, tell_all};
+use crate::numbered::{is_held_back, jobs_in, tell, tell_all};
 use crate::restarting::restart;
 use std::alloc::{AllocError, Global};
 use um_falling::{Work, happen};
@@ -19,8 +19,8 @@ use um_model::{Deadline, JobKind, Moment, SubState, UnitEvent};
 use um_name::UnitName;
 use um_timer::Timers;
 
-/// Behind so many jobs that begin one after another, what the others wait for is counted. As a rule an input lets one begin or none, and going
-/// over the units once for each of a few costs less than the counts.
+/// Behind so many jobs that are found one after another, what the others wait for is counted. As a rule an input lets one begin or none, and
+/// going over the units once for each of a few costs less than the counts.
 const FEW: u32 = 4;
 
 /// The job runs from now on.
@@ -49,16 +49,39 @@ fn tell_anew(jobs: &mut Jobs<'_>, work: &Work<'_>, unit: usize, spreads: bool)
     }
 }
 
-/// One more job has begun, behind so many others. Once those are a few, what comes before each job is counted from now on. The result is
-/// how many have begun.
-fn count_behind(jobs: &mut Jobs<'_>, alloc: Global, begun: u32) -> Result<u32, AllocError>
+/// One more job is found, behind so many others. Once those are a few, what comes before each job is counted from now on.
+fn count_behind(jobs: &mut Jobs<'_>, alloc: Global, found: &mut u32) -> Result<(), AllocError>
     ensures { jobs.new ≡ jobs.old }
 {
-    let begun = begun.saturating_add(1);
-    if begun == FEW {
+    *found = found.saturating_add(1);
+    if *found == FEW {
         jobs.count(alloc)?;
     }
-    Ok(begun)
+    Ok(())
+}
+
+/// The job that begins next, behind so many that were found before; none where none is ready. A start that would be next is held back here where
+/// its unit counts as deactivating: to ask that of a few units costs less than to tell it of all.
+fn next_job(
+    jobs: &mut Jobs<'_>,
+    work: &Work<'_>,
+    found: &mut u32,
+) -> Result<Option<(usize, JobKind)>, AllocError>
+    requires serves { Serves work.now.graph (state_of work.now.now) }
+    requires tells { Tells work.now.graph (state_of work.now.now) jobs.old }
+    ensures tells { OnOk result (Tells work.now.graph (state_of work.now.now) jobs.new) }
+    ensures next { IfOk result (λ next. MatchOption next (IsStill (state_of work.now.now)) (λ r. (name : List ℕ) → IsNumberOf work.now.graph r.0 name
+        → Begins (state_of work.now.now) (record { unit = name; kind = r.1 }))) }
+    ensures within { IfOk result (λ next. IfSome next (λ r. r.0 < length work.now.graph.names)) }
+{
+    'held: while let Some((unit, kind)) = jobs.find_ready() {
+        count_behind(jobs, work.alloc(), found)?;
+        if !is_held_back(work, unit, kind) {
+            return Ok(Some((unit, kind)));
+        }
+        jobs.hold(unit, true);
+    }
+    Ok(None)
 }
 
 /// Lets these jobs begin, one after another, until none is ready. Where memory is refused the work is of no use.
@@ -68,12 +91,11 @@ fn begin_all(jobs: &mut Jobs<'_>, work: &mut Work<'_>) -> Result<(), AllocError>
     ensures settles { OnOk result (Goes (model.Settles work.old.moment (state_of work.old.now)) work.old work.new) }
     ensures keeps { OnOk result (Keeps work.old work.new) }
 {
-    let mut begun = 0;
-    'jobs: while let Some((unit, kind)) = jobs.ready() {
+    let mut found = 0;
+    'jobs: while let Some((unit, kind)) = next_job(jobs, work, &mut found)? {
         begin_job(jobs, work, unit, kind);
         let spreads = happen(work, unit, begins(kind))?;
         tell_anew(jobs, work, unit, spreads);
-        begun = count_behind(jobs, work.alloc(), begun)?;
     }
     Ok(())
 }

@@ -1,4 +1,4 @@
-use Rattle.std.proofs.Common.{◌≡◌, ◌∙◌, ◌<◌, Contains, length, refl, sym, ap, subst, arith}
+use Rattle.std.proofs.Common.{◌∙◌, ◌<◌, Contains, length, refl, ap, subst, arith}
 use Rattle.std.proofs.lemmas.Grind.{get_or-set_at}
 use Rattle.um_graph.specs.Graph.{GraphView, IsNumberOf}
 use Rattle.um_graph.proofs.NamedLaws.{got_within}

@@ -1,36 +1,26 @@
-use Rattle.std.proofs.Common.{◌∙◌, false, length, sym, ap, arith}
-use Rattle.std.proofs.lemmas.List.{length-replicate}
-use Rattle.um_model.specs.Service.{active_state_of}
+use Rattle.std.proofs.Common.{◌≡◌, ◌∙◌, List, false, length, replicate, Result, Ok, Err, IfOk, sym, ap}
+use Rattle.um_model.specs.Machine.{State}
+use Rattle.um_model.specs.declared.jobs.UnitJobs.{UnitJobs}
 use Rattle.um_graph.specs.Graph.{GraphView, IsGraph}
+use Rattle.um_jobs.specs.Jobs.{JobsView}
 use Rattle.um_state.specs.View.{state_of}
-use Rattle.um_engine.specs.Filled.{is_deactivating}
+use Rattle.um_engine.specs.Filled.{Tells}
+use Rattle.um_engine.specs.Planned.{ArePending}
 use Rattle.um_engine.proofs.NumberedLaws.{pends_by}
-use Rattle.um_engine.proofs.ReadyLaws.{none_told, told_all, told_more}
+use Rattle.um_engine.proofs.ReadyLaws.{none_told}
 use Rattle.um_engine.proofs.numbered.jobs_in.Goals as goal
 
-pub loop-unit-init : goal.loop-unit-init
-loop-unit-init c =
-    let w = c.args.work.now in
-    let pending = c.pending.result.now in
-    let graph : IsGraph w.graph = c.graph-graph.ensures.serves.graph in
-    let among = c.graph-graph.result.now in
-    let same = c.graph-graph.ensures.graph in
-    let many = ap (λ (g : GraphView). length g.names) same in
-    let made = c.in_ok-jobs.ensures in
-    none_told w.graph (state_of w.now) c.in_ok-jobs.jobs pending graph
-    (made.graph ∙ same)
-    c.pending.ensures.len (pends_by w.graph (state_of w.now) pending graph c.pending.ensures.held)
-    (made.whole (c.pending.ensures.len ∙ sym many))
-    (ap length made.held ∙ (length-replicate (length among.names) false ∙ many))
-
-pub loop-unit-preserved : goal.loop-unit-preserved
-loop-unit-preserved c =
-    let w = c.args.work.now in
-    told_more w.graph (state_of w.now) c.loop-unit.unit c.loop-unit.jobs c.loop-unit.invariant c.is_deactivating.result c.hold.new.self
-    (λ name number. c.is_deactivating.ensures ∙ ap (λ u. is_deactivating (active_state_of u.sub)) (c.unit.ensures.state name number)) c.hold.ensures
+filled : {E : Type 0} (g given : GraphView) (s : State) (pending : List UnitJobs) → IsGraph g → given ≡ g → length pending ≡ length g.names → ArePending g s pending → (r : Result JobsView E)
+    → IfOk r (λ j. j.graph ≡ given) → IfOk r (λ j. length pending ≡ length given.names → j.units ≡ pending) → IfOk r (λ j. j.held ≡ replicate (length given.names) false) → IfOk r (Tells g s)
+filled g given s pending graph same long pends (Ok j) among whole held =
+    let many = ap (λ (x : GraphView). length x.names) same in
+    none_told g s j pending graph (among ∙ same) long pends (whole (long ∙ ap length (ap (λ (x : GraphView). x.names) (sym same)))) (held ∙ ap (λ n. replicate n false) many)
+filled g given s pending graph same long pends (Err e) among whole held = among
 
 pub returns : goal.returns
 returns c =
     let w = c.args.work.now in
-    told_all w.graph (state_of w.now) c.loop-unit.unit c.loop-unit.jobs c.loop-unit.invariant
-    (omega (arith, c.loop-unit-test.false, c.len-unit-end.ensures.len, ap (λ (g : GraphView). length g.names) c.graph-graph.ensures.graph))
+    let pending = c.pending.result.now in
+    let graph : IsGraph w.graph = c.graph-graph.ensures.serves.graph in
+    filled w.graph c.graph-graph.result.now (state_of w.now) pending graph c.graph-graph.ensures.graph c.pending.ensures.len
+    (pends_by w.graph (state_of w.now) pending graph c.pending.ensures.held) c.of.result c.of.ensures.graph c.of.ensures.whole c.of.ensures.held

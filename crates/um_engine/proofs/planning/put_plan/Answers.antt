@@ -1,4 +1,4 @@
-use Rattle.std.proofs.Common.{◌≡◌, ◌∙◌, length, sym, ap}
+use Rattle.std.proofs.Common.{◌∙◌, length, sym, ap}
 use Rattle.um_jobs.specs.Named.{jobs_by}
 use Rattle.um_state.specs.View.{state_of}
 use Rattle.um_engine.proofs.planning.put_plan.Goals as goal
