@@ -4,6 +4,7 @@ import os
 import shutil
 import signal
 import socket
+import struct
 import subprocess
 import tempfile
 import time
@@ -87,6 +88,10 @@ class Client:
         reply = self.ask(verb, **fields)
         return reply["value"] if reply and "value" in reply else reply
 
+    def listener(self):
+        """The pid of the process that listens at the socket, or listened there when that was made."""
+        return struct.unpack("3i", self.socket.getsockopt(socket.SOL_SOCKET, socket.SO_PEERCRED, 12))[0]
+
     def close(self):
         self.socket.close()
 
@@ -143,11 +148,16 @@ class Server:
         return text_of(f"{self.folder}/errors") or ""
 
     def client(self):
-        """A client, or none where nobody serves."""
+        """A client, or none where nobody serves. A process that a killed server has forked, and that doesn't run its program yet, keeps that one's
+        socket for a moment: who connects there is connected to nobody."""
         try:
-            return Client(self.socket)
+            client = Client(self.socket)
         except OSError:
             return None
+        if self.running and client.listener() != self.running.pid:
+            client.close()
+            return None
+        return client
 
     def first_client(self, polls=POLLS):
         """A client as soon as the store is served; an error where the server ends before, or after so many polls."""
