@@ -12,6 +12,7 @@ pub mod InputArms
 pub mod JobLists
 pub mod JobsRead
 pub mod LiveLaws
+pub mod MarkLaws
 pub mod NameLists
 pub mod NumberLists
 pub mod OverlayLaws

@@ -1,5 +1,5 @@
 -- What `==` says of a row: of how a unit stands, and of its pending jobs.
-use Rattle.std.proofs.Common.{◌≡◌, ◌&&◌, ◌==◌, Bool, true, false, Option, Some, None, refl, ap}
+use Rattle.std.proofs.Common.{◌≡◌, ◌&&◌, Bool, true, false, Option, Some, None, refl, ap, subst}
 use Rattle.std.specs.Cmp.Derive.{bare_equiv}
 use Rattle.std.specs.Option.{option_eq}
 use denote.Enum.Bare.{same_true}
@@ -48,3 +48,7 @@ same_jobs a b t =
 pub jobs_itself : (a : UnitJobs) → is_same_jobs a a ≡ true
 jobs_itself a =
     join _ _ (option_refl (λ x y. (job_state.ghosts).eq x y) (bare_equiv job_type.enum).refl a.stop) (option_refl (λ x y. (job_state.ghosts).eq x y) (bare_equiv job_type.enum).refl a.start)
+
+-- both rows are as they were
+pub same_rows : (a b : UnitState) (c d : UnitJobs) → a ≡ b → c ≡ d → is_same_unit a b && is_same_jobs c d ≡ true
+same_rows a b c d u j = join _ _ (subst (λ x. is_same_unit a x ≡ true) u (unit_itself a)) (subst (λ x. is_same_jobs c x ≡ true) j (jobs_itself c))

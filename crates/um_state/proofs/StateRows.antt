@@ -1,5 +1,5 @@
 -- A row that is exchanged in both tables of a state is put into the state, and what stood there put back is the state as it was.
-use Rattle.std.proofs.Common.{◌≡◌, ◌∙◌, ◌≤◌, ℕ, Bool, true, false, List, [], length, sym, ap, subst, arith, refl}
+use Rattle.std.proofs.Common.{◌≡◌, ◌∙◌, ◌≤◌, ℕ, Bool, true, List, [], length, sym, ap, subst, arith}
 use Rattle.std.specs.FinMap as map
 use Rattle.um_model.specs.Jobs.{no_jobs, with_jobs}
 use Rattle.um_model.specs.Machine.{State}

@@ -1,10 +1,10 @@
 -- Rows in work: a row that is set, the rows that differ, and how many they are.
-use Rattle.std.proofs.Common.{◌≡◌, ◌≢◌, ◌⊎◌, ◌∙◌, ◌+◌, ◌<◌, ◌≤◌, ◌++◌, ◌&&◌, ◌↔◌, not, ℕ, zero, suc, Bool, true, false, true≢false, cond, List, [], ◌∷◌, length, set, get_or, map, Contains, refl, sym, ap, subst, inl, inr, arith}
+use Rattle.std.proofs.Common.{◌≡◌, ◌⊎◌, ◌∙◌, ◌+◌, ◌<◌, ◌≤◌, ◌++◌, ◌&&◌, not, ℕ, zero, suc, Bool, true, false, true≢false, cond, List, [], ◌∷◌, length, set, get_or, map, Contains, refl, sym, ap, subst, inl, inr, arith, append-nil}
 use Rattle.std.proofs.lemmas.List.{length-map}
 use Rattle.um_model.specs.Jobs.{AreTidyJobs, jobs_of_unit, no_jobs, with_jobs}
 use Rattle.um_model.specs.Least.{IsNamedBefore}
 use Rattle.um_model.specs.Machine.{State}
-use Rattle.um_model.specs.Service.{AreTidyUnits, ByUnit, dead_unit, state_of_unit, with_unit}
+use Rattle.um_model.specs.Service.{AreTidyUnits, dead_unit, state_of_unit, with_unit}
 use Rattle.um_model.specs.Standing.{Standing}
 use Rattle.um_model.specs.declared.jobs.UnitJobs.{UnitJobs}
 use Rattle.um_model.specs.declared.service.UnitState.{UnitState}
@@ -12,7 +12,7 @@ use Rattle.um_name.specs.Names.{name_at, IsApart, AreAscending}
 use Rattle.um_name.proofs.NumberLaws.{AreOnce, names_once, among_or_apart}
 use Rattle.um_state.specs.Rows.{put_row, rows_after, timed}
 use Rattle.um_state.specs.Tables.{units_by, jobs_by, unit_put, jobs_put}
-use Rattle.um_state.specs.Working.{WorkView, with_maps, with_rows, unit_set, jobs_set, picked, differ_at, rows_at, is_same_unit, is_same_jobs, changed, Differs, CountsDiffering}
+use Rattle.um_state.specs.Working.{WorkView, with_maps, with_rows, unit_set, jobs_set, picked, differ_at, rows_at, is_same_unit, is_same_jobs, changed, CountsDiffering}
 use Rattle.um_state.specs.declared.row.Row.{Row}
 use Rattle.um_state.proofs.PutLaws.{units_put, jobs_put_well}
 use Rattle.um_state.proofs.SameRows.{same_unit, same_jobs, unit_itself, jobs_itself}
@@ -234,6 +234,12 @@ changed_more was had units jobs k xs ys e f =
     let here : k ≡ 0 + k = omega arith in
     let later : suc k ≡ k + 1 = omega arith in
     e ∙ (ap (λ zs. zs ++ one test told k) f ∙ (ap (λ j. picked test told 0 k ++ one test told j) here ∙ (sym (picked_more test told 0 k) ∙ ap (picked test told 0) later)))
+
+-- one that is no other is not among them
+pub changed_no_more : (was : List UnitState) (had : List UnitJobs) (units : List UnitState) (jobs : List UnitJobs) (k : ℕ) (xs : List Row)
+    → differ_at was had units jobs k ≡ false → xs ≡ changed was had units jobs k → xs ≡ changed was had units jobs (k + 1)
+changed_no_more was had units jobs k xs same f =
+    changed_more was had units jobs k xs xs (sym (append-nil xs) ∙ ap (λ b. xs ++ cond b (rows_at units jobs k ∷ []) []) (sym same)) f
 
 module _ (v : WorkView) (b : Standing) (units : List UnitState) (jobs : List UnitJobs) (m : ℕ) (seen : record { base = b; now = with_rows b units jobs m } ≡ v) (sorted : AreAscending b.names)
     (was : List UnitState) (had : List UnitJobs) (were : units_by b.names was ≡ b.state.units) (had_so : jobs_by b.names had ≡ b.state.pending)

@@ -1,7 +1,7 @@
 -- The rows of a state in work, beside the standing that they come from; which rows differ, and how many units that are.
 -- Follows no manual page: numbers of names are this project's own.
 -- Work, what changes by a step, and the count of what a step changes stand on this file.
-use Rattle.std.specs.Prelude.{◌≡◌, ◌↔◌, ℕ, zero, suc, Bool, not, ◌&&◌, List, [], ◌∷◌, ◌++◌, length, Contains, slice_index_or, if◌then◌else◌}
+use Rattle.std.specs.Prelude.{◌≡◌, ◌↔◌, ℕ, zero, suc, Bool, false, not, ◌&&◌, List, [], ◌∷◌, ◌++◌, length, Contains, slice_index_or, if◌then◌else◌}
 use Rattle.um_model.specs.Jobs.{jobs_of_unit, no_jobs}
 use Rattle.um_model.specs.Machine.{State}
 use Rattle.um_model.specs.Service.{ByUnit, state_of_unit}
@@ -65,6 +65,15 @@ is_same_jobs a b = (unit_jobs.ghosts).eq a b
 -- the pending jobs with this number; past the last one there are none
 abbrev pub pending_at : List UnitJobs → ℕ → UnitJobs
 pending_at jobs i = slice_index_or jobs i no_jobs
+
+-- whether the row with this number is marked; past the last one none is
+abbrev pub mark_at : List Bool → ℕ → Bool
+mark_at marks i = slice_index_or marks i false
+
+-- each row without a mark is as it was
+pub record KeepUnmarked (marks : List Bool) (was : List UnitState) (had : List UnitJobs) (units : List UnitState) (jobs : List UnitJobs) : Type 0 where
+  pub same_unit : (i : ℕ) → mark_at marks i ≡ false → row_at units i ≡ row_at was i
+  pub same_jobs : (i : ℕ) → mark_at marks i ≡ false → pending_at jobs i ≡ pending_at had i
 
 -- the rows with this number differ
 abbrev pub differ_at : List UnitState → List UnitJobs → List UnitState → List UnitJobs → ℕ → Bool

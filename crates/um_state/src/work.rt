@@ -10,7 +10,7 @@ ghost use Rattle.um_state.specs.Finding.{row_at};
 ghost use Rattle.um_state.specs.Rows.{rows_after, timed};
 ghost use Rattle.um_state.specs.Tables.{jobs_by};
 ghost use Rattle.um_state.specs.View.{state_of};
-ghost use Rattle.um_state.specs.Working.{AreRowsOf, CountsDiffering, WorkView, changed, is_same_jobs, is_same_unit, jobs_set, next_set, pending_at, unit_set, with_rows};
+ghost use Rattle.um_state.specs.Working.{AreRowsOf, CountsDiffering, KeepUnmarked, WorkView, changed, is_same_jobs, is_same_unit, jobs_set, next_set, pending_at, unit_set, with_rows};
 ghost use Rattle.um_tree.specs.Code.{tree_code};
 
 use crate::overlay::Overlay;
@@ -28,6 +28,8 @@ pub struct Work<'s> {
     was: Numbered<'s>,
     units: Overlay<'s>,
     jobs: Vec<UnitJobs>,
+    /// By number: whether the row was set. The others are as they were.
+    marked: Vec<bool>,
     next: NextNumber,
 }
 
@@ -38,7 +40,8 @@ impl<'s> Model for Work<'s> {
 
     ghost view = { λ w. record { base = w.base.now; now = with_rows w.base.now w.units.now w.jobs.items w.next } };
 
-    ghost invariant = { λ w. (w.units.was ≡ w.was.units.now) × (length w.units.now ≡ length w.base.now.names) × (vec_len w.jobs ≡ length w.base.now.names) × AreRowsOf w.base.now w.was };
+    ghost invariant = { λ w. (w.units.was ≡ w.was.units.now) × (length w.units.now ≡ length w.base.now.names) × (vec_len w.jobs ≡ length w.base.now.names) × AreRowsOf w.base.now w.was
+        × (vec_len w.marked ≡ length w.base.now.names) × KeepUnmarked w.marked.items w.was.units.now w.was.jobs.now w.units.now w.jobs.items };
 }
 
 /// The pending jobs of the unit of the row with this number; past the last one there are none. It takes no memory.
@@ -81,19 +84,24 @@ fn note_change(
     Ok(())
 }
 
-/// The rows that differ.
+/// The rows that differ: only those with a mark are looked at.
 fn changed_rows(
     alloc: Global,
+    marked: &[bool],
     units: &Overlay<'_>,
     had: &[UnitJobs],
     jobs: &[UnitJobs],
 ) -> Result<Vec<Row>, AllocError>
-    requires { length had.now ≡ length jobs.now }
+    requires marks { length marked.now ≡ length jobs.now }
+    requires len { length had.now ≡ length jobs.now }
+    requires kept { KeepUnmarked marked.now units.now.was had.now units.now.now jobs.now }
     ensures { IfOk result (λ rows. rows.items ≡ changed units.now.was had.now units.now.now jobs.now (length jobs.now)) }
 {
     let mut rows = Vec::new(alloc);
     for number in 0..jobs.len() {
-        note_change(&mut rows, units, number, had[number], jobs[number])?;
+        if marked[number] {
+            note_change(&mut rows, units, number, had[number], jobs[number])?;
+        }
     }
     Ok(rows)
 }
@@ -107,11 +115,13 @@ impl<'s> Work<'s> {
         let Some(was) = base.numbered() else {
             return Ok(None);
         };
+        let marked = vec![in alloc; false; was.jobs.len()]?;
         Ok(Some(Work {
             base,
             was,
             units: Overlay::of(alloc, was.units)?,
             jobs: Vec::from_slice(alloc, was.jobs)?,
+            marked,
             next: base.next(),
         }))
     }
@@ -161,6 +171,7 @@ impl<'s> Work<'s> {
     {
         if i < self.units.len() {
             self.units.set(i, unit);
+            self.marked[i] = true;
         }
     }
 
@@ -171,6 +182,7 @@ impl<'s> Work<'s> {
     {
         if i < self.jobs.len() {
             self.jobs[i] = jobs;
+            self.marked[i] = true;
         }
     }
 
@@ -187,6 +199,6 @@ impl<'s> Work<'s> {
         ensures after { IfOk result (λ rows. (clock next : ℕ) → rows_after rows.items (timed clock next self.now.base) ≡ timed clock next self.now.now) }
         ensures count { IfOk result (λ rows. CountsDiffering (state_of self.now.base) (state_of self.now.now) (vec_len rows)) }
     {
-        changed_rows(alloc, &self.units, self.was.jobs, &self.jobs)
+        changed_rows(alloc, &self.marked, &self.units, self.was.jobs, &self.jobs)
     }
 }

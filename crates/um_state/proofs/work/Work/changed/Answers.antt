@@ -8,9 +8,9 @@ pub returns-clause-after : goal.returns-clause-after
 returns-clause-after c =
     let s = c.self.inside in
     let was = s.was in
-    let rows = c.deref.result.now in
+    let rows = c.deref-2.result.now in
     let all : changed s.units.was was.jobs.now s.units.now rows (length rows) ≡ changed was.units.now was.jobs.now s.units.now s.jobs.items (length s.jobs.items) =
-    λ i. changed (c.self.invariant.0 i) was.jobs.now s.units.now (c.deref.ensures.value i) (length (c.deref.ensures.value i)) in
+    λ i. changed (c.self.invariant.0 i) was.jobs.now s.units.now (c.deref-2.ensures.value i) (length (c.deref-2.ensures.value i)) in
     let are = c.self.invariant.3 in
     if_ok_more c.changed_rows.result
     (λ found made. work_after c.args.self.now s.base.now s.units.now s.jobs.items s.next c.self.view_is are.ascending
@@ -20,9 +20,9 @@ pub returns-clause-count : goal.returns-clause-count
 returns-clause-count c =
     let s = c.self.inside in
     let was = s.was in
-    let rows = c.deref.result.now in
+    let rows = c.deref-2.result.now in
     let all : changed s.units.was was.jobs.now s.units.now rows (length rows) ≡ changed was.units.now was.jobs.now s.units.now s.jobs.items (length s.jobs.items) =
-    λ i. changed (c.self.invariant.0 i) was.jobs.now s.units.now (c.deref.ensures.value i) (length (c.deref.ensures.value i)) in
+    λ i. changed (c.self.invariant.0 i) was.jobs.now s.units.now (c.deref-2.ensures.value i) (length (c.deref-2.ensures.value i)) in
     let are = c.self.invariant.3 in
     if_ok_more c.changed_rows.result
     (λ found made. work_counts c.args.self.now s.base.now s.units.now s.jobs.items s.next c.self.view_is are.ascending
