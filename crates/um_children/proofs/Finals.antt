@@ -1,6 +1,6 @@
 -- No number that was told absent starts: one call more keeps it.
-use Rattle.std.proofs.Common.{◌≡◌, ℕ, Bool, true, false, ◌||◌, ◌&&◌, cond, eqb, List, [], ◌∷◌, ◌++◌, refl, sym, subst, ◌∙◌}
-use Rattle.std.proofs.lemmas.Bool.{eqb-true, true≢false}
+use Rattle.std.proofs.Common.{◌≡◌, ℕ, Bool, true, false, ◌||◌, cond, List, [], ◌∷◌, ◌++◌, refl, sym, subst, ◌∙◌}
+use Rattle.std.proofs.lemmas.Bool.{true≢false}
 use Rattle.std.proofs.lemmas.List.{map-append}
 use Rattle.std.proofs.lemmas.List.Folds.{list_any-append}
 use Rattle.um_model.specs.Children.{Call, Spawned, Signalled, Asked, Forgot, ForgotOthers}
@@ -30,11 +30,6 @@ final_noted call calls kept fits n t =
     list_any-append (is_start n) calls (call ∷ [])
     ∙ joined (was_absent calls n) (is_absence n call) (has_started calls n) (is_start n call)
     (kept n) (fits n).0 (fits n).1 (not_both n call) (sym (list_any-append (is_absence n) calls (call ∷ [])) ∙ t)
-
-at_number : (number n : ℕ) (b : Bool) (calls : List Call) → (e : Bool) → eqb number n ≡ e → (b ≡ true → was_absent calls number ≡ false) → was_absent calls n ≡ true → (b && e) ≡ false
-at_number number n false calls e same h t = refl
-at_number number n true calls false same h t = refl
-at_number number n true calls true same h t = absurd (true≢false (sym t ∙ subst (λ m. was_absent calls m ≡ false) (eqb-true number n same) (h refl)))
 
 pub kept_if : (b : Bool) (call : told.Call) (calls new : List told.Call) → new ≡ cond b (calls ++ call ∷ []) calls → IsFinal (calls_of calls) → Fits (call_of call) (calls_of calls) → IsFinal (calls_of new)
 kept_if true call calls new e kept fits = subst (λ xs. IsFinal (calls_of xs)) (sym e) (subst IsFinal (sym (map-append call_of calls (call ∷ []))) (final_noted (call_of call) (calls_of calls) kept fits))

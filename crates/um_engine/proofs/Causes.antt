@@ -67,9 +67,6 @@ pub removes_none_to : (s u : State) (path : List ℕ) (e : Refusal) → u ≡ s 
     → e ≢ NoMemory → Refuses s (model.Remove path) (refused_of e)
 removes_none_to s u path e same refused differs = (sym (ap (λ (x : State). remove_at x.tree path) same) ∙ refused differs)
 
-ok_err : {A : Type 0} (r : Result A Refused) (a : A) (e : Refused) → r ≡ Ok a → r ≡ Err e → ⊥
-ok_err r a e h k = cc
-
 pub free_to_reload : (s : State) → ((r : Refused) → ¬ model.CausesOfLoad s s.tree r) → (r : Refused) → Refuses s model.DaemonReload r → ⊥
 free_to_reload s free r h = free r h
 
@@ -92,9 +89,6 @@ remove_refused tree path r q e f = ap (λ o. unless_refused o (map.remove tree p
 module _ (s : State) (verb : UnitVerb) (asked : List ℕ) (mode : JobMode) where
   abbrev Crowds : Refused → Type 0
   Crowds = IsCrowded s.loaded (IsHeldOr s (model.unit_asked s asked))
-
-  pub by_crowd : (r : Refused) → Crowds r → Refuses s (model.ForUnit verb asked mode) r
-  by_crowd r h = at_first (by_name h)
 
   pub by_absence : (r : Refused) → ((q : Refused) → ¬ PlansTooMany s verb asked q) → IsNotThere s verb asked r → Refuses s (model.ForUnit verb asked mode) r
   by_absence r few h = at_second few (at_first h)

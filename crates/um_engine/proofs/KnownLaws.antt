@@ -22,7 +22,7 @@ use Rattle.um_state.specs.View.{state_of}
 use Rattle.um_falling.specs.Over.{Serves}
 use Rattle.um_falling.specs.Work.{Goes, Keeps, WorkView}
 use Rattle.um_engine.specs.Known.{AreLasting, IsHeldWith, IsGraphFor, KnownView, KnowsFor}
-use Rattle.um_engine.specs.Served.{ServedView, WorksOn, begun_at, standing_of}
+use Rattle.um_engine.specs.Served.{ServedView, WorksOn}
 use Rattle.um_engine.proofs.SameUnitsLaws.{KnowsSame, count_by, graph_same, graph_too}
 
 module _ (s : State) (k : KnownView) (named : Option (List ℕ)) (knows : KnowsFor k s) (made : (x : List ℕ) → Contains k.extra x → IsHeldWith s named x)
@@ -148,9 +148,6 @@ lasting_known tree others g None of same unit = subst (λ t. Contains g.names un
 lasting_known tree others g (Some names) of each unit = each unit
 
 -- ---- a step in work over what is served
-
-pub works_begun : (v : ServedView) (t : ℕ) → WorksOn v (begun_at (standing_of v) v.known.graph t)
-works_begun v t = record { graph = refl; base = refl; tree = refl; loaded = refl }
 
 -- it does so still where the trees stay
 pub works_still : (v : ServedView) (w x : WorkView) → WorksOn v w → Keeps w x → (state_of x.now).tree ≡ (state_of w.now).tree → (state_of x.now).loaded ≡ (state_of w.now).loaded → WorksOn v x

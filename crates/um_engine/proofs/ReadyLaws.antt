@@ -81,13 +81,6 @@ not_deactivating a isnt = by (is_deactivating a) refl
     by true e = absurd (isnt (it_is a e))
     by false e = refl
 
--- ---- a job that waits by number waits by name
-module _ (g : GraphView) (s : State) (v : JobsView) (tells : Tells g s v) where
-  pub waits_named : (u : ℕ) (name : List ℕ) (kind : JobKind) → IsNumberOf g u name → (state_of_job (jobs_by g.names v.units) (job_named g u kind) ≡ Some Waiting) → (state_of_job s.pending (record { unit = name; kind = kind }) ≡ Some Waiting)
-  waits_named u name kind number w =
-      let within = got_within g.names u name number in
-      sym (ap (job_of kind) (jobs_by_at g.names v.units (names_once g.names tells.graph.sorted) u within ∙ tells.jobs u name number)) ∙ w
-
 -- ---- what is ready by the graph is ready by the tree
 module _ (g : GraphView) (s : State) (serves : Serves g s) (v : JobsView) (tells : Tells g s v) where
   once : (i j : ℕ) → i < length g.names → j < length g.names → name_at g.names i ≡ name_at g.names j → i ≡ j

@@ -22,10 +22,6 @@ or_right : (a b : Bool) → (a || b) ≡ false → b ≡ false
 or_right true b e = absurd (true≢false e)
 or_right false b e = e
 
-and_true : (a : Bool) → (a && true) ≡ a
-and_true true = refl
-and_true false = refl
-
 -- what isn't in a list differs from each in it
 pub differs : (n : ℕ) (ns : List ℕ) → has n ns ≡ false → list_all (λ m. not (m == n)) ns ≡ true
 differs n [] e = refl

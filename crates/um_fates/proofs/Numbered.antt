@@ -4,7 +4,7 @@ use Rattle.std.specs.FinMap as map
 use Rattle.std.specs.List.{list_all, dedup, dedup_from}
 use Rattle.std.proofs.lemmas.Bool.{eqb-true, eq-eqb, true≢false}
 use Rattle.std.proofs.lemmas.List.Folds.{list_any-append}
-use Rattle.um_model.proofs.EntriesLaws.{at_each, from_each, left_true, right_true}
+use Rattle.um_model.proofs.EntriesLaws.{at_each, from_each}
 use Rattle.um_laws.proofs.ScanLaws.{held_with_number}
 use Rattle.um_model.specs.Machine.{IsOver, IsProcessOf}
 use Rattle.um_model.specs.Service.{ByUnit, state_of_unit, dead_unit}
@@ -46,11 +46,6 @@ false_of false h = refl
 abbrev is_same : Bool → Bool → Bool
 is_same true b = b
 is_same false b = not b
-
-same_told : (a b : Bool) → is_same a b ≡ true → a ≡ b
-same_told true b e = sym e
-same_told false true e = absurd (true≢false (sym e))
-same_told false false e = refl
 
 -- ---- one unit
 
@@ -110,10 +105,6 @@ at_unit units unit u is = ap (λ o. unwrap_or o dead_unit) is
 held_as : (units : ByUnit UnitState) (unit : List ℕ) (o : Option UnitState) → map.get units unit ≡ o → is_some o ≡ true → map.get units unit ≡ Some (state_of_unit units unit)
 held_as units unit (Some u) is some = is ∙ ap Some (sym (at_unit units unit u is))
 held_as units unit None is some = absurd (true≢false (sym some))
-
-not_false : (b : Bool) → not b ≡ false → b ≡ true
-not_false true e = refl
-not_false false e = absurd (true≢false e)
 
 not_true : (b : Bool) → not b ≡ true → b ≡ false
 not_true true e = absurd (true≢false (sym e))

@@ -49,16 +49,6 @@ pub map_pushed : {A B : Type 0} (f : A → B) (xs : List A) (x : A) (ys : List B
 map_pushed f [] x ys = refl
 map_pushed f (z ∷ xs) x ys = ap (λ us. f z ∷ us) (map_pushed f xs x ys)
 
-pub contains_map : {A B : Type 0} (f : A → B) (xs : List A) (x : A) → Contains xs x → Contains (map f xs) (f x)
-contains_map f [] x (k, h, e) = absurd (omega arith)
-contains_map f (z ∷ xs) x (zero, h, e) = (0, omega arith, ap f e)
-contains_map f (z ∷ xs) x (suc k, h, e) = cons_in (f z) (map f xs) (f x) (contains_map f xs x (k, omega arith, e))
-
-pub map_contains : {A B : Type 0} (f : A → B) (xs : List A) (y : B) → Contains (map f xs) y → (x : A) × Contains xs x × (f x ≡ y)
-map_contains f [] y (k, h, e) = absurd (omega arith)
-map_contains f (z ∷ xs) y (zero, h, e) = (z, (0, omega arith, refl), e)
-map_contains f (z ∷ xs) y (suc k, h, e) = let r = map_contains f xs y (k, omega arith, e) in (r.0, cons_in z xs r.0 r.1, r.2)
-
 -- one thing more
 more_made : {A B : Type 0} (f : A → List B) (xs : List A) (i : ℕ) (x : A) → i < length xs → flat_map f (take i xs) ++ f (get_or xs i x) ≡ flat_map f (take (i + 1) xs)
 more_made f xs i x within =

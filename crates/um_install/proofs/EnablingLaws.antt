@@ -1,36 +1,32 @@
 -- Disabling a unit takes away the links that enabling it made; while they are there it is told to be enabled; and enabling it again changes nothing.
-use Rattle.std.proofs.Common.{ℕ, ◌≡◌, ◌⊎◌, ◌∙◌, Bool, true, false, true≢false, cond, not, ◌||◌, List, [], ◌∷◌, ◌++◌, map as each, Contains, Option, Some, None, refl, sym, ap, subst, inl, inr, ◌≢◌, append-nil, ◌<◌, zero, suc, length, get_or, arith, is_some, is_none, filter}
+use Rattle.std.proofs.Common.{ℕ, ◌≡◌, ◌⊎◌, ◌∙◌, Bool, true, false, true≢false, cond, not, ◌||◌, List, [], ◌∷◌, ◌++◌, map as each, Contains, Option, Some, None, refl, sym, ap, subst, inl, inr, ◌≢◌, append-nil, ◌<◌, is_some, is_none, filter}
 use Rattle.std.specs.FinMap as map
-use Rattle.std.specs.List.{after_last, list_any}
+use Rattle.std.specs.List.{list_any}
 use Rattle.std.specs.Cmp.Lexicographic.{slice_cmp}
 use Rattle.std.specs.Ordering.{nat_cmp, eq_by_cmp}
 use Rattle.std.specs.Str.{bytes_eq}
-use Rattle.std.proofs.lemmas.List.Sums.{AllPass-from_list_all}
 use Rattle.std.proofs.lemmas.Bool.{cond-false, cond-true}
 use Rattle.std.proofs.lemmas.Option.{none-some, same_Some}
 use Rattle.std.proofs.lemmas.Slice.Eq.{bytes_eq-Decides}
 use Rattle.um_install.specs.Enabled.{Obeys, IsFoundByName, IsUndone, HasNoAlias}
-use Rattle.um_model.specs.Install.{LinkAt, link_at, install_of, linked_name, path_in_etc, links_to, links_of, IsAlso, IsTaken, IsAskedFor, IsEnabled, IsUnfit, IsMeant, IsUnlinked, IsDisabled, enabling_of, IsEnabledAs, CausesOfLinks, Installs, enables, disables, RefusesLinks, enables_none, RefusesUnits, takes_none, RefusesInstall, IsOccupied, stands, differs, HasTooMany, too_many, CannotEnable, IsBarred, enabling_by, paths_beyond}
+use Rattle.um_model.specs.Install.{LinkAt, link_at, install_of, linked_name, path_in_etc, links_to, links_of, IsAlso, IsTaken, IsAskedFor, IsEnabled, IsUnfit, IsMeant, IsUnlinked, IsDisabled, CausesOfLinks, Installs, enables, disables, enables_none, RefusesUnits, takes_none, RefusesInstall, IsOccupied, stands, differs, HasTooMany, too_many, CannotEnable, IsBarred, paths_beyond}
 use Rattle.um_model.specs.Names.{is_unit_name, is_template}
 use Rattle.um_model.specs.Reached.{first, next}
 use Rattle.um_model.specs.Refusals.{Refused, at_first, at_second, too_large}
 use Rattle.um_model.specs.Resolution.{unit_in_target, unit_path}
-use Rattle.um_model.specs.Tree.{Tree, Link, PathParts, Place, Unit, Wants, Requires, path_text, path_parts, is_fit_place, is_fit_target, layer_text, entry_limit, is_other_than_link, is_slash}
+use Rattle.um_model.specs.Tree.{Tree, Link, PathParts, Place, Unit, Wants, Requires, path_text, path_parts, is_fit_place, is_fit_target, layer_text, entry_limit, is_other_than_link}
 use Rattle.um_model.specs.Units.{LoadedUnit, Loading, Found, load, name_in, unit_named, InstallSettings, Masked, NotFound, BadSetting}
-use Rattle.um_model.specs.declared.install.Enabling.{Enabling}
-use Rattle.um_model.specs.declared.install.Enabling.TheVariants as enabling
 use Rattle.um_model.specs.declared.install.InstallVerb.TheVariants as verbs
 use Rattle.um_model.specs.declared.refusals.Limit.TheVariants.{Entries}
 use Rattle.um_model.specs.declared.tree.Layer.{Layer}
-use Rattle.um_model.specs.declared.tree.Layer.TheVariants.{Etc, Run, Lib}
+use Rattle.um_model.specs.declared.tree.Layer.TheVariants.{Etc}
 use Rattle.um_laws.proofs.AmongLaws.{among_contained, contains_among, among_map, among_left, among_right, among_either, AnyOf, from_map}
-use Rattle.um_laws.proofs.InstallLaws.{also_any, any_also, enabled_drop_ins, free_of_causes, fit_of_causes, few_of_causes, open_of_causes, one_enabled, one_install, unlinked_or_not, unlinked_by, disabled_drop_ins, same_tree, is_link_for, is_link_of}
+use Rattle.um_laws.proofs.InstallLaws.{also_any, any_also, enabled_drop_ins, free_of_causes, fit_of_causes, few_of_causes, open_of_causes, one_enabled, one_install, unlinked_by, is_link_for, is_link_of}
 use Rattle.um_model.proofs.LeastLaws.{Among}
 use Rattle.um_laws.proofs.LoadsLaws.{loads_as}
 use Rattle.um_laws.proofs.NamedLaws.{AreNames, names_installed, named_by_name, also_names}
 use Rattle.um_model.proofs.OwnNameLaws.{named_by_loading}
-use Rattle.um_model.proofs.SpecifiersLaws.{after_last-found}
-use Rattle.um_model.proofs.TreeLaws.{parts_at, name-no_slash}
+use Rattle.um_model.proofs.TreeLaws.{parts_at}
 use Rattle.um_model.proofs.UnitLaws.{alike}
 
 -- ---- the links of a unit that was enabled
@@ -152,29 +148,6 @@ all_fit tree asked u obeys = fit_of_causes tree asked (no_cause tree asked u obe
 
 -- ---- disabling undoes enabling
 
-no_slash_behind : (name : List ℕ) → is_unit_name name ≡ true → (i : ℕ) → i < length name → get_or name i 0 ≢ 47
-no_slash_behind name is i below e =
-    true≢false (sym (AllPass-from_list_all (λ b. not (is_slash b)) name (name-no_slash name is) i 0 below) ∙ ap (λ b. not (is_slash b)) e)
-
--- the file of a unit has its name, unless it is that of its template
-pub own_file : (layer : Layer) (name : List ℕ) → is_unit_name name ≡ true → unit_in_target (unit_path layer name) ≡ name
-own_file layer name is = by_layer layer
-  where
-    behind : (a b c : ℕ) (i : ℕ) → 3 < i → i < length (a ∷ b ∷ c ∷ 47 ∷ name) → get_or (a ∷ b ∷ c ∷ 47 ∷ name) i 0 ≢ 47
-    behind a b c zero low below = absurd (omega arith)
-    behind a b c (suc zero) low below = absurd (omega arith)
-    behind a b c (suc (suc zero)) low below = absurd (omega arith)
-    behind a b c (suc (suc (suc zero))) low below = absurd (omega arith)
-    behind a b c (suc (suc (suc (suc i)))) low below = no_slash_behind name is i (omega arith)
-
-    at : (a b c : ℕ) → after_last is_slash (a ∷ b ∷ c ∷ 47 ∷ name) ≡ name
-    at a b c = after_last-found 47 (a ∷ b ∷ c ∷ 47 ∷ name) 3 (omega arith) refl (behind a b c)
-
-    by_layer : (layer : Layer) → unit_in_target (unit_path layer name) ≡ name
-    by_layer Etc = at 101 116 99
-    by_layer Run = at 114 117 110
-    by_layer Lib = at 108 105 98
-
 -- disabling by a name by which the linked name is meant undoes the enabling of each unit that was taken
 pub links_undone : (tree : Tree) (asked name file : List ℕ) (l : LoadedUnit) → IsLinked tree asked name file l → (u v : Tree) → Obeys tree verbs.Enable asked u
     → (by : List ℕ) → IsMeant u by name → Installs u verbs.Disable by v → IsUndone l name file v
@@ -204,30 +177,6 @@ pub disabling_undoes : (tree : Tree) (asked file : List ℕ) (l : LoadedUnit) �
     → (u v : Tree) → Obeys tree verbs.Enable asked u → Installs u verbs.Disable asked v → IsUndone l asked file v
 disabling_undoes tree asked file l is u v obeys undoes =
     links_undone tree asked asked file l (linked_by_name tree asked file l is) u v obeys asked (first refl) undoes
-
--- ---- what was enabled is told to be
-
--- where any other unit wants or requires it, and it still is found by its name
-pub enabled_is_told : (tree : Tree) (asked file : List ℕ) (l : LoadedUnit) → IsFoundByName tree asked file l → (u : Tree) → Obeys tree verbs.Enable asked u
-    → (other : List ℕ) → Contains (l.settings.install.wanted_by ++ l.settings.install.required_by) other
-    → (m : LoadedUnit) → load u asked ≡ Found m → m.name ≡ asked → (e : Enabling) → IsEnabledAs u asked e → e ≡ enabling.Enabled
-enabled_is_told tree asked file l is u obeys other among m found named e told =
-    told.fits ∙ (ap (λ loading. enabling_of asked loading told.linked) found
-    ∙ (ap (enabling_of asked (Found m)) (told.decides.1 (by_list (among_either l.settings.install.wanted_by l.settings.install.required_by other (among_contained _ other among))))
-    ∙ ap (λ b. cond (not b) enabling.Alias enabling.Enabled) ((bytes_eq-Decides m.name asked).1 named)))
-  where
-    own : IsLinked tree asked asked file l
-    own = linked_by_name tree asked file l is
-
-    fit : (path : List ℕ) → ¬ (IsUnfit tree asked path)
-    fit = all_fit tree asked u obeys
-
-    made : IsEnabled tree asked u
-    made = enabled_by tree asked u obeys.makes
-
-    by_list : Among l.settings.install.wanted_by other ⊎ Among l.settings.install.required_by other → (path : List ℕ) × IsUnlinked u asked path
-    by_list (inl wanted) = (_, unlinks_wanted tree asked asked file l own fit u made asked (first refl) other wanted)
-    by_list (inr required) = (_, unlinks_required tree asked asked file l own fit u made asked (first refl) other required)
 
 -- ---- units that have no other name load as before
 
@@ -316,13 +265,6 @@ enabled_loads_as tree asked u no_alias obeys = loads_as u tree (record {
   where
     made : IsEnabled tree asked u
     made = enabled_by tree asked u obeys.makes
-
--- so the unit is told to be enabled
-pub enabled_is_told_by_name : (tree : Tree) (asked file : List ℕ) (l : LoadedUnit) → IsFoundByName tree asked file l → is_unit_name asked ≡ true → HasNoAlias tree asked
-    → (u : Tree) → Obeys tree verbs.Enable asked u → (other : List ℕ) → Contains (l.settings.install.wanted_by ++ l.settings.install.required_by) other
-    → (e : Enabling) → IsEnabledAs u asked e → e ≡ enabling.Enabled
-enabled_is_told_by_name tree asked file l is name no_alias u obeys other among =
-    enabled_is_told tree asked file l is u obeys other among l (enabled_loads_as tree asked u no_alias obeys asked name ∙ is.found) is.named
 
 -- ---- enabling twice
 
@@ -441,87 +383,3 @@ module _ (tree : Tree) (asked : List ℕ) (u : Tree) (is : is_unit_name asked �
 -- none of the links that are removed is another name of a unit
 abbrev pub RemovesNoName : Tree → List ℕ → Type 0
 RemovesNoName tree asked = (path : List ℕ) (p : PathParts) → IsUnlinked tree asked path → path_parts path ≡ Some p → p.place ≢ Unit
-
--- after such a disabling each unit loads as before
-pub disabled_loads_as : (tree : Tree) (asked : List ℕ) (v : Tree) → RemovesNoName tree asked → Installs tree verbs.Disable asked v
-    → (unit : List ℕ) → is_unit_name unit ≡ true → load v unit ≡ load tree unit
-disabled_loads_as tree asked v no_name disabled = loads_as v tree (record {
-  holds = λ layer unit is. left.kept (unit_path layer unit) (λ h. no_name (unit_path layer unit) (own layer unit) h (parts_of_own layer unit is) refl);
-  drop_ins = disabled_drop_ins tree asked v left;
-})
-  where
-    left : IsDisabled tree asked v
-    left = disabled_by tree asked v disabled
-
-    own : Layer → List ℕ → PathParts
-    own layer unit = record { layer = layer; unit = unit; place = Unit }
-
-    parts_of_own : (layer : Layer) (unit : List ℕ) → is_unit_name unit ≡ true → path_parts (unit_path layer unit) ≡ Some (own layer unit)
-    parts_of_own layer unit is =
-        ap path_parts (sym (ap (λ text. layer_text layer ++ text) (append-nil unit)))
-        ∙ (parts_at (own layer unit) is ∙ cond-true (is_unit_name unit) (Some (own layer unit)) None is)
-
-meant_name : (tree : Tree) (asked name : List ℕ) → is_unit_name asked ≡ true → IsMeant tree asked name → is_unit_name name ≡ true
-meant_name tree asked name is (first e) = subst (λ n. is_unit_name n ≡ true) (sym e) is
-meant_name tree asked name is (next {a = unit} reached step) = also_names tree unit name (among_contained (install_of (load tree unit)).also name step)
-
-meant_as : (v tree : Tree) → LoadsAs v tree → (asked name : List ℕ) → is_unit_name asked ≡ true → IsMeant v asked name → IsMeant tree asked name
-meant_as v tree same asked name is (first e) = first e
-meant_as v tree same asked name is (next {a = unit} reached step) =
-    next (meant_as v tree same asked unit is reached) (subst (λ found. Contains (install_of found).also name) (same unit (meant_name v asked unit is reached)) step)
-
--- then nothing is left that disabling would remove
-none_left : (tree : Tree) (asked : List ℕ) (v : Tree) → is_unit_name asked ≡ true → RemovesNoName tree asked → Installs tree verbs.Disable asked v
-    → (path : List ℕ) → ¬ (IsUnlinked v asked path)
-none_left tree asked v is no_name disabled path h = elim (unlinked_or_not tree asked path) as (λ _. ⊥) [
-  | inl was ↦ none-some (Link h.target) (sym (left.gone path was) ∙ h.link)
-  | inr wasnt ↦ wasnt (record {
-    name = h.name;
-    target = h.target;
-    parts = h.parts;
-    meant = meant_as v tree (disabled_loads_as tree asked v no_name disabled) asked h.name is h.meant;
-    link = sym (left.kept path wasnt) ∙ h.link;
-    served = h.served;
-    in_etc = h.in_etc;
-    leads = h.leads;
-  })
-]
-  where
-    left : IsDisabled tree asked v
-    left = disabled_by tree asked v disabled
-
--- a second disabling changes nothing
-pub disable_twice : (tree : Tree) (asked : List ℕ) (v w : Tree) → is_unit_name asked ≡ true → RemovesNoName tree asked → Installs tree verbs.Disable asked v
-    → Installs v verbs.Disable asked w → w ≡ v
-disable_twice tree asked v w is no_name disabled more =
-    same_tree w v (λ path. (disabled_by v asked w more).kept path (none_left tree asked v is no_name disabled path))
-
--- and the unit isn't told to be enabled
-pub disabled_is_told : (tree : Tree) (asked : List ℕ) (v : Tree) → is_unit_name asked ≡ true → RemovesNoName tree asked → Installs tree verbs.Disable asked v
-    → (e : Enabling) → IsEnabledAs v asked e → e ≢ enabling.Enabled
-disabled_is_told tree asked v is no_name disabled e told same =
-    true≢false (ap is_enabled (sym same ∙ told.fits) ∙ by_test told.linked refl)
-  where
-    is_enabled : Enabling → Bool
-    is_enabled enabling.Enabled = true
-    is_enabled other = false
-
-    by_section : (asked_links names : List (List ℕ)) → is_enabled (enabling_by asked_links names) ≡ false
-    by_section (link ∷ more) names = refl
-    by_section [] (name ∷ names) = refl
-    by_section [] [] = refl
-
-    at_name : (other : Bool) (asked_links names : List (List ℕ)) → is_enabled (cond other enabling.Alias (enabling_by asked_links names)) ≡ false
-    at_name true asked_links names = refl
-    at_name false asked_links names = by_section asked_links names
-
-    of_loading : (found : Loading) → is_enabled (enabling_of asked found false) ≡ false
-    of_loading NotFound = refl
-    of_loading (Masked unit) = refl
-    of_loading (BadSetting unit reason) = at_name (not (bytes_eq unit asked)) [] []
-    of_loading (Found l) =
-        let install = l.settings.install in at_name (not (bytes_eq l.name asked)) (install.alias ++ install.wanted_by ++ install.required_by) install.also
-
-    by_test : (linked : Bool) → told.linked ≡ linked → is_enabled (enabling_of asked (load v asked) told.linked) ≡ false
-    by_test true f = absurd (let found = told.decides.0 f in none_left tree asked v is no_name disabled found.0 found.1)
-    by_test false f = ap (λ b. is_enabled (enabling_of asked (load v asked) b)) f ∙ of_loading (load v asked)

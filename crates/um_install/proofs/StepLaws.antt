@@ -93,15 +93,6 @@ pub link_refused : (tree : Tree) (path target : List ℕ) (r q : Refused) → li
 unfolding put_link
 link_refused tree path target r q e f = ap (λ o. unless_refused o (map.insert tree path (Link target))) e ∙ ap Err (sym f)
 
-pub free_to_mask : (tree changed : Tree) (unit path : List ℕ) → path ≡ unit_path Etc unit → put_link tree path (codes "/dev/null") ≡ Ok changed → (r : Refused) → RefusesLinks tree verbs.Mask unit r → ⊥
-free_to_mask tree changed unit path is ok r (masks_none e) = let a = ap (λ p. put_link tree p (codes "/dev/null")) is in cc
-
-pub free_to_unmask : (tree : Tree) (unit : List ℕ) (r : Refused) → RefusesLinks tree verbs.Unmask unit r → ⊥
-free_to_unmask tree unit r h = elim h [ ]
-
-pub free_to_disable : (tree : Tree) (unit : List ℕ) (r : Refused) → RefusesLinks tree verbs.Disable unit r → ⊥
-free_to_disable tree unit r h = elim h [ ]
-
 -- ---- masks taken away
 
 removed_by : (b : Bool) (r : Refused) (t next : Tree) → unless_refused (cause b r) next ≡ Ok t → t ≡ next

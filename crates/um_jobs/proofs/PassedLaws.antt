@@ -1,5 +1,5 @@
 -- Units that a search has passed over stay so where each job is as it was, or runs now.
-use Rattle.std.proofs.Common.{◌≡◌, ◌∙◌, ◌<◌, ◌≤◌, ◌&&◌, ◌||◌, ℕ, Bool, true, false, true≢false, cond, not, List, length, set, Option, Some, None, is_none, is_some, refl, sym, ap, subst, inl, inr}
+use Rattle.std.proofs.Common.{◌≡◌, ◌∙◌, ◌<◌, ◌&&◌, ◌||◌, ℕ, Bool, true, false, true≢false, cond, not, List, length, set, Option, Some, None, is_none, is_some, refl, sym, ap, subst, inl, inr}
 use Rattle.std.specs.List.{list_any}
 use Rattle.std.proofs.lemmas.Bool.{and_from, and_parts, cases_eq, cases_lt, not-true, or_cases, or_left, or_right}
 use Rattle.std.proofs.lemmas.Grind.{get_or-set_at}
@@ -159,9 +159,6 @@ module _ (g : GraphView) (before after : List UnitJobs) (wb wa : List Bool) (sta
 pub passed_at : (units : List UnitJobs) (u : ℕ) (j : UnitJobs) → u < length units → binds_as_before (jobs_at units u) j ≡ true → (n : ℕ) (g : GraphView) (held : List Bool)
     → ArePassed g units held n → ArePassed g (set units u j) held n
 passed_at units u j within binds n g held = passed_on g units (set units u j) held held (all_but units u j within binds) (λ x is. is) n
-
-pub passed_past : (units : List UnitJobs) (u : ℕ) (j : UnitJobs) → length units ≤ u → (n : ℕ) (g : GraphView) (held : List Bool) → ArePassed g units held n → ArePassed g (set units u j) held n
-passed_past units u j past n g held passed = subst (λ x. ArePassed g x held n) (sym (set_past units u j past)) passed
 
 pub passed_held : (held : List Bool) (u n : ℕ) (g : GraphView) (units : List UnitJobs) → ArePassed g units held n → ArePassed g units (set held u true) n
 passed_held held u n g units = passed_on g units units held (set held u true) (all_same units) (held_more held u) n

@@ -1,5 +1,5 @@
 -- Of inputs that are taken one behind the other.
-use Rattle.std.proofs.Common.{◌≡◌, ◌⊎◌, ◌∙◌, ℕ, zero, suc, ◌+◌, ◌-◌, arith, Bool, true, false, if◌then◌else◌, List, [], ◌∷◌, ◌++◌, append_assoc, append-nil, length, length-append, map, replicate, take, drop, refl, sym, ap, subst, inl, inr}
+use Rattle.std.proofs.Common.{◌≡◌, ◌⊎◌, ◌∙◌, ℕ, zero, suc, ◌+◌, ◌-◌, arith, Bool, true, false, List, [], ◌∷◌, ◌++◌, append_assoc, append-nil, length, length-append, map, replicate, take, drop, refl, sym, ap, subst, inl, inr}
 use Rattle.std.specs.List.{AllByRecursion, Contains}
 use Rattle.std.specs.Prelude.{Ok, Err}
 use Rattle.std.proofs.lemmas.Bool.{false≢true}
@@ -15,7 +15,7 @@ use Rattle.um_model.specs.Service.{Action}
 use Rattle.um_model.specs.Standing.{Standing}
 use Rattle.um_model.specs.Store.{body_limit}
 use Rattle.um_model.specs.declared.layout.Layout.{Layout}
-use Rattle.um_laws.proofs.DiskLaws.{weaker, followed}
+use Rattle.um_laws.proofs.DiskLaws.{weaker}
 use Rattle.um_laws.proofs.NumbersLaws.{run_numbers_rise}
 use Rattle.um_keeper.specs.Answering.{Answer, is_turned_away, Answered, accepted, refused, turned_away, AreAnswered, all_answered, and_next, Recorded, all_recorded, without_record, with_record, FailsAt, at_sync, at_record, FellBack, FellThere, StopsAt, HasFault, denied, where_step, taken, all_asked, IsIdle, IsRefusal, NeedNoRecord, HasNoRecord, HaveNoRecord, sectors_for, all_sectors, state_before_all}
 use Rattle.um_keeper.specs.Keeping.{IsBegun}
@@ -37,28 +37,6 @@ pub begun_longer : {layout : Layout} {s : State} (xs ys : List Input) (image : I
 begun_longer {layout} {s} xs ys image b =
     let (n, is) = longer xs ys b.count in
     record { count = n; state = b.state; run = subst (λ l. Run (body_limit layout) s l b.state) (sym is) b.run; store = b.store }
-
--- behind a step
-begun_behind : {layout : Layout} {s t : State} {input : Input} {reply : Reply} {actions : List Action} {rest : List Input} (image : Image)
-    → Step (body_limit layout) s input reply actions t → IsBegun layout t rest image → IsBegun layout s (input ∷ rest) image
-begun_behind {reply = reply} {actions} image step b = record { count = suc b.count; state = b.state; run = goes reply actions step b.run; store = b.store }
-
--- behind an answer
-begun_answered : {layout : Layout} {s t : State} {input : Input} {answer : Answer} {rest : List Input} (image : Image)
-    → Answered (body_limit layout) s input answer t → IsBegun layout t rest image → IsBegun layout s (where_step answer input ++ rest) image
-begun_answered image (accepted step ok) b = begun_behind image step b
-begun_answered {layout} {s} {input = input} {rest = rest} image (refused of_step stays step) b =
-    subst (λ away. IsBegun layout s ((if away then [] else input ∷ []) ++ rest) image) (sym stays) (begun_behind image step b)
-begun_answered {layout} {s} {input = input} {rest = rest} image (turned_away away) b =
-    subst (λ away. IsBegun layout s ((if away then [] else input ∷ []) ++ rest) image) (sym away) b
-
--- one input, and those behind it
-pub taken_on : {old mid new : Past} {layout : Layout} {s t : State} {input : Input} {answer : Answer} {rest : List Input}
-    → Answered (body_limit layout) s input answer t → During old mid (IsBegun layout s (where_step answer input)) → During mid new (IsBegun layout t rest)
-    → During old new (IsBegun layout s (where_step answer input ++ rest))
-taken_on {old} {mid} {new} {input = input} {answer} {rest} answered one others = followed old mid new _
-    (weaker old mid _ _ (begun_longer (where_step answer input) rest) one)
-    (weaker mid new _ _ (λ image. begun_answered image answered) others)
 
 -- ---- numbers
 

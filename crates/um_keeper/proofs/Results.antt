@@ -1,5 +1,5 @@
 -- Of results.
-use Rattle.std.proofs.Common.{◌≡◌, ◌⊎◌, ◌↔◌, ◌∙◌, inl, inr, Bool, true, false, refl, sym, subst}
+use Rattle.std.proofs.Common.{◌≡◌, ◌⊎◌, ◌∙◌, inl, inr, sym, subst}
 use Rattle.std.specs.Prelude.{Result, Ok, Err, OnOk, OnErr, IfOk, IfErr}
 use Rattle.std.specs.Result.{IsErrAnd}
 use Rattle.std.proofs.lemmas.Result.{err_from_is_err_and}
@@ -52,14 +52,6 @@ or_more f (inr b) = inr (f b)
 pub the_other : {A B : Type 0} → ¬ A → A ⊎ B → B
 the_other not (inl a) = absurd (not a)
 the_other not (inr b) = b
-
--- what is told exactly by a refusal isn't so at Ok
-pub ok_err : {T E : Type 0} {x : T} {e : E} {result : Result T E} → result ≡ Ok x → ¬ (result ≡ Err e)
-ok_err a b = cc
-
-pub not_so : {T E : Type 0} (b : Bool) (result : Result T E) (e : E) (x : T) → (b ≡ true) ↔ (result ≡ Err e) → result ≡ Ok x → b ≡ false
-not_so true result e x exactly is = absurd (ok_err is (exactly.0 refl))
-not_so false result e x exactly is = refl
 
 -- what follows of a refusal
 pub err_more : {T E : Type 0} (result : Result T E) {P Q : Type 0} → (P → Q) → OnErr result P → OnErr result Q

@@ -35,11 +35,6 @@ pub decided_as : {P Q : Type 0} → (P → Q) → (Q → P) → IsDecided P → 
 decided_as there back (inl is) = inl (there is)
 decided_as there back (inr isnt) = inr (λ q. isnt (back q))
 
--- what a test tells
-pub decided_by : {P : Type 0} (test : Bool) → Decides test P → IsDecided P
-decided_by true decides = inl (decides.0 refl)
-decided_by false decides = inr (λ is. true≢false (sym (decides.1 is)))
-
 pub test_of : {P : Type 0} → IsDecided P → (test : Bool) × Decides test P
 test_of (inl is) = (true, (λ _. is, λ _. refl))
 test_of (inr isnt) = (false, (λ e. absurd (true≢false (sym e)), λ is. absurd (isnt is)))

@@ -1,20 +1,15 @@
 -- The deadlines of units, as a scan of their entries collects them.
-use Rattle.std.proofs.Common.{ℕ, ◌≡◌, ◌∙◌, Bool, true, false, cond, List, [], ◌∷◌, Option, Some, None, unwrap_or, refl, sym, ap, Less, is_eq}
+use Rattle.std.proofs.Common.{ℕ, ◌≡◌, ◌∙◌, Bool, true, false, cond, List, [], ◌∷◌, Option, Some, None, refl, sym, ap, Less, is_eq}
 use Rattle.std.specs.List.{AllByRecursion}
 use Rattle.std.specs.List.Sorted.{IsStrictlySortedBy}
-use Rattle.std.specs.BTreeMap as tree
-use Rattle.std.specs.BTreeMap.{BTreeMap}
 use Rattle.std.specs.FinMap as map
 use Rattle.std.specs.Map.{keys_of}
 use Rattle.std.specs.Cmp.Lexicographic.{slice_cmp, nat_list_cmp_total}
 use Rattle.std.specs.Ordering.{nat_cmp, eq_by_cmp}
 use Rattle.std.proofs.lemmas.Map.Views.{tells_apart}
 use Rattle.std.proofs.lemmas.Map.Lookups.{exact_bytes}
-use Rattle.um_model.specs.Machine.{AreDeadlines}
-use Rattle.um_model.specs.Service.{dead_unit}
 use Rattle.um_model.specs.Timers.{Timers}
 use Rattle.um_model.specs.declared.service.UnitState.{UnitState}
-use Rattle.um_laws.proofs.NameMaps.{seen}
 
 -- with a deadline, where there is one
 abbrev pub with_deadline : Timers → List ℕ → Option ℕ → Timers
@@ -33,10 +28,6 @@ deadline_in (Some u) = u.deadline
 abbrev pub or_else : Option ℕ → Option ℕ → Option ℕ
 or_else None o = o
 or_else (Some x) o = Some x
-
-or_else-none : (o : Option ℕ) → or_else o None ≡ o
-or_else-none None = refl
-or_else-none (Some x) = refl
 
 absent : (n q : List ℕ) (es : List (List ℕ × UnitState)) → n ≡ q → AllByRecursion (λ y. slice_cmp nat_cmp n y ≡ Less) (keys_of es) → map.find (slice_cmp nat_cmp) q es ≡ None
 absent n q [] e a = refl
@@ -66,15 +57,3 @@ get_all m (e ∷ es) q s =
     ∙ (ap (or_else (deadline_in (map.find (slice_cmp nat_cmp) q es))) (get_with m e.0 q e.1.deadline)
     ∙ put_first (eq_by_cmp (slice_cmp nat_cmp) q e.0) (map.find (slice_cmp nat_cmp) q es) e.1 (map.get m q)
     (λ t. absent e.0 q es (sym (tells_apart exact_bytes q e.0 t)) s.0))
-
-deadline_of : (o : Option UnitState) → deadline_in o ≡ (unwrap_or o dead_unit).deadline
-deadline_of None = refl
-deadline_of (Some u) = refl
-
--- the deadlines of all entries are those of the units
-pub are_deadlines : (m : BTreeMap (List ℕ) UnitState) → tree.IsOrdered (slice_cmp nat_cmp) m → AreDeadlines (seen m) (with_deadlines map.empty m.entries)
-are_deadlines m o unit =
-    get_all map.empty m.entries unit o
-    ∙ (ap (or_else (deadline_in (map.find (slice_cmp nat_cmp) unit m.entries))) (map.get-empty (slice_cmp nat_cmp) unit)
-    ∙ (or_else-none (deadline_in (map.find (slice_cmp nat_cmp) unit m.entries))
-    ∙ (ap deadline_in (sym (map.get-from_entries nat_list_cmp_total m.entries unit)) ∙ deadline_of (map.get (seen m) unit))))

@@ -8,9 +8,9 @@ use Rattle.um_model.specs.declared.dependencies.Demand.{Demand}
 use Rattle.um_model.specs.declared.dependencies.Demand.TheVariants.{Start, Stop, Restart}
 use Rattle.um_model.specs.declared.dependencies.DependencyKind.{DependencyKind}
 use Rattle.um_model.specs.declared.dependencies.DependencyKind.TheVariants.{Wants, Requires, BindsTo, PartOf, Conflicts}
-use Rattle.um_laws.proofs.AmongLaws.{AnyOf, IsListOf, any_decided, both_decided, decided_as, either_decided, not_decided}
+use Rattle.um_laws.proofs.AmongLaws.{AnyOf, any_decided, both_decided, decided_as, either_decided, not_decided}
 use Rattle.um_model.proofs.LeastLaws.{IsDecided, Among}
-use Rattle.um_laws.proofs.ReachedLaws.{reached_list, reached_or_not}
+use Rattle.um_laws.proofs.ReachedLaws.{reached_or_not}
 
 -- a demand is another one or not
 pub same_demand : (d e : Demand) → IsDecided (d ≡ e)
@@ -241,8 +241,3 @@ module _ {U : Type 0} (Depends : DependencyKind → U → U → Type 0) (IsActiv
   pub demanded_or_not : (root p : Demand × U) → IsDecided (IsDemanded Depends IsActive IsLoadable root p)
   demanded_or_not root p =
       reached_or_not (λ q. q ≡ root) (BringsAlong Depends IsActive IsLoadable) (demands_on (root.1 ∷ units)) (demanded_cover root) (λ q. same_pair q root) along_or_not p
-
-  -- a list has just what is demanded
-  pub demanded_list : (root : Demand × U) → (ps : List (Demand × U)) × IsListOf (IsDemanded Depends IsActive IsLoadable root) ps
-  demanded_list root =
-      reached_list (λ q. q ≡ root) (BringsAlong Depends IsActive IsLoadable) (demands_on (root.1 ∷ units)) (demanded_cover root) (λ q. same_pair q root) along_or_not

@@ -6,7 +6,7 @@ use Rattle.std.specs.FinMap as map
 use Rattle.std.specs.List.{list_any}
 use Rattle.std.specs.Ordering.{nat_cmp, eq_by_cmp}
 use Rattle.um_model.specs.Dependencies as model
-use Rattle.um_model.specs.Dependencies.{Links, IsNamed, IsKnown, KnowsTooMany, extra}
+use Rattle.um_model.specs.Dependencies.{Links, IsNamed, KnowsTooMany, extra}
 use Rattle.um_model.specs.Jobs.{Job, job_of, jobs, no_jobs, jobs_of_unit, has_job, with_jobs, cancelled, IsPending, jobs_left, state_of_job}
 use Rattle.um_model.specs.Machine.{State, empty_state, Command, Happening, Event, Input, Reply, IsHeld, IsCrowded, by_jobs, settings_in, around, changed, IsTakenAlong, TakesAlong, Becomes, Carries, change_of, FallDown, all_told, told_next, Happens, begins, begun, Settles, Refuses, Changes, AreReset, all_reset, reset_next, units_reset, Does, with_plan, unit_asked, with_start_alone, Restarts, isnt_put, ComesDue, Fires, FiresOne, IsProcessOf, booted, Follows, TakesEffect, end_of, moment_of, Step, Run}
 use Rattle.um_model.specs.Reached.{first, next}

@@ -1,8 +1,8 @@
 -- An input that isn't refused is spelled in at most 66,078 bytes: the longest puts a file at a path of a tree.
-use Rattle.std.proofs.Common.{ℕ, ◌≡◌, ◌≢◌, ◌∙◌, ◌+◌, ◌-◌, ◌≤◌, ◌^◌, nat_lt, Bool, true, false, not, List, ◌++◌, length, Option, Some, None, is_none, Ok, refl, sym, ap, length-append, arith}
+use Rattle.std.proofs.Common.{ℕ, ◌≡◌, ◌≢◌, ◌∙◌, ◌+◌, ◌-◌, ◌≤◌, nat_lt, Bool, true, false, not, List, ◌++◌, length, Option, Some, None, is_none, Ok, refl, sym, ap, length-append, arith}
 use Rattle.std.specs.Prelude.{IfSome}
 use Rattle.std.specs.FinMap as map
-use Rattle.std.proofs.lemmas.Bool.{and_from, le-leb, leb-true, ltb-false, not-false}
+use Rattle.std.proofs.lemmas.Bool.{leb-true, ltb-false, not-false}
 use Rattle.byteorder.specs.Endian.{big_bytes}
 use Rattle.byteorder.specs.Numbers.{length-bytes_high_first}
 use Rattle.um_model.specs.Bytes.{text_spelling, option_spelling, tagged}

@@ -14,7 +14,6 @@ pub mod NumbersLaws
 pub mod NameMaps
 pub mod FramesLaws
 pub mod DiskLaws
-pub mod FirstByName
 pub mod ScanLaws
 pub mod DeadlinesLaws
 pub mod KeepsLaws

@@ -57,9 +57,6 @@ AllFit s = (unit : List ℕ) → Fits (state_of_unit s.units unit) (jobs_of_unit
 none_runs : None ≡ Some Running → ⊥
 none_runs e = cc
 
-waits_apart : Waiting ≡ Running → ⊥
-waits_apart e = cc
-
 waits_runs : Some Waiting ≡ Some Running → ⊥
 waits_runs e = cc
 

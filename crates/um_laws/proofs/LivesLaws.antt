@@ -1,15 +1,12 @@
 -- What outlives a crash: the state that the last image stands for comes of what was kept, and that holds all that was answered.
-use Rattle.std.proofs.Common.{◌≡◌, inl, inr, ℕ, List, [], ◌∷◌, ◌++◌, refl, sym, subst}
-use Rattle.std.specs.List.{Contains}
+use Rattle.std.proofs.Common.{◌≡◌, ℕ, List, [], ◌∷◌, ◌++◌, refl, sym, subst}
 use Rattle.um_model.specs.Disk.{Image}
-use Rattle.um_model.specs.Machine.{State, Input, Reply, Run, rests, goes}
+use Rattle.um_model.specs.Machine.{State, Input, Run, rests, goes}
 use Rattle.um_model.specs.Stands.{IsStoreOf}
 use Rattle.um_model.specs.Store.{body_limit}
 use Rattle.um_model.specs.Lives.{Outcome, answered, turned_away, unanswered, Offer, Life, AreUnanswered, none, turned, lost, MayLeave, holds, takes, turns_away, Lived, ended, lived, IsKept, no_more, keeps, passes, AreKept, all_kept, and_life}
 use Rattle.um_model.specs.Lives.{RunsOver, stays, steps, leaves_out, RunsThrough, at_end, and_on, where_answered, answered_in, all_answered, HasInOrder, no_others, has, between}
 use Rattle.um_model.specs.declared.layout.Layout.{Layout}
-use Rattle.um_laws.proofs.AmongLaws.{among_contained, contains_among}
-use Rattle.um_model.proofs.LeastLaws.{Among}
 use Rattle.um_laws.proofs.MachineLaws.{run-append}
 use Rattle.um_laws.proofs.StandsLaws.{one_state}
 
@@ -94,42 +91,3 @@ pub has_answered : (all : List Life) (b : List Input) → AreKept all b → HasI
 has_answered all b all_kept = no_others
 has_answered all b (and_life {life = life} {lives = more_lives} {here = here} {more = more} kept rest) =
     in_order_both (answered_in life.offers) here (all_answered more_lives) more (life_has_answered life.offers here kept) (has_answered more_lives more rest)
-
--- ---- one offer
-
-among_behind : (xs ys : List Input) (x : Input) → Among ys x → Among (xs ++ ys) x
-among_behind [] ys x there = there
-among_behind (_ ∷ xs) ys x there = inr (among_behind xs ys x there)
-
-among_front : (xs ys : List Input) (x : Input) → Among xs x → Among (xs ++ ys) x
-among_front [] ys x none_there = absurd none_there
-among_front (y ∷ xs) ys x (inl is) = inl is
-among_front (y ∷ xs) ys x (inr later) = inr (among_front xs ys x later)
-
--- what a list has in its order stands in it
-among_all : (some all : List Input) (x : Input) → HasInOrder some all → Among some x → Among all x
-among_all _ _ x no_others none_there = absurd none_there
-among_all _ _ x (has rest) (inl is) = inl is
-among_all _ _ x (has {some = some} {all = all} rest) (inr later) = inr (among_all some all x rest later)
-among_all some _ x (between {all = all} rest) there = inr (among_all some all x rest there)
-
-in_life : (offers : List Offer) (offer : Offer) (reply : Reply) → offer.outcome ≡ answered reply → Among offers offer → Among (answered_in offers) offer.input
-in_life [] offer reply is none_there = absurd none_there
-in_life (first ∷ offers) offer reply is (inl same) =
-    among_front (where_answered first.outcome first.input) (answered_in offers) offer.input
-    (subst (λ (o : Offer). Among (where_answered o.outcome o.input) offer.input) same (subst (λ (o : Outcome). Among (where_answered o offer.input) offer.input) (sym is) (inl refl)))
-in_life (first ∷ offers) offer reply is (inr later) =
-    among_behind (where_answered first.outcome first.input) (answered_in offers) offer.input (in_life offers offer reply is later)
-
-in_lives : (all : List Life) (life : Life) (input : Input) → Among all life → Among (answered_in life.offers) input → Among (all_answered all) input
-in_lives [] life input none_there there = absurd none_there
-in_lives (first ∷ all) life input (inl same) there =
-    among_front (answered_in first.offers) (all_answered all) input (subst (λ (l : Life). Among (answered_in l.offers) input) same there)
-in_lives (first ∷ all) life input (inr later) there = among_behind (answered_in first.offers) (all_answered all) input (in_lives all life input later there)
-
--- Each input that was answered in a life is kept.
-pub answered_is_kept : (all : List Life) (b : List Input) → AreKept all b → (life : Life) → Contains all life → (offer : Offer) → Contains life.offers offer
-    → (reply : Reply) → offer.outcome ≡ answered reply → Contains b offer.input
-answered_is_kept all b kept life lives_it offer offers_it reply is =
-    contains_among b offer.input (among_all (all_answered all) b offer.input (has_answered all b kept)
-    (in_lives all life offer.input (among_contained all life lives_it) (in_life life.offers offer reply is (among_contained life.offers offer offers_it))))

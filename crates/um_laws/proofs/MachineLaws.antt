@@ -12,7 +12,7 @@ use Rattle.um_model.specs.Jobs.{Job, IsReady, IsToldBefore, by_name, stop_first,
 use Rattle.um_model.specs.Plan.{IsPlan, CausesOfPlan, NamesCycle, units_of}
 use Rattle.um_model.specs.Timers.{Timers}
 use Rattle.um_model.specs.Transitions.{HasNumber}
-use Rattle.um_model.specs.Machine.{State, Command, PutFile, PutLink, Remove, DaemonReload, ForUnit, Cancel, ResetFailed, Install, Happening, ProcessEnded, ProcessExecuted, Tick, Booted, Event, Input, Reply, EnabledAs, Listed, Refusal, Query, IsReplyTo, shows, tells_activity, tells_failure, tells_files, tells_enabling, unit_listed, lists_units, lists_jobs, Becomes, alone, along, Carries, change_of, settings_in, around, FallsWith, AreByName, FallDown, all_told, told_next, Happens, happens, begins, begun, IsBefore, Settles, begins_next, IsProcessOf, AreDeadlines, end_of, Restarts, isnt_put, ComesDue, restarts, Fires, FiresOne, none_due, AwaitsReport, IsHeld, IsHeldOr, scene_at, IsCrowded, IsNotThere, IsMissing, PlansTooMany, by_name, by_jobs, HasNoPlan, HasNoneWaiting, CausesOfLoad, LoadsNone, active_asked, demand_of, unit_asked, Refuses, Changes, puts, links, removes, reloads, plans, demands_nothing, cancels, installs, units_reset, AreReset, all_reset, reset_next, Does, changes, resets, Follows, ends, reports, ticks, boots, HasNoEffect, is_over, isnt_awaited, is_idle, is_known, TakesEffect, obeys, meets, HasNoRoom, moment_of, Step, refused, crowded_out, idle, taken, reply_after, Run, goes}
+use Rattle.um_model.specs.Machine.{State, Command, PutFile, PutLink, Remove, DaemonReload, ForUnit, Cancel, ResetFailed, Install, Happening, ProcessEnded, ProcessExecuted, Tick, Booted, Event, Input, Reply, EnabledAs, Listed, Refusal, Query, IsReplyTo, shows, tells_activity, tells_failure, tells_files, tells_enabling, unit_listed, lists_units, lists_jobs, Becomes, alone, along, Carries, change_of, settings_in, around, FallsWith, AreByName, FallDown, all_told, told_next, Happens, happens, begins, begun, IsBefore, Settles, begins_next, IsProcessOf, AreDeadlines, end_of, Restarts, isnt_put, ComesDue, restarts, Fires, FiresOne, none_due, AwaitsReport, IsHeld, scene_at, IsCrowded, IsNotThere, IsMissing, PlansTooMany, by_name, by_jobs, HasNoPlan, HasNoneWaiting, CausesOfLoad, LoadsNone, active_asked, demand_of, unit_asked, Refuses, Changes, puts, links, removes, reloads, plans, demands_nothing, cancels, installs, units_reset, AreReset, all_reset, reset_next, Does, changes, resets, Follows, ends, reports, ticks, boots, HasNoEffect, is_over, isnt_awaited, is_idle, is_known, TakesEffect, obeys, meets, HasNoRoom, moment_of, Step, refused, crowded_out, idle, taken, reply_after, Run, goes}
 use Rattle.um_model.specs.Outcomes.{NamesACycle, AlikeBut, the_same, both_name, IsSameOutcome}
 use Rattle.um_model.specs.declared.commands.JobMode.{JobMode}
 use Rattle.um_model.specs.declared.commands.UnitVerb.{UnitVerb}
@@ -114,9 +114,6 @@ same_job j k = elim (same_name j.unit k.unit) as (λ _. (j ≡ k) ⊎ (j ≢ k))
   | inr apart ↦ inr (λ e. apart (ap (λ (x : Job). x.unit) e))
 ]
   where
-    job : JobKind → List ℕ → Job
-    job kind unit = record { unit = unit; kind = kind }
-
     of_unit : (a b : JobKind) → j.kind ≡ a → k.kind ≡ b → j.unit ≡ k.unit → (j ≡ k) ⊎ (j ≢ k)
     of_unit Stop Stop e f same = inl (λ i. record { unit = same i; kind = (e ∙ sym f) i })
     of_unit Start Start e f same = inl (λ i. record { unit = same i; kind = (e ∙ sym f) i })

@@ -56,10 +56,6 @@ module _ {X : Type 0} where
   or_else None o = o
   or_else (Some x) o = Some x
 
-  or_else-none : (o : Option X) → or_else o None ≡ o
-  or_else-none None = refl
-  or_else-none (Some x) = refl
-
   put_first : (b : Bool) (f : Option X) (v : X) (g : Option X) → (b ≡ true → f ≡ None) → or_else f (cond b (Some v) g) ≡ or_else (cond b (Some v) f) g
   put_first true f v g h = ap (λ o. or_else o (Some v)) (h refl)
   put_first false f v g h = refl
@@ -79,14 +75,6 @@ module _ {X : Type 0} where
       ∙ put_first (eq_by_cmp (slice_cmp nat_cmp) q e.0) (map.find (slice_cmp nat_cmp) q es) e.1 (map.get m q)
       (λ t. absent e.0 q es (sym (tells_apart exact_bytes q e.0 t)) s.0))
 
-  -- the entries of a map, put into an empty one, make the same map
-  pub copied : (m : BTreeMap (List ℕ) X) → tree.IsOrdered (slice_cmp nat_cmp) m → insert_all map.empty m.entries ≡ seen m
-  copied m o =
-      map.same_map nat_list_cmp_total (slice_cmp-IsAntisymmetric nat_cmp-IsAntisymmetric) _ _
-      (λ q. get-insert_all map.empty m.entries q o
-      ∙ (ap (or_else (map.find (slice_cmp nat_cmp) q m.entries)) (map.get-empty (slice_cmp nat_cmp) q)
-      ∙ (or_else-none (map.find (slice_cmp nat_cmp) q m.entries) ∙ sym (map.get-from_entries nat_list_cmp_total m.entries q))))
-
   below_here : (k : List ℕ) (es : List (List ℕ × X)) → AllByRecursion (λ y. slice_cmp nat_cmp k y ≡ Less) (keys_of es) → T (below_all (slice_cmp nat_cmp) k es)
   below_here k [] h = tt
   below_here k (e ∷ es) h = both_hold _ _ (subst (λ r. T (is_lt r)) (sym h.0) tt) (below_here k es h.1)
@@ -103,10 +91,6 @@ module _ {X : Type 0} where
       ap map.entries (map.same_map nat_list_cmp_total (slice_cmp-IsAntisymmetric nat_cmp-IsAntisymmetric) _ _
       (λ q. map.get-from_entries nat_list_cmp_total m.entries q ∙ sym (map.get-from_sorted (slice_cmp nat_cmp) m.entries q sorted)))
       ∙ map.entries-from_sorted (slice_cmp nat_cmp) m.entries sorted
-
-  -- tree maps that stand for the same have the same entries
-  pub same_entries : (m n : BTreeMap (List ℕ) X) → tree.IsOrdered (slice_cmp nat_cmp) m → tree.IsOrdered (slice_cmp nat_cmp) n → seen m ≡ seen n → m.entries ≡ n.entries
-  same_entries m n o p e = sym (entries_kept m o) ∙ (ap map.entries e ∙ entries_kept n p)
 
 -- all names of these come after this one
 abbrev pub After : {X : Type 0} → List ℕ → List (List ℕ × X) → Type 0

@@ -3,7 +3,6 @@
 use Rattle.std.proofs.Common.{◌≡◌, ◌↔◌, ◌∙◌, ℕ, List, Option, Some, refl, sym, subst, inl, inr}
 use Rattle.um_model.specs.Jobs.{Job, ComesBefore, DropsOne, GoesBefore, starts, stops, stops_then_starts, stops_then_starts_before, of_one_unit, jobs_of_unit, jobs_for}
 use Rattle.um_model.specs.Least.{IsLeast, IsNamedBefore, NamesLeast}
-use Rattle.um_model.specs.Order.{IsCycle}
 use Rattle.um_model.specs.Plan.{CausesOfPlan, Clashes, Counts, Demands, IsBarred, IsPlan, IsStarted, NamesCycle, NamesDrop, Scene}
 use Rattle.um_model.specs.Plan.{restarted, started, stopped, left}
 use Rattle.um_model.specs.Refusals.{Refused, FirstCause, at_first, at_second, clash}
@@ -91,11 +90,6 @@ module _ (IsKnown : List ℕ → Type 0) (root : Demand × List ℕ) (known : Is
       least = n.least;
       refusal = n.refusal;
     }
-
-    -- jobs that have no cycle in the one order have none in the other
-    pub free_same : (after : ByUnit UnitJobs) → ((cycle : List Job) → ¬ IsCycle (ComesBefore s.IsBefore after) cycle) → (cycle : List Job) → ¬ IsCycle (ComesBefore t.IsBefore after) cycle
-    free_same after none cycle c =
-        none cycle (cycle_weaker (ComesBefore t.IsBefore after) (ComesBefore s.IsBefore after) (comes_same t.IsBefore s.IsBefore after (λ x y. (a.before x y).1)) cycle c)
 
   module _ (s t : Scene) (a : AreAlike IsKnown s t) where
     there : (p : Demand × List ℕ) → Demands s root p → Demands t root p

@@ -5,7 +5,7 @@ use Rattle.std.proofs.lemmas.Option.{none-some, same_Some}
 use Rattle.std.specs.Prelude.{cond}
 use Rattle.um_model.specs.Install.{HasTooMany, too_many, CannotEnable, isnt_found, is_masked, has_bad_setting, lacks_instance, RefusesLinks, enables_none, masks_none, RefusesUnits, takes_none}
 use Rattle.um_model.specs.Machine as model
-use Rattle.um_model.specs.Machine.{State, Command, PutFile, PutLink, Remove, DaemonReload, ForUnit, Cancel, ResetFailed, Install, IsMissing, IsCrowded, CannotStart, PlansTooMany, by_name, by_jobs, HasNoPlan, CausesOfLoad, LoadsNone, Refuses, scene_at, unit_asked, IsNotThere, to_stop, to_try_restart}
+use Rattle.um_model.specs.Machine.{State, Command, PutFile, PutLink, Remove, DaemonReload, ForUnit, Cancel, ResetFailed, Install, IsMissing, IsCrowded, CannotStart, PlansTooMany, by_name, by_jobs, HasNoPlan, CausesOfLoad, Refuses, IsNotThere, to_stop, to_try_restart}
 use Rattle.um_model.specs.Refusals.{Refused, bad_path, exists_at, too_large, no_room, FirstCause, at_first, at_second, unless_refused}
 use Rattle.um_model.specs.Tree.{Tree, File, Link, path_parts, is_served, is_link, is_other_than_link, is_fit_target, is_full_for, text_limit, put_cause, put_file, link_cause, put_link, remove_cause, remove_at}
 use Rattle.um_model.specs.Units.{Loading}

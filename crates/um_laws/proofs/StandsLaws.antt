@@ -1,5 +1,5 @@
 -- What an image of a store stands for is one state at most, of one layout; and what the sectors of a store say as its state.
-use Rattle.std.specs.Prelude.{drop, map, is_some, true}
+use Rattle.std.specs.Prelude.{drop, map}
 use Rattle.std.specs.List.{AllByRecursion}
 use Rattle.std.proofs.Common.{◌≡◌, ◌∙◌, ℕ, ◌+◌, ◌≤◌, List, [], ◌∷◌, ◌++◌, Option, Some, None, refl, sym, ap, subst, arith}
 use Rattle.std.proofs.Math.Bridge.{le_prop}
@@ -16,7 +16,7 @@ use Rattle.um_model.specs.Servable.{IsServable}
 use Rattle.um_model.specs.Service.{Action}
 use Rattle.um_model.specs.Stands.{inputs_of, Contents, contents_of, StandsFor, IsStoreOf}
 use Rattle.um_model.specs.StateSpellings.{state_spelling, state_at, FitState}
-use Rattle.um_model.specs.Store.{superblock, other, body_limit, log_start, Newest, newest_of, records_of, IsNewest, HasRecords, IsFree, IsStore}
+use Rattle.um_model.specs.Store.{superblock, other, body_limit, log_start, Newest, newest_of, records_of, IsNewest, IsFree, IsStore}
 use Rattle.um_model.specs.declared.layout.Layout.{Layout}
 use Rattle.um_model.specs.declared.layout.Slot.{Slot}
 use Rattle.um_laws.proofs.FewLaws.{empty_blank}
@@ -24,9 +24,9 @@ use Rattle.um_laws.proofs.FitStateLaws.{empty_fit}
 use Rattle.um_laws.proofs.ImageLaws.{newest_some, records_are, only_records}
 use Rattle.um_model.proofs.InputSpellingsLaws.{canonical_input}
 use Rattle.um_laws.proofs.MachineLaws.{one_run, run-append}
-use Rattle.um_laws.proofs.ServableLaws.{blank_servable, step_servable}
+use Rattle.um_laws.proofs.ServableLaws.{blank_servable}
 use Rattle.um_model.proofs.StateSpellingsLaws.{canonical_state}
-use Rattle.um_laws.proofs.StoreLaws.{superblock_says, same_newest}
+use Rattle.um_laws.proofs.StoreLaws.{superblock_says}
 use Rattle.um_laws.proofs.TotalLaws.{a_step}
 
 -- ---- one state
@@ -97,15 +97,6 @@ only_end {size} {s} {t} {inputs} run u other = one_run size s u t inputs other r
 pub run_step : {size : ℕ} {s t u : State} {inputs : List Input} {input : Input} {reply : Reply} {actions : List Action} → Run size s inputs t → Step size t input reply actions u
     → Run size s (inputs ++ input ∷ []) u
 run_step {size} {s} {t} {u} {inputs} {input} run step = run-append size s t u inputs (input ∷ []) run (goes _ _ step rests)
-
--- what may be held stays so along a run
-pub run_servable : (size : ℕ) (s t : State) (inputs : List Input) → Run size s inputs t → IsServable size s → IsServable size t
-run_servable size s t [] rests may = may
-run_servable size s t (input ∷ inputs) (goes {t = v} reply actions step run) may = run_servable size v t inputs run (step_servable size s input reply actions v step may)
-
--- a store holds only what it may
-pub stands_servable : {layout : Layout} {image : Image} {s : State} → StandsFor layout image s → IsServable (body_limit layout) s
-stands_servable {layout} {s = s} one = run_servable (body_limit layout) one.contents.start s one.contents.inputs one.run one.servable
 
 -- ---- what is spelled
 
@@ -178,11 +169,6 @@ module _ {layout : Layout} {image : Image} {slot : Slot} {generation : ℕ} {bod
     none_later = store.none_later;
   }
 
--- the store of an image whose newest slot is told
-pub store_told : {layout : Layout} {image : Image} {n : Newest} → image 0 ≡ superblock layout → newest_of layout image ≡ Some n → IsFree layout (n.generation + 1) image (log_start layout (n.generation + 1))
-    → IsStore layout image n.slot n.generation n.body (records_of layout n.generation image)
-store_told {layout} {image} {n} first newest free = record { first = first; newest = (newest_some layout image n).0 newest; records_are = records_are layout n.generation image; none_later = free }
-
 -- what an image holds, told by its parts
 pub record HasContents (layout : Layout) (image : Image) (c : Contents) : Type 0 where
   pub body : List ℕ
@@ -213,53 +199,6 @@ pub record IsHeld (layout : Layout) (image : Image) (s : State) : Type 0 where
   pub comes : ComesTo (body_limit layout) body records start inputs s
   pub holds : contents_of layout image ≡ Some (contents slot generation start inputs)
 
-pub held : {layout : Layout} {image : Image} {s : State} → IsStoreOf layout image s → IsHeld layout image s
-held {layout} {image} {s} is =
-    let c = is.stands.contents in
-    let has = has_contents layout image c is.stands.holds in
-    record {
-      slot = c.slot;
-      generation = c.generation;
-      body = has.body;
-      records = records_of layout c.generation image;
-      start = c.start;
-      inputs = c.inputs;
-      store = record { first = is.stands.first; newest = has.newest; records_are = records_are layout c.generation image; none_later = is.none_later };
-      comes = record { start_is = has.start_is; inputs_are = has.inputs_are; servable = is.stands.servable; run = is.stands.run };
-      holds = is.stands.holds;
-    }
-
--- Sectors that are known to be those of a store of a state come to it.
-pub comes_of : {layout : Layout} {image : Image} {s : State} {slot : Slot} {generation : ℕ} {body : List ℕ} {records : List (List ℕ)} → IsStoreOf layout image s
-    → IsStore layout image slot generation body records → (start : State) × (inputs : List Input) × ComesTo (body_limit layout) body records start inputs s
-comes_of {layout} {image} {s} {slot} {generation} {body} {records} is store =
-    let h = held is in
-    let same = same_newest h.store.newest store.newest in
-    let are : h.records ≡ records =
-    sym (only_records layout h.generation image h.records h.store.records_are) ∙ ap (λ (g : ℕ). records_of layout g image) same.1
-    ∙ only_records layout generation image records store.records_are in (
-      h.start,
-      h.inputs,
-      subst (λ b. ComesTo (body_limit layout) b records h.start h.inputs s) same.2
-          (subst (λ r. ComesTo (body_limit layout) h.body r h.start h.inputs s) are h.comes),
-    )
-
--- Images with the same store are of the same state.
-pub same_store : {layout : Layout} {a b : Image} {s : State} {slot : Slot} {generation : ℕ} {body : List ℕ} {records : List (List ℕ)} → IsStoreOf layout a s
-    → IsStore layout a slot generation body records → IsStore layout b slot generation body records → IsStoreOf layout b s
-same_store is one other = let (start, inputs, comes) = comes_of is one in store_of other comes
-
--- what has a store's newest slot and its records is that store too
-pub store_like : {layout : Layout} {a b : Image} {slot : Slot} {generation : ℕ} {body : List ℕ} {records : List (List ℕ)} → IsStore layout a slot generation body records → b 0 ≡ superblock layout
-    → newest_of layout b ≡ newest_of layout a → records_of layout generation b ≡ records_of layout generation a → IsFree layout (generation + 1) b (log_start layout (generation + 1))
-    → IsStore layout b slot generation body records
-store_like {layout} {b = b} {generation = generation} store first newest same free = record {
-  first = first;
-  newest = (newest_some layout b _).0 (newest ∙ newest_told store);
-  records_are = subst (HasRecords layout generation b) (same ∙ records_told store) (records_are layout generation b);
-  none_later = free;
-}
-
 -- ---- what a keeper makes of a store
 
 -- a record more is a step more
@@ -275,16 +214,6 @@ comes_further {records} {inputs} {input} comes fit step = record {
 -- a state's own spelling comes to it without a record
 pub comes_anew : {size : ℕ} {s : State} → nothing_left (state_at (state_spelling s)) ≡ Some s → IsServable size s → ComesTo size (state_spelling s) [] s [] s
 comes_anew is may = record { start_is = is; inputs_are = refl; servable = may; run = rests }
-
--- and so do spellings of a start and of inputs
-pub comes_spelled : {size : ℕ} {body : List ℕ} {records : List (List ℕ)} {start s : State} {inputs : List Input} → body ≡ state_spelling start → FitState start
-    → records ≡ map input_spelling inputs → AllByRecursion FitInput inputs → IsServable size start → Run size start inputs s → ComesTo size body records start inputs s
-comes_spelled {start = start} {inputs = inputs} is fit are fits may run = record {
-  start_is = ap (λ (b : List ℕ). nothing_left (state_at b)) is ∙ state_back start fit;
-  inputs_are = ap inputs_of are ∙ inputs_back inputs fits;
-  servable = may;
-  run = run;
-}
 
 -- With one record more it is a store of the state after the step.
 pub one_more : {layout : Layout} {image : Image} {slot : Slot} {generation : ℕ} {body : List ℕ} {records : List (List ℕ)} {start : State} {inputs : List Input} {s t : State} {input : Input} {reply : Reply}
@@ -324,14 +253,3 @@ pub ends_of : {layout : Layout} {image : Image} {c : Contents} {s : State} → S
 ends_of {layout} {image} {c} {s} one holds =
     subst (λ (d : Contents). IsServable (body_limit layout) d.start × ((t : State) → Run (body_limit layout) d.start d.inputs t → t ≡ s))
     (one_contents layout image one.contents c one.holds holds) (one.servable, only_end one.run)
-
--- the same where it is known only that something is held
-held_any : (layout : Layout) (image : Image) (o : Option Contents) → contents_of layout image ≡ o → is_some o ≡ true → (c : Contents) × (contents_of layout image ≡ Some c)
-held_any layout image (Some c) is there = (c, is)
-held_any layout image None is there = absurd (false≢true there)
-
-pub stands_by_any : {layout : Layout} {image : Image} {s : State} → image 0 ≡ superblock layout → is_some (contents_of layout image) ≡ true
-    → ((c : Contents) → contents_of layout image ≡ Some c → IsServable (body_limit layout) c.start × ((t : State) → Run (body_limit layout) c.start c.inputs t → t ≡ s)) → StandsFor layout image s
-stands_by_any {layout} {image} first there each =
-    let (c, is) = held_any layout image (contents_of layout image) refl there in
-    stands_by_ends first is (each c is).0 (each c is).1

@@ -2,7 +2,7 @@
 use Rattle.std.specs.Prelude.{◌≡◌, ◌⊎◌, ◌+◌, ◌^◌, ◌<◌, ◌≤◌, ℕ, List, [], ◌∷◌, ◌++◌, length, take, slice_index_or, Result}
 use Rattle.std.proofs.Common.{sym, ◌∙◌, ap, subst, inl, inr, ⊎_elim, arith, append_assoc, refl}
 use Rattle.std.proofs.lemmas.List.{length-append, append-nil, take-append-le, take_all}
-use Rattle.um_model.specs.Disk.{Image, Past, seen, IsImage, Images, During, Synced, after, synced}
+use Rattle.um_model.specs.Disk.{Image, Past, seen, IsImage, During, Synced, after, synced}
 use Rattle.um_laws.proofs.DiskLaws.{started, weaker, at_end, during_sync, image_synced}
 use Rattle.um_model.specs.declared.layout.Layout.{Layout}
 use Rattle.um_model.specs.declared.layout.Slot.{Slot}
@@ -11,7 +11,7 @@ use Rattle.um_laws.proofs.LogLaws.{all_or_one}
 use Rattle.um_sector.specs.Runs.{IsLaid, MaybeLaid, AfterRun}
 use Rattle.um_log.specs.Appending.{record_run}
 use Rattle.um_log.specs.Ahead.{EndsWith, HasSome, HasBegun, GoesOnAhead}
-use Rattle.um_log.proofs.Appending.{ends, appended, end_behind, with_records, record_store}
+use Rattle.um_log.proofs.Appending.{ends, end_behind, with_records, record_store}
 
 -- a beginning of the records is one of those with one more
 pub some_more : {layout : Layout} {slot : Slot} {generation : ℕ} {body : List ℕ} {records more : List (List ℕ)} {image : Image} (bytes : List ℕ)
@@ -132,10 +132,6 @@ module _ (layout : Layout) (generation number next : ℕ) (bytes : List ℕ) (la
     }
 
 module _ {layout : Layout} {past : Past} {slot : Slot} {generation : ℕ} {body : List ℕ} {records more : List (List ℕ)} {number next : ℕ} (ahead : GoesOnAhead layout past slot generation body records more number next) where
-  -- where nothing is written
-  pub still_some : During past past (HasSome layout slot generation body records more)
-  still_some = started past _ (λ image is. (ahead.images image is).some)
-
   pub still_more : (bytes : List ℕ) → During past past (HasSome layout slot generation body records (more ++ bytes ∷ []))
   still_more bytes = started past _ (λ image is. some_more bytes (ahead.images image is).some)
 

@@ -71,19 +71,6 @@ parts_more sector_of image at part size bytes payload more below long last grown
         ap (λ (l : List ℕ). part_of l i) grown ∙ ap (take 480) (drop-append-le (480 * i) bytes payload (omega (arith, full, less)))
         ∙ take-append-le 480 (drop (480 * i) bytes) payload (omega (arith, length-drop (480 * i) bytes, full, less))
 
--- all parts are there
-pub all_parts : (layout : Layout) (generation number at size part : ℕ) (image : Image) (bytes : List ℕ) → Fits layout generation at size → part_count size ≤ part → length bytes ≡ min (480 * part) size
-    → ((i : ℕ) → i < part → image (at + i) ≡ log_sector generation number i size (part_of bytes i)) → IsRecord layout generation image number at bytes
-all_parts layout generation number at size part image bytes fits done long parts =
-    let whole : length bytes ≡ size = omega (arith, long, done) in
-    let a = fits.some in let b = fits.short in let w = fits.within in
-    record {
-      some = omega (arith, a, whole);
-      short = omega (arith, b, whole);
-      within = omega (arith, w, whole);
-      parts = λ i low. parts i (omega (arith, low, whole, done)) ∙ ap (λ (n : ℕ). log_sector generation number i n (part_of bytes i)) (sym whole);
-    }
-
 -- ---- the records one behind the other
 
 -- no record begins behind the log

@@ -1,25 +1,14 @@
 -- What it comes to that actions are carried out one behind the other.
-use Rattle.std.proofs.Common.{◌≡◌, ℕ, List, [], ◌∷◌, ◌++◌, Bool, true, false, ◌||◌, IsTrue, true≢false, Result, Ok, Err, refl, sym, ap, ◌∙◌, append_assoc, append-nil, subst, length, arith}
+use Rattle.std.proofs.Common.{◌≡◌, ℕ, List, [], ◌∷◌, ◌++◌, Bool, true, false, ◌||◌, true≢false, refl, sym, ap, ◌∙◌, append_assoc, append-nil, length, arith}
 use Rattle.std.proofs.lemmas.List.Folds.{list_any-append}
 use Rattle.std.proofs.lemmas.List.Concat.{flat_map-append}
-use Rattle.um_children.specs.Faults.{KeepsWhole}
-use Rattle.um_children.specs.declared.fault.ChildFault.{ChildFault}
-use Rattle.um_children.specs.declared.fault.ChildFault.TheVariants as fault
 use Rattle.std.specs.List.{list_any}
 use Rattle.um_children.specs.History.{lets_any}
 use Rattle.um_model.specs.Children.{Call, Spawn, Spawned, Signalled, Asked, Forgot, ForgotOthers, spawn_action, orders, orders_in, tales, tales_in, refused, refusals_in}
-use Rattle.um_model.specs.Service.{ByUnit, Action, SendSignal}
-use Rattle.um_model.specs.declared.service.Signal.{Signal}
+use Rattle.um_model.specs.Service.{ByUnit, Action}
 use Rattle.um_model.specs.declared.service.UnitState.{UnitState}
 use Rattle.um_fates.specs.Live.{has, is_live, HasFewLive}
 use Rattle.um_manager.specs.Orders.{Grew}
-
--- a history that is whole after a call was so before it
-pub keeps_whole : {T : Type 0} (result : Result T ChildFault) (old new : Bool) → KeepsWhole result old new → IsTrue new → IsTrue old
-keeps_whole (Ok x) old new same whole = subst (λ b. IsTrue b) same whole
-keeps_whole (Err fault.NoMemory) old new same whole = subst (λ b. IsTrue b) same whole
-keeps_whole (Err fault.TooLong) old new same whole = subst (λ b. IsTrue b) same whole
-keeps_whole (Err fault.Device) old new kept whole = kept whole
 
 cons≢nil : {X : Type 0} {x : X} {xs : List X} → x ∷ xs ≡ [] → ⊥
 cons≢nil e = cc
@@ -46,17 +35,6 @@ grew_more units a b c k l m xs ys p q = record {
       ∙ ap (λ b. has n k || b) (sym (list_any-append _ (refused p.given) (refused q.given)) ∙ ap (has n) (sym (flat_map-append refusals_in p.given q.given)));
 }
 
--- an order that was taken
-pub grew_taken : (units : ByUnit UnitState) (a b : List Call) (s : Spawn) (starts : Bool) (marks : List ℕ) → b ≡ a ++ Spawned s true starts ∷ [] → Grew units a b marks marks (spawn_action s ∷ [])
-grew_taken units a b s starts marks e = record {
-  given = Spawned s true starts ∷ [];
-  past_is = e;
-  orders_are = refl;
-  no_tale = refl;
-  kept = refl;
-  marks_are = λ few n h. sym (or_false (has n marks));
-}
-
 -- one that was refused
 pub grew_refused : (units : ByUnit UnitState) (a b : List Call) (s : Spawn) (starts : Bool) (k m : List ℕ) → b ≡ a ++ Spawned s false starts ∷ []
     → (HasFewLive units → (n : ℕ) → is_live units n ≡ true → has n m ≡ (has n k || has n (s.number ∷ []))) → Grew units a b k m (spawn_action s ∷ [])
@@ -67,16 +45,6 @@ grew_refused units a b s starts k m e marked = record {
   no_tale = refl;
   kept = refl;
   marks_are = marked;
-}
-
-pub grew_signal : (units : ByUnit UnitState) (a b : List Call) (n : ℕ) (signal : Signal) (marks : List ℕ) → b ≡ a ++ Signalled n signal ∷ [] → Grew units a b marks marks (SendSignal n signal ∷ [])
-grew_signal units a b n signal marks e = record {
-  given = Signalled n signal ∷ [];
-  past_is = e;
-  orders_are = refl;
-  no_tale = refl;
-  kept = refl;
-  marks_are = λ few n h. sym (or_false (has n marks));
 }
 
 -- where no order was given, no fate was asked and nothing was let go there was no call

@@ -267,9 +267,6 @@ put_out t fed c u p asked request reply f r given (inr does) = record {
   stuck = λ failed. absurd (none_some (sym ((reads_failed r (f.failed ∙ failed)).0)));
 }
 
-some_none : {X : Type 0} {x : X} → Some x ≡ None → ⊥
-some_none e = cc
-
 -- ---- one turn for one connection
 
 pub record ToldOf (s : State) (answers : List Answer) (at : ℕ) (found : Option (Option (Result Request Refusal))) (t u : Session) (bytes : List ℕ) : Type 0 where

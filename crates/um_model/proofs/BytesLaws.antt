@@ -512,8 +512,3 @@ at_some value bytes r found x n e is = e ∙ ap (option_map (λ y. (value y.0, d
 
 pub at_none : {X V : Type 0} (value : X → V) (bytes : List ℕ) (r : Option (V × List ℕ)) (found : Option (X × ℕ)) → r ≡ option_map (λ y. (value y.0, drop y.1 bytes)) found → found ≡ None → r ≡ None
 at_none value bytes r found e is = e ∙ ap (option_map (λ y. (value y.0, drop y.1 bytes))) is
-
--- an option of values that are seen as they are
-pub option_same : {A : Type 0} (o : Option A) → option_map (λ x. x) o ≡ o
-option_same (Some x) = refl
-option_same None = refl

@@ -1,7 +1,6 @@
 -- Settings and warnings read values alike: a value counts in all that it says exactly where it gives no warning.
-use Rattle.std.proofs.Common.{◌≡◌, ◌∙◌, ℕ, Bool, List, [], ◌∷◌, Result, Ok, Err, is_some, is_none, refl}
-use Rattle.std.specs.List.{list_all}
-use Rattle.std.specs.Result.{result_ok, result_err}
+use Rattle.std.proofs.Common.{◌≡◌, ◌∙◌, ℕ, List, [], ◌∷◌, Result, Ok, Err, is_none, refl}
+use Rattle.std.specs.Result.{result_err}
 use Rattle.um_model.specs.Readings.{all_read}
 use Rattle.um_model.specs.Results.{result_map}
 use Rattle.um_model.specs.Units.{value_readings, value_warning}

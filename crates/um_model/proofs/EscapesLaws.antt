@@ -8,7 +8,7 @@ use Rattle.std.proofs.lemmas.List.Folds.{list_all-append}
 use Rattle.std.proofs.lemmas.Str.{digit_value-digit_char}
 use Rattle.um_model.specs.Names.{is_prefix_byte, byte_escape, is_plain_byte, escape_of, escaped, is_hex_digit, unescape_front}
 use Rattle.um_model.specs.Pieces.{Unreadable, Gives}
-use Rattle.um_model.specs.Pieces.{StandsForText, done, piece}
+use Rattle.um_model.specs.Pieces.{done, piece}
 use Rattle.um_model.proofs.Forms.{first_escape_of}
 use Rattle.um_model.specs.Specifiers.{StandsForBytes}
 

@@ -1,18 +1,15 @@
 -- Parts of definitions, by names that the laws of them use.
-use Rattle.std.specs.Prelude.{◌+◌, ◌-◌, Bool, true, nat_le, nat_eq, length, take, List, [], ◌∷◌, ℕ, Option, Some, None, if◌then◌else◌, is_some, ◌==◌}
-use Rattle.std.specs.List.{list_any, ends_with, slice_get, list_all}
+use Rattle.std.specs.Prelude.{◌+◌, ◌-◌, Bool, true, nat_le, nat_eq, length, take, List, [], ◌∷◌, ℕ, Option, Some, None, if◌then◌else◌, ◌==◌}
+use Rattle.std.specs.List.{ends_with, slice_get, list_all}
 use Rattle.std.specs.Str.{is_utf8}
 use Rattle.std.specs.Option.{option_map_or, option_and_then, option_to_list}
-use Rattle.um_model.specs.Moments.{span_limit}
 use Rattle.um_model.specs.Names.{suffix_text, is_instance_byte, byte_escape, escape_of}
 use Rattle.um_model.specs.Pieces.{Front, Gives}
 use Rattle.um_model.specs.Resolution.{UnitFile, is_of_same_type}
 use Rattle.um_model.specs.Substitution.{Variable, value_of}
 use Rattle.um_model.specs.Tree.{Entry, File, Link, PathParts, is_fit_place, is_fit_entry}
 use Rattle.um_model.specs.Units.{LoadedUnit, Loading, Found, BadSetting}
-use Rattle.um_model.specs.Values.{exit_of, is_end}
 use Rattle.um_model.specs.declared.names.Suffix.{Suffix}
-use Rattle.um_model.specs.declared.service.End.{End}
 use Rattle.um_model.specs.Sessions.{Asked}
 use Rattle.um_model.specs.declared.jobs.JobKind.{JobKind}
 use Rattle.um_model.specs.declared.jobs.UnitJobs.{UnitJobs}
@@ -24,7 +21,6 @@ use Rattle.um_model.specs.Refusals.{Refused}
 use Rattle.um_model.specs.StateSpellings.{is_job_before}
 use Rattle.um_model.specs.Bytes.{Spelling, text_spelling}
 use Rattle.um_model.specs.Weight.{text_of_entry}
-use Rattle.um_model.specs.FileForms.{words_in}
 
 -- a unit is found, unless there is a reason why it can't be loaded
 abbrev pub found_unless : Option (List ℕ) → LoadedUnit → Loading

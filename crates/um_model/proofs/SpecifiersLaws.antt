@@ -1,18 +1,16 @@
 -- The laws of specifiers: at most one reading, and the steps that find it.
 use Rattle.std.proofs.Common.{◌≡◌, ◌≢◌, ◌<◌, ℕ, ◌+◌, ◌-◌, false, not, eqb, List, [], ◌∷◌, length, get_or, drop, Option, Some, None, refl, sym, ap, subst, inl, inr, ◌∙◌, arith}
 use Rattle.std.specs.List.{after_last, suffix_len}
-use Rattle.std.specs.Str.{IsUtf8, is_utf8}
+use Rattle.std.specs.Str.{is_utf8}
 use Rattle.std.proofs.lemmas.List.Sums.{suffix_len_is}
 use Rattle.std.proofs.lemmas.Bool.{cases_Bool, cond-true, cond-false, ne_eqb, eq-eqb, true≢false}
 use Rattle.std.proofs.lemmas.Str.{IsUtf8-from_is_utf8, is_utf8-from_IsUtf8}
 use Rattle.um_model.specs.Results.{Finds}
 use Rattle.um_model.specs.Names.{unescape_front}
-use Rattle.um_model.specs.Specifiers.{StandsForBytes}
 use Rattle.um_model.specs.Pieces.{Gives, reading}
 use Rattle.um_model.specs.Specifiers.{specifier_front, unescaped_of, expanded_of}
 use Rattle.um_model.proofs.FindsLaws.{one_found}
 use Rattle.um_model.proofs.PiecesLaws.{one_reading, no_reading, reading-StandsForText, StandsForText-reading}
-use Rattle.um_model.specs.Pieces.{StandsForText}
 use Rattle.um_model.proofs.Forms.{as_text}
 use Rattle.um_model.specs.Names.{instance_or_empty}
 use Rattle.um_model.specs.Specifiers.{IsUnescaped, IsExpanded}

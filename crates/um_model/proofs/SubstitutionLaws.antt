@@ -1,5 +1,5 @@
 -- The laws of substitution: one result; and each value has words.
-use Rattle.std.proofs.Common.{◌≡◌, ◌≢◌, ℕ, zero, suc, ◌-◌, Bool, true, false, cond, eqb, List, [], ◌∷◌, ◌++◌, length, Option, Some, None, refl, sym, ap, ◌∙◌, subst, inl, inr, append_assoc, append-nil}
+use Rattle.std.proofs.Common.{◌≡◌, ◌≢◌, ℕ, zero, suc, ◌-◌, Bool, true, false, cond, eqb, List, [], ◌∷◌, ◌++◌, length, Option, Some, None, refl, sym, ap, ◌∙◌, inl, inr}
 use Rattle.std.proofs.lemmas.Bool.{cases_Bool, cond-true, cond-false, ne_eqb}
 use Rattle.std.proofs.lemmas.Option.{none-some, same_Some}
 use Rattle.std.specs.Option.{option_map_or}
@@ -62,15 +62,6 @@ same_substituted environment words a b no_words others = no_words_stay environme
 same_substituted environment words a b (first_stays first ws more become) others =
     let t = stays_first environment first ws b others in
     ap (λ x. first ∷ x) (same_all environment ws more t.0 become t.1) ∙ t.2
-
--- one word more at the end
-pub become_more : (environment : List Variable) (words out : List (List ℕ)) (word : List ℕ) (more : List (List ℕ)) → AllBecome environment words out → Becomes environment word more
-    → AllBecome environment (words ++ word ∷ []) (out ++ more)
-become_more environment words out word more no_more becomes =
-    subst (AllBecome environment (word ∷ [])) (append-nil more) (one_more word [] more [] becomes no_more)
-become_more environment words out word more (one_more w ws some later first rest) becomes =
-    subst (AllBecome environment (w ∷ ws ++ word ∷ [])) (sym (append_assoc some later more))
-    (one_more w (ws ++ word ∷ []) some (later ++ more) first (become_more environment ws later word more rest becomes))
 
 -- Each value has words.
 

@@ -168,13 +168,6 @@ insert-same tree path entry is =
     (λ q. map.get-insert nat_list_cmp_total tree path entry q
     ∙ same_value (eq_by_cmp (slice_cmp nat_cmp) q path) (map.get tree q) (Some entry) (λ e. ap (map.get tree) (same_order q path e) ∙ is))
 
--- nothing is taken out where nothing stands
-pub remove-absent : (tree : Tree) (path : List ℕ) → map.get tree path ≡ None → map.remove tree path ≡ tree
-remove-absent tree path none =
-    map.same_map nat_list_cmp_total (slice_cmp-IsAntisymmetric nat_cmp-IsAntisymmetric) _ _
-    (λ q. map.get-remove nat_list_cmp_total tree path q
-    ∙ same_value (eq_by_cmp (slice_cmp nat_cmp) q path) (map.get tree q) None (λ e. ap (map.get tree) (same_order q path e) ∙ none))
-
 same_link : (o : Option Entry) (target : List ℕ) → is_other_than_link o target ≡ false → is_some o ≡ true → o ≡ Some (Link target)
 same_link None target h some = cc
 same_link (Some (File text)) target h some = cc

@@ -22,7 +22,7 @@ use Rattle.um_model.specs.declared.settings.RestartPolicy.{RestartPolicy}
 use Rattle.um_model.specs.declared.settings.RestartPolicy.TheVariants.{No, Always, OnSuccess, OnFailure, OnAbnormal, OnAbort, OnWatchdog}
 use Rattle.um_model.proofs.FindsLaws.{one_found}
 use Rattle.um_model.proofs.PiecesLaws.{prefixed, prefixed-nil, reading_first, reading_unreadable, reading-StandsForText, StandsForText-reading, Follows, past_piece}
-use Rattle.um_model.specs.Pieces.{StandsForText, done}
+use Rattle.um_model.specs.Pieces.{done}
 use Rattle.um_model.proofs.TextLaws.{trim_start_cuts}
 use Rattle.um_model.specs.ValueSpellings.{span_within, tells_end, is_exit}
 use Rattle.um_model.specs.FileForms.{number_limit, unit_size, digits_of, unit_of, past_part}

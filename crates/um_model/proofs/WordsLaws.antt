@@ -1,5 +1,5 @@
 -- The laws of words: at most one reading, and the function that finds it.
-use Rattle.std.proofs.Common.{◌≡◌, ◌↔◌, ◌<◌, ◌≤◌, ℕ, zero, suc, ◌+◌, ◌-◌, Bool, true, false, ◌||◌, not, cond, eqb, List, [], ◌∷◌, ◌++◌, length, take, drop, map, Option, Some, None, option_map, refl, sym, ap, ◌∙◌, subst, inl, inr, append_assoc, append-nil, arith}
+use Rattle.std.proofs.Common.{◌≡◌, ◌↔◌, ◌<◌, ◌≤◌, ℕ, zero, suc, ◌+◌, ◌-◌, Bool, true, false, cond, eqb, List, [], ◌∷◌, ◌++◌, length, take, drop, map, Option, Some, None, option_map, refl, sym, ap, ◌∙◌, subst, inl, inr, append_assoc, append-nil, arith}
 use Rattle.std.specs.Prelude.{IfSome}
 use Rattle.std.specs.List.{prefix_len, flat_map, slice_split, onto_first}
 use Rattle.std.proofs.lemmas.List.{drop-drop, length-drop}
@@ -19,7 +19,6 @@ use Rattle.um_model.specs.Words.{is_quote, begins_escape, Word, word_front, piec
 use Rattle.um_model.specs.Commands.{Command, is_separator, value_in_command, command_of, commands_read}
 use Rattle.um_model.specs.Pieces.{reading, Unreadable}
 use Rattle.um_model.proofs.PiecesLaws.{prefixed, reading_first, reading_unreadable, reading-StandsForText, StandsForText-reading, prefixed-nil, Follows, follows_more, past_piece}
-use Rattle.um_model.specs.Pieces.{StandsForText}
 use Rattle.um_model.specs.FileForms.{word_values, commands_among}
 use Rattle.um_model.specs.WordSpellings.{is_plain, InWord, AreWords, AreCommands, ends, stops, turns, stands, keeps}
 use Rattle.um_model.specs.WordSpellings.{marks}

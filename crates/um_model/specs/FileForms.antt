@@ -1,7 +1,7 @@
 -- Parts of the definitions of files and their values, by names that laws and code use.
 -- Follows the manual pages of the definitions that they are parts of.
 -- The contracts of um_text to um_unit stand on this file.
-use Rattle.std.specs.Prelude.{ℕ, ◌*◌, ◌+◌, ◌-◌, ◌^◌, ◌&&◌, ◌||◌, Bool, true, false, not, List, [], ◌∷◌, ◌++◌, length, drop, reverse, take_while, fold, filter, filter_map, slice_index, map, bytes_eq, nat_lt, Option, None, Some, option_map, unwrap_or, Result, if◌then◌else◌, ◌==◌}
+use Rattle.std.specs.Prelude.{ℕ, ◌*◌, ◌+◌, ◌-◌, ◌^◌, ◌&&◌, ◌||◌, Bool, true, false, not, List, [], ◌∷◌, ◌++◌, length, drop, reverse, take_while, fold, filter, filter_map, slice_index, map, bytes_eq, nat_lt, Option, None, Some, option_map, Result, if◌then◌else◌, ◌==◌}
 use Rattle.std.specs.Char.{digit_value}
 use Rattle.std.specs.Ffi.{without_last}
 use Rattle.std.specs.List.{flat_map, slice_split, before_first, after_first, position_or_len}
@@ -9,7 +9,6 @@ use Rattle.std.specs.Map.{lookup}
 use Rattle.std.specs.Result.{result_ok}
 use Rattle.um_model.specs.Ascii.{is_space, is_digit, is_letter}
 use Rattle.um_model.specs.Commands.{Command, is_separator, value_in_command, command_of}
-use Rattle.um_model.specs.Names.{instance_of}
 use Rattle.um_model.specs.Readings.{names_reading, read_if, text_reading}
 use Rattle.um_model.specs.Results.{◌and_then◌}
 use Rattle.um_model.specs.Pieces.{Front, Gives, Unreadable}

@@ -1,7 +1,7 @@
 -- How words are spelled, inside quotes or not: byte by byte, as code reads them, and as relations that have one reading at most.
 -- Follows systemd.syntax(7), "Quoting".
 -- The contracts and laws of um_words stand on this file.
-use Rattle.std.specs.Prelude.{ℕ, Option, ◌&&◌, nat_lt, List, ◌==◌, [], ◌∷◌, Some, None, Bool, true, is_none, ◌-◌, take, zero, suc, ◌||◌, not, ◌≡◌, ◌+◌, ◌++◌, drop, if◌then◌else◌}
+use Rattle.std.specs.Prelude.{ℕ, Option, ◌&&◌, nat_lt, List, ◌==◌, [], ◌∷◌, Some, None, Bool, true, is_none, ◌-◌, take, zero, suc, ◌||◌, not, ◌≡◌, ◌++◌, drop, if◌then◌else◌}
 use Rattle.um_model.specs.Ascii.{is_space}
 use Rattle.um_model.specs.Words.{begins_with_digits, is_left_out, is_quote, begins_escape, Word, piece_of_words}
 use Rattle.um_model.specs.FileForms.{hex_value, meaning_of, with_front, word_values, commands_among}

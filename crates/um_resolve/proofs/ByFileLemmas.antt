@@ -16,7 +16,7 @@ use Rattle.std.proofs.Common.{append-nil}
 use Rattle.std.specs.Option.{option_or}
 use Rattle.um_model.specs.Resolution.{UnitFile}
 use Rattle.um_tree.proofs.TextMaps.{get-map_of, entries-map_of, map_of_inserted}
-use Rattle.um_resolve.specs.View.{ByFile, added, by_file_of, drop_in_of, drop_ins_seen, file_and_drop_in, first_kept, text_of}
+use Rattle.um_resolve.specs.View.{ByFile, added, by_file_of, file_and_drop_in, first_kept, text_of}
 use Rattle.um_resolve.specs.declared.drop_ins.DropIn as code
 
 is_some-map : {A B : Type 0} (f : A → B) (o : Option A) → is_some (option_map f o) ≡ is_some o
@@ -95,10 +95,6 @@ values-each (e ∷ es) = ap (λ ds. text_of e.1 ∷ ds) (values-each es)
 pub inserted : (m n : BTreeMap (String Global) code.DropIn) (key file : List ℕ) (d : code.DropIn) → key ≡ file → tree.UpdatesBy string_cmp (λ k. slice_cmp nat_cmp key (string_bytes k)) m n (Some d)
     → by_file_of n.entries ≡ map.insert (by_file_of m.entries) file (text_of d)
 inserted m n key file d e u = map_of_inserted text_of key m n d u ∙ ap (λ k. map.insert (by_file_of m.entries) k (text_of d)) e
-
--- those that an entry is, and what is behind
-pub added-entry : (m n : ByFile) (o : Option code.DropIn) (d : code.DropIn) (ds : List (List ℕ × UnitFile)) → o ≡ Some d → n ≡ first_kept m (drop_in_of d) → added n ds ≡ added m (drop_ins_seen o ++ ds)
-added-entry m n o d ds e f = rw (e, f) refl
 
 -- the values in the order of the files
 pub values_by_file : (m : BTreeMap (String Global) code.DropIn) → tree.IsOrdered string_cmp m → each text_of (tree.values m) ≡ map.values (by_file_of m.entries)

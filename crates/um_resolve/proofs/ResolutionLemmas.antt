@@ -8,11 +8,6 @@ pub ended : (hops : ℕ) (tree : Tree) (unit : List ℕ) (end : Resolution) → 
 ended zero tree unit end told = told (λ other. Nowhere)
 ended (suc hops) tree unit end told = told (resolved hops tree)
 
--- a step that needs one where none is left
-pub out_of_hops : (hops : ℕ) (tree : Tree) (unit other : List ℕ) → ((follow : List ℕ → Resolution) → follow other ≡ resolution_at unit (held tree unit) follow) → hops ≡ 0 → Nowhere ≡ resolved hops tree unit
-out_of_hops zero tree unit other told e = told (λ other. Nowhere)
-out_of_hops (suc hops) tree unit other told e = absurd (omega (arith, e))
-
 -- a hop
 pub led_on : (hops left : ℕ) (tree : Tree) (unit other : List ℕ) → ((follow : List ℕ → Resolution) → follow other ≡ resolution_at unit (held tree unit) follow) → hops ≡ suc left → resolved left tree other ≡ resolved hops tree unit
 led_on zero left tree unit other told e = absurd (omega (arith, e))

@@ -11,9 +11,6 @@ use Rattle.um_model.specs.Sessions.{Session}
 use Rattle.um_serve.specs.Clients.{AllServed, no_round, and_round, output_in, put_out, taken_in, taken_of, StaysOpen, GetsItsOwn}
 use Rattle.um_serve.specs.Rounds.{Round, Trust, Served, heard_in, reads_one, reads_below, after_piece, Forgets, SaysTo, SaysBelow, Serves}
 
-none_some : {X : Type 0} {x : X} → None ≡ Some x → ⊥
-none_some e = cc
-
 taken_join : (k : ℕ) (xs ys : List Event) → taken_of k (xs ++ ys) ≡ taken_of k xs ++ taken_of k ys
 taken_join k xs ys = flat_map-append (taken_in k) xs ys
 

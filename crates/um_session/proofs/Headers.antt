@@ -1,9 +1,9 @@
 -- The front of bytes, as what the code read of it tells.
-use Rattle.std.proofs.Common.{◌≡◌, ◌⊎◌, inl, inr, ℕ, ◌+◌, ◌-◌, ◌<◌, ◌≤◌, List, [], ◌∷◌, ◌++◌, length, take, drop, refl, sym, ap, subst, ◌∙◌, length-drop, take-append-drop, arith}
+use Rattle.std.proofs.Common.{◌≡◌, ◌⊎◌, inr, ℕ, ◌+◌, ◌-◌, ◌<◌, ◌≤◌, List, [], ◌∷◌, ◌++◌, length, take, drop, refl, sym, ap, subst, ◌∙◌, length-drop, take-append-drop, arith}
 use Rattle.std.proofs.lemmas.List.{length-take-le}
 use Rattle.std.proofs.Math.Seq.{drop-append-add}
 use Rattle.byteorder.specs.Endian.{big_number}
-use Rattle.um_model.specs.Frames.{frame_limit, BeginsWith, IsPartial, in_header, in_body, BeginsTooLong}
+use Rattle.um_model.specs.Frames.{frame_limit, BeginsWith, IsPartial, in_body, BeginsTooLong}
 
 -- the length in front is that of the first four bytes
 same_number : (xs : List ℕ) → 4 ≤ length xs → big_number 4 (take 4 xs) ≡ big_number 4 xs
@@ -12,10 +12,6 @@ same_number (a ∷ []) h = absurd (omega arith)
 same_number (a ∷ b ∷ []) h = absurd (omega arith)
 same_number (a ∷ b ∷ c ∷ []) h = absurd (omega arith)
 same_number (a ∷ b ∷ c ∷ d ∷ xs) h = refl
-
-pub short_front : (xs : List ℕ) → length xs < 4 → (xs ≡ []) ⊎ IsPartial xs
-short_front [] h = inl refl
-short_front (x ∷ xs) h = inr (in_header (omega arith) h)
 
 pub long_front : (xs : List ℕ) (size : ℕ) → 4 ≤ length xs → size ≡ big_number 4 xs → frame_limit < size → BeginsTooLong xs
 long_front xs size four is long = record {

@@ -1,9 +1,9 @@
 -- What a crash leaves while a snapshot is written into a slot.
 use Rattle.std.specs.Prelude.{◌≡◌, ◌⊎◌, ◌+◌, ◌<◌, ◌≤◌, ℕ, List, [], ◌∷◌, length, slice_index_or}
-use Rattle.std.proofs.Common.{refl, sym, ◌∙◌, ap, inl, inr, ⊎_elim, arith}
+use Rattle.std.proofs.Common.{sym, ◌∙◌, ap, inl, inr, ⊎_elim, arith}
 use Rattle.um_model.specs.Disk.{Sector, Image, Past, seen, IsImage, Images, During}
 use Rattle.um_sector.specs.Runs.{IsLaid, MaybeLaid, AfterRun}
-use Rattle.um_laws.proofs.DiskLaws.{started, weaker, followed}
+use Rattle.um_laws.proofs.DiskLaws.{weaker, followed}
 use Rattle.um_model.specs.declared.layout.Layout.{Layout}
 use Rattle.um_model.specs.declared.layout.Slot.{Slot}
 use Rattle.um_laws.proofs.StoreLaws.{before_slot}
@@ -17,15 +17,6 @@ body_count body = length-map-range_with_len (body_sector body) 0 (sector_count (
 
 pub body_each : (body : List ℕ) (i : ℕ) → i < sector_count (length body) → slice_index_or (body_run body) i [] ≡ body_sector body i
 body_each body i low = get_or-map-range_with_len (body_sector body) 0 (sector_count (length body)) i i [] low (omega arith)
-
--- nothing of it is written yet
-pub nothing_written : (layout : Layout) (old : Image) (slot : Slot) (generation : ℕ) (body : List ℕ) → MaybeSnapshot layout old slot generation body old
-nothing_written layout old slot generation body = record { outside = λ j out. refl; inside = inl refl }
-
--- before the first call
-pub before_snapshot : (layout : Layout) (past : Past) (slot : Slot) (generation : ℕ) (body : List ℕ) → During past past (AfterSnapshot layout past slot generation body)
-before_snapshot layout past slot generation body =
-    started past _ (λ image is. record { from = image; was = is; maybe = nothing_written layout image slot generation body })
 
 -- sector 0 stays
 pub first_kept : (layout : Layout) (old new : Past) (slot : Slot) (generation : ℕ) (body : List ℕ) (first : Sector) → Images old (λ image. image 0 ≡ first)

@@ -1,11 +1,9 @@
 -- What the numbers leave out once a row is set, or each row was noted.
-use Rattle.std.proofs.Common.{ℕ, ◌≡◌, ◌∙◌, ◌<◌, ◌+◌, ◌||◌, Bool, true, false, cond, List, [], length, Some, None, Option, set, sym, ap, subst, arith, inl, inr, refl, true≢false}
+use Rattle.std.proofs.Common.{ℕ, ◌≡◌, ◌∙◌, ◌<◌, ◌+◌, List, [], length, Some, set, sym, ap, arith, inl, inr, true≢false}
 use Rattle.std.proofs.lemmas.Bool.{cases_lt}
 use Rattle.std.proofs.lemmas.List.{get_or_past}
 use Rattle.std.proofs.lemmas.Option.{none-some}
-use Rattle.um_model.specs.Ends.{waits_for_report}
 use Rattle.um_model.specs.Service.{dead_unit}
-use Rattle.um_model.specs.Transitions.{HasNumber}
 use Rattle.um_model.specs.declared.service.UnitState.{UnitState}
 use Rattle.um_state.specs.declared.awaited.Awaited.{Awaited}
 use Rattle.um_state.specs.Awaiting.{awaited_by, Has, HasAll}
@@ -13,13 +11,6 @@ use Rattle.um_state.specs.Finding.{row_at}
 use Rattle.um_state.proofs.FindingLaws.{set_rows}
 
 -- ---- a number that is awaited is one of the unit's
-
-where_waits : (waits : Bool) (o : Option ℕ) (n : ℕ) → cond waits o None ≡ Some n → o ≡ Some n
-where_waits true o n e = e
-where_waits false o n e = absurd (none-some n e)
-
-pub awaited_number : (u : UnitState) (n : ℕ) → awaited_by u ≡ Some n → HasNumber u n
-awaited_number u n e = inl (where_waits (waits_for_report u.sub) u.main n e)
 
 -- nothing is awaited by a dead unit
 pub dead_awaits : (n : ℕ) → awaited_by dead_unit ≡ Some n → ⊥
@@ -33,10 +24,6 @@ has_set rows a i u within all noted j n = set_rows (λ k v. awaited_by v ≡ Som
 -- nor is one left out where none is let go
 pub has_kept : (rows : List UnitState) (a b : Awaited) → HasAll rows a → ((n : ℕ) → Has a n → Has b n) → HasAll rows b
 has_kept rows a b all keeps i n is = keeps n (all i n is)
-
--- of no row none is left out
-pub has_none : (rows : List UnitState) (a : Awaited) → rows ≡ [] → HasAll rows a
-has_none rows a none i n is = absurd (dead_awaits n (subst (λ rs. awaited_by (row_at rs i) ≡ Some n) none is))
 
 -- ---- each row was noted
 
@@ -58,7 +45,3 @@ has_all rows a below i n awaits = elim (cases_lt i (length rows)) as (λ _. Has 
   | inl within ↦ below i n within awaits
   | inr past ↦ absurd (dead_awaits n (sym (ap awaited_by (get_or_past rows i dead_unit past)) ∙ awaits))
 ]
-
--- any number may be one where one was left out
-pub or_partial : (b : Bool) → (true || b) ≡ true
-or_partial b = refl

@@ -53,10 +53,6 @@ finds_set rows finder i u within finds told j n = set_rows (λ k v. HasNumber v 
 pub finds_kept : (rows : List UnitState) (f g : Finder) → Finds rows f → ((i n : ℕ) → Tells f i n → Tells g i n) → Finds rows g
 finds_kept rows f g finds keeps i n has = keeps i n (finds i n has)
 
--- of no row nothing is to be told
-pub finds_none : (rows : List UnitState) (finder : Finder) → rows ≡ [] → Finds rows finder
-finds_none rows finder none i n has = absurd (nobody n (subst (λ rs. HasNumber (row_at rs i) n) none has))
-
 -- a unit's numbers are those of its main process and of its control process
 pub told_both : (f g : Finder) (i : ℕ) (u : UnitState) → ((n : ℕ) → u.main ≡ Some n → Tells f i n) → ((n : ℕ) → Tells f i n → Tells g i n)
     → ((n : ℕ) → u.control ≡ Some n → Tells g i n) → (n : ℕ) → HasNumber u n → Tells g i n

@@ -1,15 +1,14 @@
 -- A table over other names: it stands for the same map where all that is held has a name there.
-use Rattle.std.proofs.Common.{◌≡◌, ◌≢◌, ◌⊎◌, ◌∙◌, ◌+◌, ◌<◌, ◌≤◌, ◌++◌, ℕ, Bool, true, false, true≢false, cond, List, [], ◌∷◌, length, set, get_or, replicate, refl, sym, ap, subst, inl, inr, arith, length-append}
+use Rattle.std.proofs.Common.{◌≡◌, ◌⊎◌, ◌∙◌, ◌+◌, ◌<◌, ◌++◌, ℕ, true≢false, List, [], ◌∷◌, length, set, get_or, sym, ap, inl, inr, arith, length-append}
 use Rattle.std.proofs.lemmas.Bool.{cases_lt}
-use Rattle.std.proofs.lemmas.List.{get_or-replicate, get_or-set_other, get_or-set_same, get_or_append_left}
+use Rattle.std.proofs.lemmas.List.{get_or-set_other, get_or-set_same, get_or_append_left}
 use Rattle.std.proofs.Math.Seq.{get_or-append_seam}
-use Rattle.std.specs.FinMap as map
-use Rattle.um_name.specs.Names.{name_at, IsApart, AreAscending, HasPlace}
+use Rattle.um_name.specs.Names.{name_at, IsApart, AreAscending}
 use Rattle.um_name.proofs.NumberLaws.{names_once, among_or_apart}
 use Rattle.um_model.specs.Service.{ByUnit}
 use Rattle.um_state.specs.Tables.{by_names}
-use Rattle.um_model.proofs.UnitLaws.{IsTidy, same_tidy, tidy_empty}
-use Rattle.um_state.proofs.PutLaws.{look, Puts, look_empty}
+use Rattle.um_model.proofs.UnitLaws.{IsTidy, same_tidy}
+use Rattle.um_state.proofs.PutLaws.{look, Puts}
 use Rattle.um_state.proofs.TableLaws.{by_at, by_none, by_tidy}
 
 pub len_more : {A : Type 0} (rows new : List A) (x : A) (i : ℕ) → new ≡ rows ++ x ∷ [] → length rows ≡ i → length new ≡ i + 1
@@ -47,8 +46,3 @@ module _ {A : Type 0} (nothing : A) (put : ByUnit A → List ℕ → A → ByUni
       by q (inl (i, h, e)) =
           ap (look nothing (by_names put names rows)) (sym e) ∙ (by_at nothing put puts names rows (names_once names sorted) i h ∙ (at i h ∙ ap (look nothing m) e))
       by q (inr a) = by_none nothing put puts names rows q a ∙ sym (apart q a)
-
-  -- rows of nothing
-  pub by_nothing : (names : List (List ℕ)) (n : ℕ) → AreAscending names → n ≡ length names → by_names put names (replicate n nothing) ≡ map.empty
-  by_nothing names n sorted l = by_looks names (replicate n nothing) map.empty sorted (tidy_empty nothing)
-      (λ i h. get_or-replicate n i nothing nothing (omega (arith, h, l)) ∙ sym (look_empty nothing (name_at names i))) (λ x a. look_empty nothing x)

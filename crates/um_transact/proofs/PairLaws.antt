@@ -31,9 +31,6 @@ use Rattle.um_graph.proofs.ListLaws.{contains_flat, flat_contains}
 use Rattle.um_graph.proofs.StandLaws.{stands_within}
 
 -- ---- the pairs of the rows, one row after another
-pub pairs_none : (rows : List (List Neighbour)) (plan : List UnitJobs) (pairs : List (ℕ × ℕ)) → pairs ≡ [] → ArePairs rows plan 0 pairs
-pairs_none rows plan pairs e p = (λ c. absurd (omega (arith, c.1, ap length e)), λ x h. absurd (omega arith))
-
 pub pairs_more : (rows : List (List Neighbour)) (plan : List UnitJobs) (n : ℕ) (pairs new : List (ℕ × ℕ)) → ArePairs rows plan n pairs → new ≡ pairs ++ pairs_in plan n (row_of rows n) → ArePairs rows plan (n + 1) new
 pairs_more rows plan n pairs new a e p = (
   λ c. elim (Contains-append_cases pairs (pairs_in plan n (row_of rows n)) p (subst (λ x. Contains x p) e c)) [

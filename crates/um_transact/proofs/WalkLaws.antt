@@ -71,11 +71,6 @@ marked_at [] n d h = absurd (omega arith)
 marked_at (x ∷ m) zero d h = has_new d x
 marked_at (x ∷ m) (suc n) d h = marked_at m n d (omega arith)
 
-pub marked_within : (m : List Marks) (e : Demand) (u : ℕ) → is_marked m (e, u) ≡ true → u < length m
-marked_within [] e u h = absurd (has_none e h)
-marked_within (x ∷ m) e zero h = omega arith
-marked_within (x ∷ m) e (suc u) h = let i = marked_within m e u h in omega arith
-
 fewer : (m : List Marks) (n : ℕ) (d : Demand) → n < length m → is_marked m (d, n) ≡ false → sum_by unmarked (marking d n m) + 1 ≡ sum_by unmarked m
 fewer [] n d h e = absurd (omega arith)
 fewer (x ∷ m) zero d h e = omega (arith, sum_by-cons unmarked x m, sum_by-cons unmarked (with_mark d x) m, fewer_here d x e)
@@ -188,10 +183,6 @@ module _ (Next : Demanded → Demanded → Type 0) (root : Demanded) where
         listed = λ q c. elim (whole.marks q c) as (λ _. IsMarked m q) [ inl d ↦ absurd (omega (arith, d.1)) | inr k ↦ k ];
         followed = λ p k. elim (whole.origin p k) [ inl o ↦ absurd (none_marked n p.0 p.1 o) | inr d ↦ inl d.1 ];
       }
-
-  -- what is popped from the list is a demand on a unit
-  pub popped_within : (n : ℕ) (m : List Marks) (l l' : List Demanded) (p : Demanded) → IsUnderWay n m l → l ≡ l' ++ p ∷ [] → p.1 < n
-  popped_within n m l l' p u e = subst (λ k. p.1 < k) u.long (marked_within m p.0 p.1 (u.listed p (subst (λ x. Contains x p) (sym e) (Contains-push l' p))))
 
   -- the last of the list is followed
   pub way_goes_on : (n : ℕ) (m : List Marks) (l l' : List Demanded) (p : Demanded) (found : List Demanded) (m' : List Marks) (l'' : List Demanded) → IsUnderWay n m l → l ≡ l' ++ p ∷ []

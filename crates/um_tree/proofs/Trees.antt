@@ -1,5 +1,5 @@
 -- What the map's calls leave, as trees.
-use Rattle.std.proofs.Common.{◌≡◌, ℕ, Bool, not, filter, List, Option, Some, None, is_some, option_map, String, Global, string_bytes, string_cmp, Ok, true, false, refl, sym, ap, ◌∙◌}
+use Rattle.std.proofs.Common.{◌≡◌, ℕ, Bool, not, filter, List, Option, Some, None, is_some, option_map, String, Global, string_bytes, string_cmp, Ok, true, refl, ap, ◌∙◌}
 use Rattle.std.specs.BTreeMap as tree
 use Rattle.std.specs.BTreeMap.{BTreeMap}
 use Rattle.std.specs.Cmp.Lexicographic.{slice_cmp}
@@ -8,10 +8,10 @@ use Rattle.std.specs.Ordering.{nat_cmp}
 use Rattle.um_model.specs.Tree as model
 use Rattle.um_model.specs.Tree.{is_volatile, put_link, link_cause, without_run}
 use Rattle.um_model.specs.Refusals.{unless_refused}
-use Rattle.um_model.proofs.TreeLaws.{link-same, remove-absent}
+use Rattle.um_model.proofs.TreeLaws.{link-same}
 use Rattle.um_tree.specs.declared.entry.Stored.{Stored}
 use Rattle.um_tree.specs.View.{stored_entry, tree_of}
-use Rattle.um_tree.proofs.TextMaps.{get-map_of, map_of_filter, map_of_inserted, map_of_removed}
+use Rattle.um_tree.proofs.TextMaps.{map_of_filter, map_of_inserted, map_of_removed}
 
 abbrev pub Held : Type 0
 Held = BTreeMap (String Global) Stored
@@ -28,9 +28,6 @@ pub tree_of_removed : (m n : Held) (t : model.Tree) (path : List ℕ) → tree_o
     → tree_of n.entries ≡ map.remove t path
 tree_of_removed m n t path is updates = map_of_removed stored_entry path m n updates ∙ ap (λ x. map.remove x path) is
 
-pub get-tree_of : (m : Held) (t : model.Tree) (path : List ℕ) → tree_of m.entries ≡ t → map.get t path ≡ option_map stored_entry (tree.get_by_text m path)
-get-tree_of m t path is = ap (λ x. map.get x path) (sym is) ∙ get-map_of stored_entry m path
-
 -- the link that stands there already
 pub put_link-same : (t : model.Tree) (path target : List ℕ) → link_cause t path target ≡ None → is_some (map.get t path) ≡ true → put_link t path target ≡ Ok t
 unfolding put_link
@@ -40,15 +37,6 @@ put_link-same t path target none some =
 pub is_some-option_map : {X Y : Type 0} (f : X → Y) (o : Option X) → is_some (option_map f o) ≡ is_some o
 is_some-option_map f None = refl
 is_some-option_map f (Some x) = refl
-
-absent : (o : Option model.Entry) → is_some o ≡ false → o ≡ None
-absent None e = refl
-absent (Some x) e = cc
-
-pub tree_of_absent : (m n : Held) (t : model.Tree) (path : List ℕ) → tree_of m.entries ≡ t
-    → tree.UpdatesBy string_cmp (λ k. slice_cmp nat_cmp path (string_bytes k)) m n None → is_some (map.get t path) ≡ false
-    → tree_of n.entries ≡ t
-tree_of_absent m n t path is updates none = tree_of_removed m n t path is updates ∙ remove-absent t path (absent _ none)
 
 pub tree_of_cleared : (m n : Held) (t : model.Tree) → tree_of m.entries ≡ t → n.entries ≡ filter (λ e. not (is_volatile (string_bytes e.0))) m.entries → tree_of n.entries ≡ without_run t
 unfolding without_run

@@ -5,7 +5,6 @@ use Rattle.std.proofs.lemmas.List.{append-nil, map-append}
 use Rattle.std.proofs.lemmas.List.Elements.{filter_map-append}
 use Rattle.std.specs.Option.{ok_or}
 use Rattle.std.specs.Result.{result_ok}
-use Rattle.std.specs.Result.{result_err}
 use Rattle.um_model.specs.Readings.{all_read, commands_reading, environment_reading}
 use Rattle.um_model.specs.Results.{◌and_then◌, result_map}
 use Rattle.um_model.specs.Commands.{Command, commands_read}
@@ -29,18 +28,9 @@ abbrev pub read_after : {A : Type 0} → List A → Meaning (List A) → Meaning
 read_after done (Ok others) = Ok (done ++ others)
 read_after done (Err warning) = Err warning
 
--- one more was read
-pub one_more : {A : Type 0} (done : List A) (a : A) (others : Meaning (List A)) → read_after done (in_front (Ok a) others) ≡ read_after (done ++ a ∷ []) others
-one_more done a (Ok others) = ap Ok (sym (append_assoc done (a ∷ []) others))
-one_more done a (Err warning) = refl
-
 -- whatever readings follow, all is what was read so far and then what these read
 abbrev pub AreRead : {A : Type 0} → List (Meaning A) → List A → Type 0
 AreRead {A} readings done = (more : List (Meaning A)) → all_read (readings ++ more) ≡ read_after done (all_read more)
-
-pub read_more : {A : Type 0} (readings : List (Meaning A)) (done : List A) (reading : Meaning A) (a : A) → AreRead readings done → reading ≡ Ok a → AreRead (readings ++ reading ∷ []) (done ++ a ∷ [])
-read_more readings done reading a so_far is more =
-    ap all_read (append_assoc readings (reading ∷ []) more) ∙ so_far (reading ∷ more) ∙ ap (λ r. read_after done (in_front r (all_read more))) is ∙ one_more done a (all_read more)
 
 pub read_stops : {A : Type 0} (readings : List (Meaning A)) (done : List A) (reading : Meaning A) (warning : WarningKind) (more : List (Meaning A)) → AreRead readings done → reading ≡ Err warning
     → all_read (readings ++ reading ∷ more) ≡ Err warning
@@ -62,19 +52,6 @@ all_seen f (Err warning ∷ others) = refl
 pub seen_twice : {A B C : Type 0} (f : B → C) (g : A → B) (r : Meaning A) → read_as f (read_as g r) ≡ read_as (λ a. f (g a)) r
 seen_twice f g (Ok a) = refl
 seen_twice f g (Err warning) = refl
-
--- a warning behind what was read
-pub warned_later : {A : Type 0} (a : A) (others : Meaning (List A)) → result_err (in_front (Ok a) others) ≡ result_err others
-warned_later a (Ok others) = refl
-warned_later a (Err warning) = refl
-
-pub same_warning : {A B : Type 0} (f : A → B) (r : Meaning A) → result_err (read_as f r) ≡ result_err r
-same_warning f (Ok a) = refl
-same_warning f (Err warning) = refl
-
-pub same_unread : {A B : Type 0} (f : A → B) (o : Option A) → result_err (value_reading (option_map f o)) ≡ result_err (value_reading o)
-same_unread f None = refl
-same_unread f (Some a) = refl
 
 -- one name more
 pub named_more : {A B : Type 0} (f : A → B) (old : List B) (done more : List A) (readings : List (Meaning A)) (reading : Meaning A) (name : A) → reading ≡ Ok name → more ≡ done ++ name ∷ []

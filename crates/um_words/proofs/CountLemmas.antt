@@ -2,19 +2,16 @@
 use Rattle.std.proofs.Common.{◌≡◌, ◌≢◌, ◌<◌, ℕ, ◌+◌, ◌-◌, Bool, true, false, cond, eqb, List, [], ◌∷◌, ◌++◌, length, get_or, drop, Option, Some, None, option_map, refl, sym, ap, ◌∙◌, append-nil, arith}
 use Rattle.std.specs.Prelude.{unwrap_or}
 use Rattle.std.specs.List.{flat_map}
-use Rattle.std.proofs.lemmas.Option.{none-some, some_pair_parts}
-use Rattle.um_model.specs.Ascii.{is_space}
 use Rattle.um_model.specs.Pieces.{Front, Gives, reading}
 use Rattle.um_model.specs.Substitution.{Variable, value_of, whole_name, braced_name, dollar_front, piece_front, Becomes, splits, fills, AllBecome, no_more, one_more, AreSubstituted, no_words, first_stays}
 use Rattle.um_model.specs.Text.{first_passes}
-use Rattle.um_model.specs.Words.{Word, piece_of_words, words_of}
+use Rattle.um_model.specs.Words.{piece_of_words, words_of}
 use Rattle.um_model.specs.declared.words.WordRules.TheVariants.{Plain}
 use Rattle.um_model.specs.FileForms.{word_values}
 use Rattle.um_model.proofs.Forms.{variable_front}
 use Rattle.um_model.proofs.PiecesLaws.{reading-StandsForText, IsRead, has_reading, prefixed, prefixed-nil, reading-append, reading_more_after}
 use Rattle.um_model.specs.Pieces.{StandsForText}
 use Rattle.um_model.proofs.SubstitutionLaws.{has_words, plain_piece, same_substituted}
-use Rattle.um_model.proofs.WordsLaws.{read, space_read, word_read, first_word}
 use Rattle.um_words.specs.Substituted.{value_words, filled, becomes, becomes_by, substituted}
 
 -- ---- the words of a value
@@ -25,28 +22,6 @@ words_read value = refl
 
 pub no_words_in : value_words [] ≡ []
 no_words_in = words_read []
-
-pub words_behind_space : (text bs : List ℕ) (b : ℕ) → text ≡ b ∷ bs → is_space b ≡ true → value_words text ≡ value_words bs
-words_behind_space text bs b e white =
-    ap value_words e ∙ words_read (b ∷ bs) ∙ ap (λ r. unwrap_or (option_map word_values r) []) (space_read Plain b bs white) ∙ sym (words_read bs)
-
-one_word_more : (w : Word) (r : Option (List Word)) (ws : List Word) → r ≡ Some ws
-    → unwrap_or (option_map word_values (option_map (λ words. w ∷ words) r)) [] ≡ w.value ∷ unwrap_or (option_map word_values r) []
-one_word_more w r ws e = rw e refl
-
-pub words_behind_word : (text rest later : List ℕ) (b : ℕ) (value : List ℕ) → text ≡ b ∷ later → is_space b ≡ false → read Plain 0 None text ≡ Some (value, rest)
-    → value_words text ≡ value ∷ value_words rest
-words_behind_word text rest later b value e apart found =
-    let some = has_words rest in
-    words_read text ∙ ap (λ r. unwrap_or (option_map word_values r) []) (word_read Plain text rest later b value e apart found)
-    ∙ one_word_more (first_word text rest value) (reading (piece_of_words Plain) rest) some.0 (reading-StandsForText (piece_of_words Plain) rest some.0 some.1)
-    ∙ ap (λ ws. value ∷ ws) (sym (words_read rest))
-
--- a word that was counted
-pub word_found : (r : Option (List ℕ × List ℕ)) (n : ℕ) (rest : List ℕ) → option_map {U = ℕ × List ℕ} (λ p. (length p.0, p.1)) r ≡ Some (n, rest)
-    → (word : List ℕ) × (r ≡ Some (word, rest)) × (length word ≡ n)
-word_found None n rest e = absurd (none-some (n, rest) e)
-word_found (Some p) n rest e = let q = some_pair_parts (length p.0) n p.1 rest e in (p.0, ap (λ t. Some (p.0, t)) q.1, q.0)
 
 -- ---- a word that is filled in
 

@@ -1,5 +1,5 @@
 -- Values under the names of their variables.
-use Rattle.std.proofs.Common.{◌≡◌, ◌∙◌, ℕ, Bool, true, false, cond, List, [], ◌∷◌, ◌++◌, map, reverse, Option, Some, None, option_map, string_bytes, refl, sym, ap}
+use Rattle.std.proofs.Common.{◌≡◌, ◌∙◌, ℕ, Bool, true, false, cond, List, [], ◌∷◌, ◌++◌, reverse, Option, Some, None, option_map, string_bytes, refl, sym, ap}
 use Rattle.std.specs.Prelude.{find, bytes_eq}
 use Rattle.std.specs.BTreeMap as tree
 use Rattle.std.specs.BTreeMap.{BTreeMap, get_by}
@@ -8,7 +8,7 @@ use Rattle.std.specs.Option.{option_map_or}
 use Rattle.std.specs.Ordering.{nat_cmp}
 use Rattle.std.proofs.lemmas.List.{map-append, reverse-append}
 use Rattle.std.proofs.lemmas.Map.Text.{btree_map_updates_str}
-use Rattle.std.proofs.lemmas.Option.{none-some, same_Some}
+use Rattle.std.proofs.lemmas.Option.{none-some}
 use denote.Ref.{Bor}
 use Rattle.um_model.specs.Substitution.{Variable, value_of}
 use Rattle.um_words.specs.Environment.{variable_of, variables_of}
@@ -56,19 +56,9 @@ held_more m n value key text before after v updates named is valued more held na
     ∙ sym (given_last (variables_of before) (variable_of v) name)
     ∙ ap (λ vs. given_at vs name) (sym (map-append variable_of before (v ∷ [])) ∙ ap variables_of (sym more))
 
-value_given : (found : Option Variable) (s : Split) → Some s ≡ option_map (λ v. split_of v.value) found
-    → (s.text ≡ option_map_or (λ v. v.value) found []) × (s.words ≡ value_words (option_map_or (λ v. v.value) found []))
-value_given None s e = absurd (none-some s (sym e))
-value_given (Some v) s e = let is = same_Some s (split_of v.value) e in (ap (λ x. x.text) is, ap (λ x. x.words) is)
-
 no_value_given : (found : Option Variable) → None ≡ option_map (λ v. split_of v.value) found → option_map_or (λ v. v.value) found [] ≡ []
 no_value_given None e = refl
 no_value_given (Some v) e = absurd (none-some (split_of v.value) e)
-
--- the value that was found under a name, and its words
-pub value_there : (environment : List Variable) (name : List ℕ) (value : Value) → Some (split_seen value) ≡ given_at environment name
-    → (value.text.now ≡ value_of environment name) × (map string_bytes value.words.items ≡ value_words (value_of environment name))
-value_there environment name value e = value_given (find (λ v. bytes_eq v.name name) (reverse environment)) (split_seen value) e
 
 -- where none was found the value is empty, and has no words
 pub no_value : (environment : List Variable) (name : List ℕ) → None ≡ given_at environment name → value_of environment name ≡ []
