@@ -1,9 +1,9 @@
 -- The numbers of live processes: unit by unit, by look-ups, sorted.
-use Rattle.std.proofs.Common.{◌⊎◌, MatchOption, ◌≡◌, ◌==◌, ◌<◌, ℕ, List, [], ◌∷◌, ◌++◌, flat_map, map as each, Bool, true, false, not, ◌||◌, ◌&&◌, Option, Some, None, is_some, unwrap_or, cond, refl, sym, ap, subst, ◌∙◌, inl, inr}
+use Rattle.std.proofs.Common.{◌⊎◌, ◌↔◌, MatchOption, ◌≡◌, ◌==◌, ◌<◌, ℕ, suc, List, [], ◌∷◌, ◌++◌, flat_map, map as each, Bool, true, false, not, ◌||◌, ◌&&◌, Option, Some, None, is_some, unwrap_or, cond, Contains, get_or, refl, sym, ap, subst, ◌∙◌, inl, inr, arith}
 use Rattle.std.specs.FinMap as map
 use Rattle.std.specs.List.{list_all, dedup, dedup_from}
 use Rattle.std.proofs.lemmas.Bool.{eqb-true, eq-eqb, true≢false}
-use Rattle.std.proofs.lemmas.List.Folds.{list_any-append}
+use Rattle.std.proofs.lemmas.List.Folds.{list_any-append, list_any_at}
 use Rattle.um_model.proofs.EntriesLaws.{at_each, from_each}
 use Rattle.um_laws.proofs.ScanLaws.{held_with_number}
 use Rattle.um_model.specs.Machine.{IsOver, IsProcessOf}
@@ -42,10 +42,6 @@ not_or false b = refl
 false_of : (a : Bool) → (a ≡ true → ⊥) → a ≡ false
 false_of true h = absurd (h refl)
 false_of false h = refl
-
-abbrev is_same : Bool → Bool → Bool
-is_same true b = b
-is_same false b = not b
 
 -- ---- one unit
 
@@ -88,6 +84,27 @@ unit_has n u h = listed n u.main u.control h
 has_unit : (n : ℕ) (u : UnitState) → has n (live_numbers u) ≡ true → HasNumber u n
 has_unit n u h = unlisted n u.main u.control h
 
+-- ---- those that stand in both
+
+has_there : (n : ℕ) (ns : List ℕ) → Contains ns n → has n ns ≡ true
+has_there n ns (k, h, e) = list_any_at (λ m. m == n) ns k n h (eq-eqb (get_or ns k n) n e)
+
+there_has : (n : ℕ) (ns : List ℕ) → has n ns ≡ true → Contains ns n
+there_has n [] h = absurd (true≢false (sym h))
+there_has n (m ∷ ns) h = elim (either n m ns h) [
+  | inl e ↦ (0, omega arith, e)
+  | inr later ↦ let c = there_has n ns later in (suc c.0, omega (arith, c.1), c.2)
+]
+
+same_test : (a b : Bool) → (a ≡ true → b ≡ true) → (b ≡ true → a ≡ true) → a ≡ b
+same_test true b there back = sym (there refl)
+same_test false true there back = back refl
+same_test false false there back = refl
+
+-- what has the same numbers is asked the same
+pub same_numbers : (a b : List ℕ) → ((n : ℕ) → Contains a n ↔ Contains b n) → (n : ℕ) → has n a ≡ has n b
+same_numbers a b same n = same_test (has n a) (has n b) (λ h. has_there n b ((same n).0 (there_has n a h))) (λ h. has_there n a ((same n).1 (there_has n b h)))
+
 -- ---- entries
 
 abbrev lacks : ℕ → List ℕ × UnitState → Bool
@@ -127,14 +144,6 @@ process_live units n unit h =
     not_false' : (b : Bool) → (b ≡ false → ⊥) → b ≡ true
     not_false' true h = refl
     not_false' false h = absurd (h refl)
-
--- ---- unit by unit
-
-abbrev by_name : ByUnit UnitState → List ℕ → List ℕ
-by_name units unit = live_numbers (state_of_unit units unit)
-
-abbrev agrees : ByUnit UnitState → ℕ → List ℕ × UnitState → Bool
-agrees units n e = is_same (has n (by_name units e.0)) (has n (live_numbers e.1))
 
 -- ---- none twice
 

@@ -29,7 +29,7 @@ pub fn is_in(units: &Units, sub: SubState, number: ProcessNumber) -> bool
 pub fn live_numbers(units: &Units) -> Result<Vec<ProcessNumber>, AllocError>
     ensures { IfOk result (λ numbers. AreLive units.now.held numbers.items) }
 {
-    let mut numbers = units.processes()?;
+    let mut numbers = units.live()?;
     numbers.sort_by_key(|number| number.get())?;
     numbers.dedup();
     Ok(numbers)

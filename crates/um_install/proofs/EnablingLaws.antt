@@ -379,7 +379,3 @@ module _ (tree : Tree) (asked : List ℕ) (u : Tree) (is : is_unit_name asked �
   enable_twice_tells_none w more = ap (paths_beyond u) (enable_twice_alone w more) ∙ none_beyond u
 
 -- ---- disabling twice
-
--- none of the links that are removed is another name of a unit
-abbrev pub RemovesNoName : Tree → List ℕ → Type 0
-RemovesNoName tree asked = (path : List ℕ) (p : PathParts) → IsUnlinked tree asked path → path_parts path ≡ Some p → p.place ≢ Unit

@@ -1,17 +1,11 @@
 -- The unit of a process number, as a scan by the names of units finds it.
-use Rattle.std.proofs.Common.{ℕ, ◌≡◌, ◌||◌, Bool, true, List, Option, Some, None, is_some, unwrap_or, refl, inl, inr, true≢false}
+use Rattle.std.proofs.Common.{ℕ, ◌≡◌, true, List, Option, Some, None, is_some, unwrap_or, refl, inl, inr, true≢false}
 use Rattle.std.specs.FinMap as map
-use Rattle.um_model.specs.Service.{ByUnit, state_of_unit, dead_unit, is_number}
+use Rattle.um_model.specs.Service.{ByUnit, state_of_unit, dead_unit}
 use Rattle.um_model.specs.Transitions.{HasNumber}
 use Rattle.um_model.specs.declared.service.UnitState.{UnitState}
 
 -- ---- process numbers
-
-abbrev pub has_number : ℕ → UnitState → Bool
-has_number number u = is_number number u.main || is_number number u.control
-
-abbrev pub of_number : ℕ → List ℕ × UnitState → Bool
-of_number number e = has_number number e.1
 
 -- what has a number is held
 number_is_held : (o : Option UnitState) (number : ℕ) → HasNumber (unwrap_or o dead_unit) number → is_some o ≡ true

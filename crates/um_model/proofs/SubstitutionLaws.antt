@@ -31,9 +31,6 @@ same_becomes environment word a b (fills w text none_whole stand) (splits v name
 same_becomes environment word a b (fills w text none_whole stand) (fills v other none_other stands_too) =
     ap (λ t. t ∷ []) (same_Some text other (sym stand ∙ stands_too))
 
-abbrev Same : List Variable → List (List ℕ) → Type 0
-Same environment words = (a b : List (List ℕ)) → AllBecome environment words a → AllBecome environment words b → a ≡ b
-
 no_words_become : (environment : List Variable) (b : List (List ℕ)) → AllBecome environment [] b → [] ≡ b
 no_words_become environment b no_more = refl
 

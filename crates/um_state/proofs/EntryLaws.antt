@@ -1,20 +1,20 @@
 -- The entries of the map that a table stands for are its rows of which something is held, in the order of the names.
-use Rattle.std.proofs.Common.{◌≡◌, ◌≢◌, ◌∙◌, ◌+◌, ◌<◌, ◌≤◌, ◌&&◌, ◌++◌, ℕ, zero, suc, Bool, true, false, true≢false, not, cond, if◌then◌else◌, List, [], ◌∷◌, length, get_or, map, flat_map, Option, Some, None, unwrap_or, refl, sym, ap, subst, arith, T, append_assoc, append-nil}
+use Rattle.std.proofs.Common.{◌≡◌, ◌≢◌, ◌∙◌, ◌+◌, ◌<◌, ◌&&◌, ◌++◌, ℕ, zero, suc, Bool, true, false, true≢false, not, cond, if◌then◌else◌, List, [], ◌∷◌, length, get_or, map, flat_map, Option, Some, unwrap_or, refl, sym, ap, subst, arith, T, append_assoc, append-nil}
 use Rattle.std.proofs.lemmas.Option.{none-some, same_Some}
 use Rattle.std.proofs.lemmas.Map.Views.{tells_apart}
 use Rattle.std.proofs.lemmas.Map.Lookups.{exact_bytes}
 use Rattle.std.specs.FinMap as finite
 use Rattle.std.specs.FinMap.Entries.{below_all}
 use Rattle.std.specs.List.{list_all}
-use Rattle.std.specs.Cmp.Lexicographic.{slice_cmp, nat_list_cmp_total}
+use Rattle.std.specs.Cmp.Lexicographic.{slice_cmp}
 use Rattle.std.specs.Ordering.{nat_cmp, eq_by_cmp, is_lt}
 use Rattle.um_model.specs.Least.{IsNamedBefore}
 use Rattle.um_model.specs.Jobs.{no_jobs, with_jobs, has_job, jobs_shown, jobs_shown_of}
 use Rattle.um_model.specs.Service.{ByUnit, dead_unit, with_unit, holds_nothing}
 use Rattle.um_model.specs.declared.jobs.UnitJobs.{UnitJobs}
 use Rattle.um_model.specs.declared.service.UnitState.{UnitState}
-use Rattle.um_model.proofs.UnitLaws.{IsTidy, same_tidy, nothing_held, not_dead, no_job_held, not_jobless}
-use Rattle.um_name.specs.Names.{name_at, IsApart, AreAscending}
+use Rattle.um_model.proofs.UnitLaws.{same_tidy, nothing_held, not_dead, no_job_held, not_jobless}
+use Rattle.um_name.specs.Names.{name_at, AreAscending}
 use Rattle.um_name.proofs.NumberLaws.{AreOnce, names_once}
 use Rattle.um_state.specs.Tables.{by_names, units_by, jobs_by}
 use Rattle.um_state.proofs.PutLaws.{look, Puts, look_empty, units_put, jobs_put_well}

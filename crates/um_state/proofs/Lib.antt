@@ -7,6 +7,7 @@ pub mod Distinct
 pub mod EntryLaws
 pub mod FindingLaws
 pub mod Fronts
+pub mod HadLaws
 pub mod HeldLaws
 pub mod InputArms
 pub mod JobLists

@@ -7,6 +7,7 @@ use Rattle.um_model.specs.Transitions.{HasNumber}
 use Rattle.um_model.specs.declared.service.UnitState.{UnitState}
 use Rattle.um_state.specs.LiveRows.{told}
 use Rattle.um_state.specs.declared.finder.Finder.{Finder}
+use Rattle.um_state.specs.declared.live.Live.{Live}
 
 -- the row with this number; past the last one a dead unit's
 abbrev pub row_at : List UnitState → ℕ → UnitState
@@ -19,6 +20,14 @@ Tells finder i number = finder.is_partial ≡ false → told finder.live.list.it
 -- each row is told of the numbers of its live processes
 abbrev pub Finds : List UnitState → Finder → Type 0
 Finds rows finder = (i number : ℕ) → HasNumber (row_at rows i) number → Tells finder i number
+
+-- the row that is told of the number has it still
+abbrev pub IsTold : List UnitState → Live → ℕ → Type 0
+IsTold rows live number = (live.number ≡ number) × HasNumber (row_at rows live.row) number
+
+-- a row has the number
+abbrev pub IsHad : List UnitState → ℕ → Type 0
+IsHad rows number = (i : ℕ) × HasNumber (row_at rows i) number
 
 -- no row has the number
 abbrev pub NoneHas : List UnitState → ℕ → Type 0

@@ -1,13 +1,13 @@
 //! Which row a number is of, found without a look at all rows.
 
-ghost use Rattle.std.specs.Prelude.{◌≡◌, ℕ, [], true, false, Some, None, IfOk, MatchOption};
+ghost use Rattle.std.specs.Prelude.{◌≡◌, ◌⊎◌, ◌↔◌, ℕ, [], true, false, Some, None, Contains, IfOk, MatchOption, OnOk};
 ghost use Rattle.um_model.specs.Transitions.{HasNumber};
 ghost use Rattle.um_state.specs.Awaiting.{NoneAwaits};
-ghost use Rattle.um_state.specs.Finding.{Finds, IsFirstWith, NoneHas, Tells, row_at};
+ghost use Rattle.um_state.specs.Finding.{Finds, IsFirstWith, IsHad, IsTold, NoneHas, Tells, row_at};
 ghost use Rattle.um_state.specs.LiveRows.{told};
 
 use crate::awaited::awaited_by;
-use crate::live::LiveRows;
+use crate::live::{Live, LiveRows};
 use std::alloc::{AllocError, Global};
 use um_model::{ProcessNumber, UnitState};
 
@@ -42,6 +42,37 @@ fn row_with(rows: &[UnitState], row: usize, number: u64) -> Option<usize>
     } else {
         None
     }
+}
+
+/// The process of a unit that stands so which has the number.
+fn process_with(state: UnitState, number: u64) -> Option<ProcessNumber>
+    ensures { MatchOption result (¬ HasNumber state number) (λ n. (n ≡ number) × HasNumber state number) }
+{
+    if let Some(main) = state.main {
+        if main.get() == number {
+            return Some(main);
+        }
+    }
+    if let Some(control) = state.control {
+        if control.get() == number {
+            return Some(control);
+        }
+    }
+    None
+}
+
+/// Adds the number behind the others, where its row has it still.
+fn push_live(
+    numbers: &mut Vec<ProcessNumber>,
+    rows: &[UnitState],
+    live: Live,
+) -> Result<(), AllocError>
+    ensures { OnOk result ((n : ℕ) → Contains numbers.new.items n ↔ (Contains numbers.old.items n ⊎ IsTold rows.now live n)) }
+{
+    if let Some(process) = process_with(row_in(rows, live.row), live.number) {
+        numbers.push(process)?;
+    }
+    Ok(())
 }
 
 /// The row of each live number. What is told of a number that no row has any more may stay.
@@ -166,6 +197,23 @@ impl Finder {
             Some(row) => row_with(rows, row, number),
             None => None,
         }
+    }
+
+    /// The numbers that rows have, where none is left out. It looks at no row that is told of none.
+    pub(crate) fn numbers(
+        &self,
+        alloc: Global,
+        rows: &[UnitState],
+    ) -> Result<Vec<ProcessNumber>, AllocError>
+        requires finds { Finds rows.now self.now }
+        requires whole { self.now.is_partial ≡ false }
+        ensures { IfOk result (λ numbers. (n : ℕ) → Contains numbers.items n ↔ IsHad rows.now n) }
+    {
+        let mut numbers = Vec::new(alloc);
+        for live in self.live.list.iter() {
+            push_live(&mut numbers, rows, *live)?;
+        }
+        Ok(numbers)
     }
 
     /// That of these rows. There is room for the two numbers of each, and for two more: a row's new ones are noted before its old ones are left.

@@ -8,8 +8,8 @@ use std::alloc::{AllocError, Global};
 /// A live number, and the row that has it.
 #[derive(Clone, Copy)]
 pub(crate) struct Live {
-    number: u64,
-    row: usize,
+    pub(crate) number: u64,
+    pub(crate) row: usize,
 }
 
 /// How many of them have a lower number. It halves the list, so it takes no longer than that.

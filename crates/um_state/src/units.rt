@@ -1,4 +1,4 @@
-ghost use Rattle.std.specs.Prelude.{◌≡◌, ◌↔◌, ◌++◌, ◌<◌, false, ℕ, List, length, map, vec_len, is_some, IsTrue, MatchOption, IfOk, OnOk, OnErr, set as with_item};
+ghost use Rattle.std.specs.Prelude.{◌≡◌, ◌↔◌, ◌++◌, ◌<◌, false, ℕ, List, length, map, vec_len, is_some, Contains, IsTrue, MatchOption, IfOk, OnOk, OnErr, set as with_item};
 ghost use Rattle.std.specs.Coded.{codes};
 ghost use Rattle.std.specs.Cmp.Lexicographic.{slice_cmp};
 ghost use Rattle.std.specs.FinMap as maps;
@@ -7,6 +7,7 @@ ghost use Rattle.um_model.specs.Jobs.{AreTidyJobs, jobs_shown, jobs_of_unit, no_
 ghost use Rattle.um_model.specs.Machine.{IsOver, IsProcessOf, AreDeadlines};
 ghost use Rattle.um_model.specs.Service.{AreTidyUnits, dead_unit, state_of_unit, with_unit};
 ghost use Rattle.um_model.specs.Standing.{Table};
+ghost use Rattle.um_model.specs.StateSpellings.{numbers_in};
 ghost use Rattle.um_model.specs.declared.jobs.UnitJobs as unit_jobs;
 ghost use Rattle.um_model.specs.declared.service.UnitState as unit;
 ghost use Rattle.um_name.specs.Names.{AreAscending, IsApart, name_at};
@@ -28,7 +29,7 @@ use std::alloc::{AllocError, Global};
 use std::collections::BTreeMap;
 use std::marker::Model;
 use std::mem;
-use um_model::{UnitJobs, UnitState};
+use um_model::{ProcessNumber, UnitJobs, UnitState};
 use um_name::{Names, UnitName};
 use um_timer::Timers;
 
@@ -285,6 +286,16 @@ impl Units {
             },
             None => None,
         }
+    }
+
+    /// The numbers of the live processes, in any order. It looks at the units that have one, and at all only where two had the same.
+    pub fn live(&self) -> Result<Vec<ProcessNumber>, AllocError>
+        ensures { IfOk result (λ numbers. (n : ℕ) → Contains numbers.items n ↔ Contains (numbers_in self.now.held) n) }
+    {
+        if self.finder.is_partial {
+            return self.processes();
+        }
+        self.finder.numbers(self.alloc, &self.states)
     }
 
     /// Whether any unit may wait for the report that the program of the process with this number runs. It takes no memory, and looks at no unit.

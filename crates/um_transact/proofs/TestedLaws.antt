@@ -1,5 +1,5 @@
 -- What was tested of units is so: nothing at first, and one answer more.
-use Rattle.std.proofs.Common.{◌≡◌, ℕ, zero, suc, Bool, false, List, [], Option, None, Some, length, replicate, refl, sym, ap, ◌∙◌}
+use Rattle.std.proofs.Common.{◌≡◌, ℕ, zero, suc, Bool, List, [], Option, None, Some, length, replicate, refl, sym, ap, ◌∙◌}
 use Rattle.std.proofs.lemmas.List.{length-replicate}
 use Rattle.um_model.specs.declared.service.ActiveState.{ActiveState}
 use Rattle.um_graph.specs.Graph.{GraphView}
@@ -9,10 +9,6 @@ none_at : (n u : ℕ) → tested_at (replicate n None) u ≡ None
 none_at zero u = refl
 none_at (suc n) zero = refl
 none_at (suc n) (suc u) = none_at n u
-
-abbrev answer_of : Option Bool → Bool
-answer_of None = false
-answer_of (Some b) = b
 
 module _ (g : GraphView) (activity : List ActiveState) where
   pub none_tested : (tested : List (Option Bool)) → tested ≡ replicate (length g.names) None → AreTested g activity tested

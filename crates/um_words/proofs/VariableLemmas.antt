@@ -47,9 +47,6 @@ not_closed text inner name after e name_is after_is other =
     ∙ ap (λ t. cond (is_variable_name name && t) (Some name) None) (ap (first_passes (λ b. eqb b 125)) (sym after_is) ∙ not_first 125 after other)
     ∙ ap (λ t. cond t (Some name) None) (and_false (is_variable_name name))
 
-abbrev IsParted : List ℕ → List ℕ → Type 0
-IsParted xs run = xs ≡ run ++ drop (length run) xs
-
 -- one piece more
 pub filled_more : (environment : List pure.Variable) (text rest front behind value after out : List ℕ) (n : ℕ) (whole : Option (List ℕ))
     → rest ≡ front ++ 36 ∷ behind → ((i : ℕ) → i < length front → get_or front i 0 ≢ 36) → dollar_front environment behind ≡ Gives value (n + 1)
