@@ -377,5 +377,3 @@ module _ (tree : Tree) (asked : List ℕ) (u : Tree) (is : is_unit_name asked �
   -- so it tells of no link
   pub enable_twice_tells_none : (w : Tree) → Installs u verbs.Enable asked w → paths_beyond u w ≡ []
   enable_twice_tells_none w more = ap (paths_beyond u) (enable_twice_alone w more) ∙ none_beyond u
-
--- ---- disabling twice

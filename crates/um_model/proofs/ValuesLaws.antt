@@ -29,8 +29,6 @@ use Rattle.um_model.specs.FileForms.{number_limit, unit_size, digits_of, unit_of
 use Rattle.um_model.specs.FileForms.{words_in, policies}
 use Rattle.um_model.specs.ValueSpellings.{IsBoolean, IsNumber, AddUpTo, IsSpan, IsExitSet, IsTime}
 
--- ---- the values as relations
-
 -- ---- the laws
 
 -- a run of digits doesn't begin with whitespace
