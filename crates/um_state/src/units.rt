@@ -288,7 +288,8 @@ impl Units {
         }
     }
 
-    /// The numbers of the live processes, in any order. It looks at the units that have one, and at all only where two had the same.
+    /// The numbers of the live processes, in any order. It looks at the units that have one, and at all only where two had the same number, or there was
+    /// no room to note one: neither is so in a run.
     pub fn live(&self) -> Result<Vec<ProcessNumber>, AllocError>
         ensures { IfOk result (λ numbers. (n : ℕ) → Contains numbers.items n ↔ Contains (numbers_in self.now.held) n) }
     {
