@@ -1,7 +1,7 @@
 -- What a graph is: names, loadings and rows by the numbers of the units, and when it is the graph of a tree.
 -- Follows the definitions of dependencies: it says them by numbers.
 -- Transactions stand on this file.
-use Rattle.std.specs.Prelude.{◌≡◌, ◌≢◌, ℕ, ◌<◌, ◌≤◌, ◌↔◌, true, List, [], length, All, AllPairs, Contains, Option, Some, None, option_map, slice_get}
+use Rattle.std.specs.Prelude.{◌≡◌, ◌≢◌, ℕ, ◌<◌, ◌≤◌, ◌↔◌, true, List, [], length, All, AllPairs, Contains, Option, Some, None, option_map, slice_get, find}
 use Rattle.um_model.specs.Dependencies.{IsKnown, Depends, Precedes, unit_limit}
 use Rattle.um_model.specs.Least.{IsNamedBefore}
 use Rattle.um_model.specs.Tree.{Tree}
@@ -33,6 +33,10 @@ neighbours_or_none (Some neighbours) = neighbours
 -- the neighbours of a unit; none past the last one
 abbrev pub row_of : List (List Neighbour) → ℕ → List Neighbour
 row_of rows x = neighbours_or_none (slice_get rows x)
+
+-- the first neighbour in the row that its unit comes after
+abbrev pub first_after : List Neighbour → Option ℕ
+first_after row = option_map (λ n. n.unit) (find (λ n. has after_bit n.kinds) row)
 
 -- in the row of x stands y, in this way
 abbrev pub Stands : List (List Neighbour) → ℕ → ℕ → ℕ → Type 0

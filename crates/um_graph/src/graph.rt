@@ -1,8 +1,9 @@
-ghost use Rattle.std.specs.Prelude.{◌≡◌, ◌⊎◌, ◌<◌, [], ℕ, All, Option, Some, Contains, IfOk, IfErr, MatchOption, length, max, option_copied, slice_get, unwrap_or};
+ghost use Rattle.std.specs.Prelude.{◌≡◌, ◌⊎◌, ◌<◌, [], ℕ, All, Option, Some, Contains, IfOk, IfErr, MatchOption, length, map, max, option_copied, slice_get, unwrap_or};
+ghost use Rattle.std.specs.Map.{values_of};
 ghost use Rattle.um_model.specs.Dependencies.{CountsFor, KnowsTooMany};
 ghost use Rattle.um_model.specs.Tree.{without_run};
 ghost use Rattle.um_graph.specs.Edges.{AreUnits};
-ghost use Rattle.um_graph.specs.Graph.{GraphView, IsGraph, IsGraphOf, IsNumberOf, row_of};
+ghost use Rattle.um_graph.specs.Graph.{GraphView, IsGraph, IsGraphOf, IsNumberOf, first_after, row_of};
 ghost use Rattle.um_graph.specs.Known.{CountsLasting};
 ghost use Rattle.um_graph.specs.Sorted.{AreSorted, IsAscending, IsSortedGraph};
 ghost use Rattle.um_graph.specs.View.{graph_of};
@@ -26,6 +27,8 @@ use um_wire::Refusal;
 pub struct Graph {
     units: Units,
     count: usize,
+    /// Of each unit the first neighbour that it comes after: as a rule that tells of a start that it isn't ready, without a look at its row.
+    firsts: Vec<Option<usize>>,
 }
 
 impl Model for Graph {
@@ -33,7 +36,7 @@ impl Model for Graph {
 
     ghost view = { λ g. graph_of g.units.units.items g.count };
 
-    ghost invariant = { λ g. IsSortedGraph (graph_of g.units.units.items g.count) };
+    ghost invariant = { λ g. IsSortedGraph (graph_of g.units.units.items g.count) × (g.firsts.items ≡ map first_after (graph_of g.units.units.items g.count).rows) };
 }
 
 impl Graph {
@@ -52,9 +55,12 @@ impl Graph {
         let lasting = lasting_count(alloc, tree, extra)?;
         let known = Known::of(alloc, tree, extra)?;
         let count = greater(known.loaded.len(), lasting);
+        let units = joined_units(alloc, known)?;
+        let firsts = firsts_of(alloc, &units)?;
         Ok(Graph {
-            units: joined_units(alloc, known)?,
+            units,
             count,
+            firsts,
         })
     }
 
@@ -111,6 +117,16 @@ impl Graph {
         }
     }
 
+    /// The first neighbour of the unit with this number that it comes after, by its number; None where it comes after none, and past the last unit.
+    pub fn first_after(&self, unit: usize) -> Option<usize>
+        ensures { result ≡ first_after (row_of self.now.rows unit) }
+    {
+        match self.firsts.get(unit) {
+            Some(first) => *first,
+            None => None,
+        }
+    }
+
     /// The neighbours of the unit of this name, in the order of their numbers; none where it isn't known.
     pub fn neighbours_of(&self, name: &UnitName) -> &[Neighbour]
         ensures row { (unit : ℕ) → IsNumberOf self.now unit name.now → result.now ≡ row_of self.now.rows unit }
@@ -140,6 +156,27 @@ fn lasting_count(alloc: Global, tree: &Tree, extra: &[UnitName]) -> Result<Optio
     lasting.clear_run();
     let known = Known::of(alloc, &lasting, extra)?;
     Ok(Some(known.loaded.len()))
+}
+
+/// The first of these neighbours that the unit in whose row they stand comes after.
+fn first_after(row: &[Neighbour]) -> Option<usize>
+    ensures { result ≡ first_after row.now }
+{
+    row.iter()
+        .copied()
+        .find(|neighbour| neighbour.kinds.is_after())
+        .map(|first| first.unit)
+}
+
+/// Of each unit the first neighbour that it comes after.
+fn firsts_of(alloc: Global, units: &Units) -> Result<Vec<Option<usize>>, AllocError>
+    ensures { IfOk result (λ firsts. firsts.items ≡ map first_after (map (λ u. values_of u.row.neighbours.entries) units.now.units.items)) }
+{
+    let mut firsts = Vec::new(alloc);
+    for unit in &units.units {
+        firsts.push(first_after(unit.row.neighbours()))?;
+    }
+    Ok(firsts)
 }
 
 /// The greater of two counts, where there are two.

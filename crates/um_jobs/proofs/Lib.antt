@@ -1,6 +1,7 @@
 pub mod NamedLaws
 pub mod DropLaws
 pub mod PassedLaws
+mod FirstLaws
 mod ReadyLaws
 pub mod LeastLaws
 pub mod SumLaws

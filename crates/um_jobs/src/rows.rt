@@ -1,8 +1,8 @@
 //! Which job is ready by the rows of the units, where nothing is counted.
 
 ghost use Rattle.std.specs.List.{list_any};
-ghost use Rattle.std.specs.Prelude.{◌≡◌, ◌<◌, Bool, List, length, slice_set, IfSome, MatchOption};
-ghost use Rattle.um_graph.specs.Graph.{GraphView};
+ghost use Rattle.std.specs.Prelude.{◌≡◌, ◌<◌, true, Bool, List, length, slice_set, IfSome, MatchOption};
+ghost use Rattle.um_graph.specs.Graph.{GraphView, row_of};
 ghost use Rattle.um_jobs.specs.Jobs.{IsReadyIn, held_at, job_named};
 ghost use Rattle.um_jobs.specs.RowReady as told;
 ghost use Rattle.um_jobs.specs.RowReady.{ArePassed};
@@ -50,6 +50,17 @@ fn is_start_held(units: &[UnitJobs], row: &[Neighbour]) -> bool
     row.iter().any(|neighbour| holds_start(units, *neighbour))
 }
 
+/// Whether the first neighbour that the unit with this number comes after has a pending start. As a rule that is what a start waits for, and the row
+/// needn't be looked at then.
+fn awaits_first(graph: &Graph, units: &[UnitJobs], unit: usize) -> bool
+    ensures { result ≡ true → list_any (told.holds_start units.now) (row_of graph.now.rows unit) ≡ true }
+{
+    match graph.first_after(unit) {
+        Some(first) => jobs_of(units, first).start.is_some(),
+        None => false,
+    }
+}
+
 /// Whether the stop of the unit with this number waits, and for no other of these jobs, which are those of the graph's units by their
 /// numbers.
 fn is_stop_ready(graph: &Graph, units: &[UnitJobs], unit: usize) -> bool
@@ -66,6 +77,7 @@ fn is_start_ready(graph: &Graph, units: &[UnitJobs], held: &[bool], unit: usize)
     is_waiting(jobs.start)
         && jobs.stop.is_none()
         && !is_held(held, unit)
+        && !awaits_first(graph, units, unit)
         && !is_start_held(units, graph.neighbours(unit))
 }
 

@@ -169,3 +169,11 @@ fn the_dependencies_and_the_order_are_listed(rt: HostRuntime) {
     let before = graph.as_ref().before(rt.alloc()).expect(&rt, "no memory");
     same!(&rt, before.as_slice(), &[(0, 1)]);
 }
+
+#[test]
+fn a_unit_knows_the_first_one_that_it_comes_after(rt: HostRuntime) {
+    let graph = graph(&rt);
+    same!(&rt, graph.as_ref().first_after(0), None);
+    same!(&rt, graph.as_ref().first_after(1), Some(0));
+    same!(&rt, graph.as_ref().first_after(2), None);
+}

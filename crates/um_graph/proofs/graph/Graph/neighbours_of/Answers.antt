@@ -10,7 +10,7 @@ pub returns-clause-row : goal.returns-clause-row
 returns-clause-row c unit is =
     let g = c.args.self.now in
     let name = c.args.name.now in
-    let whole : IsSortedGraph g = subst IsSortedGraph c.self.view_is c.self.invariant in
+    let whole : IsSortedGraph g = subst IsSortedGraph c.self.view_is c.self.invariant.0 in
     let at = c.in-Some.ensures in
     let same : c.in-Some.unit ≡ unit =
     names_once g.names whole.graph.sorted c.in-Some.unit unit (got_within g.names c.in-Some.unit name at) (got_within g.names unit name is)
@@ -19,11 +19,11 @@ returns-clause-row c unit is =
 
 pub returns-clause-ascends : goal.returns-clause-ascends
 returns-clause-ascends c =
-    let whole : IsSortedGraph c.args.self.now = subst IsSortedGraph c.self.view_is c.self.invariant in
+    let whole : IsSortedGraph c.args.self.now = subst IsSortedGraph c.self.view_is c.self.invariant.0 in
     subst IsAscending (sym c.neighbours.ensures) (whole.ascends c.in-Some.unit)
 
 pub returns-clause-within : goal.returns-clause-within
 returns-clause-within c =
     let g = c.args.self.now in
-    let whole : IsSortedGraph g = subst IsSortedGraph c.self.view_is c.self.invariant in
+    let whole : IsSortedGraph g = subst IsSortedGraph c.self.view_is c.self.invariant.0 in
     subst (All (λ (n : Neighbour). n.unit < length g.names)) (sym c.neighbours.ensures) (all_within g whole.graph c.in-Some.unit)
