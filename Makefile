@@ -2,7 +2,7 @@
 # make run: shows the program's main job; where no proved program stands, one is built without its proofs.
 # make unproved: builds a program without its proofs, out/unproved/umd.
 # make umd: builds the proved program, crates/umd/out/umd, and tells crate by crate how far it is.
-# make test: the whole gate. Proves every crate and its tests from nothing, tries each must-fail edit, and runs the tests and the program as two
+# make test: the whole gate. Sees that each edit applies to the text. Proves every crate and its tests from nothing, tries each must-fail edit, and runs the tests and the program as two
 # compilers build it; then plays the rows with real processes, sockets and files against the program that was proved.
 # make edits NAME ..: tries the further edits of these crates, which stand in edits/NAME; with no name those of every crate.
 # make runner-rows: plays the rows of a runner against the proved program, with real processes.

@@ -108,6 +108,7 @@ class Server:
         self.dir = f"{self.folder}/processes"
         self.runner = program
         self.boot = BOOT
+        self.options = []
         self.running = None
 
     def __enter__(self):
@@ -134,7 +135,7 @@ class Server:
 
     def words(self):
         named = ["--boot", self.boot, "--socket", self.socket, "--dir", self.dir, "--runner", self.runner]
-        return [self.program, "serve", *named, self.file]
+        return [self.program, "serve", *named, *self.options, self.file]
 
     def start(self, **how):
         """Has the store served, and waits for nothing."""
