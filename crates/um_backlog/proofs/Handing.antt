@@ -10,7 +10,7 @@ some_left is_last [] n some is = absurd (some (sym is))
 some_left is_last (b ∷ bs) n some is = ap (λ k. nat_lt most_waiting k) (sym is)
 
 -- all that waits is offered
-pub offers_all : (number : ℕ) (all taken : List ℕ) → 0 < length all → wrote number taken ∷ [] ≡ writes number all taken
+pub offers_all : (number : ℕ) (all taken : List ℕ) → 0 < length all → wrote number all taken ∷ [] ≡ writes number all taken
 offers_all number [] taken some = absurd (omega arith)
 offers_all number (b ∷ bs) taken some = refl
 

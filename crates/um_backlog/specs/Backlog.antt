@@ -48,7 +48,7 @@ is_given_up is_last (b ∷ bs) = nat_lt most_waiting (length (b ∷ bs))
 -- the gate is offered all that waits, and takes some of it; it is offered nothing where nothing waits
 abbrev pub writes : ℕ → List ℕ → List ℕ → List Event
 writes number [] taken = []
-writes number (b ∷ bs) taken = wrote number taken ∷ []
+writes number (b ∷ bs) taken = wrote number (b ∷ bs) taken ∷ []
 
 -- a connection that is given up
 abbrev pub drops : ℕ → Bool → List Event

@@ -23,7 +23,7 @@ not_both n (Spawned spawn taken b) t = absurd (true≢false (sym t))
 not_both n (Signalled number signal) t = refl
 not_both n (Asked number claim told) t = refl
 not_both n (Forgot number) t = refl
-not_both n (ForgotOthers live) t = refl
+not_both n (ForgotOthers live next) t = refl
 
 final_noted : (call : Call) (calls : List Call) → IsFinal calls → Fits call calls → IsFinal (calls ++ call ∷ [])
 final_noted call calls kept fits n t =

@@ -13,7 +13,7 @@ call_of (call.Spawned number start is_taken starts) =
 call_of (call.Signalled number signal) = model.Signalled number signal
 call_of (call.Asked number claim told) = model.Asked number claim told
 call_of (call.Forgot number) = model.Forgot number
-call_of (call.ForgotOthers live) = model.ForgotOthers live.items
+call_of (call.ForgotOthers live next) = model.ForgotOthers live.items next
 
 abbrev pub calls_of : List Call → List model.Call
 calls_of calls = map call_of calls

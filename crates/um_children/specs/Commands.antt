@@ -1,13 +1,13 @@
 -- The command lines by which the manager looks for its runner, starts one, and signals a process.
 -- Follows sh(1) and kill(1); the runner's own words are the project's (docs/FORMATS.md, "The program").
 -- Children through runners stand on this file.
-use Rattle.std.specs.Prelude.{◌≡◌, ◌∷◌, ◌++◌, List, ℕ, length, map, codes, decimal}
+use Rattle.std.specs.Prelude.{◌≡◌, ◌∷◌, List, ℕ, map, codes, decimal}
 use Rattle.std.specs.Borrow.{Bor}
 use Rattle.std.specs.Process.{command_program, command_args}
 use Rattle.std.specs.declared.process.command.Command.{Command}
-use Rattle.um_model.specs.Children.{Spawn}
 use Rattle.um_model.specs.declared.service.Signal.{Signal}
 use Rattle.um_model.specs.declared.service.Signal.TheVariants.{Term, Kill}
+use Rattle.um_runner.specs.RunnerLines.{handed_words}
 
 -- what the shell runs: its words as a command of its own, which goes on by itself, with no stream of the manager; where the first word
 -- names no file that it can execute, it ends with 126 and runs nothing
@@ -22,11 +22,9 @@ finding = codes "case $1 in */*) p=$1;; *) p=$(command -v \"$1\");; esac && test
 abbrev pub signalling : List ℕ
 signalling = codes "kill -s \"$1\" \"$2\""
 
--- the words of the runner for an order, without its program: the environment comes before the command, and is counted
-abbrev pub runner_words : List ℕ → Spawn → List (List ℕ)
-runner_words folder spawn =
-    codes "run" ∷ codes "--dir" ∷ folder ∷ codes "--number" ∷ decimal spawn.number ∷ codes "--env" ∷ decimal (length spawn.environment)
-    ∷ codes "--" ∷ (spawn.environment ++ spawn.words)
+-- the words of the runner that starts this command under the number, without its program: no entry of the environment is among them
+abbrev pub runner_words : (folder : List ℕ) (number : ℕ) (words : List (List ℕ)) → List (List ℕ)
+runner_words folder number words = codes "run" ∷ handed_words folder (decimal number) words
 
 -- texts that are lent
 abbrev pub lent : List (Bor (List ℕ)) → List (List ℕ)

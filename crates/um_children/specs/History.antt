@@ -54,20 +54,20 @@ Asks number claim result old new = new ≡ old ++ Asked number claim (result_ok 
 abbrev pub Forgets : ℕ → List Call → List Call → Type 0
 Forgets number old new = new ≡ old ++ Forgot number ∷ []
 
--- that what is kept of all others is let go is one call more, whatever it answered
-abbrev pub ForgetsOthers : List ℕ → List Call → List Call → Type 0
-ForgetsOthers live old new = new ≡ old ++ ForgotOthers live ∷ []
+-- that what is kept of all others below the next number is let go is one call more, whatever it answered
+abbrev pub ForgetsOthers : List ℕ → ℕ → List Call → List Call → Type 0
+ForgetsOthers live next old new = new ≡ old ++ ForgotOthers live next ∷ []
 
 -- whether a call lets go what is kept of the number
 abbrev pub lets_go : ℕ → Call → Bool
 lets_go n (Forgot number) = number == n
-lets_go n (ForgotOthers live) = not (list_any (λ m. m == n) live)
+lets_go n (ForgotOthers live next) = not (list_any (λ m. m == n) live)
 lets_go n other = false
 
 -- whether a call lets anything go
 abbrev pub lets_any : Call → Bool
 lets_any (Forgot number) = true
-lets_any (ForgotOthers live) = true
+lets_any (ForgotOthers live next) = true
 lets_any other = false
 
 -- of no number that passes the test these calls let go what is kept

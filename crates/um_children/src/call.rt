@@ -3,7 +3,7 @@ ghost use Rattle.um_children.specs.History.{tells_absent, is_start, is_absence};
 ghost use Rattle.um_children.specs.Calls.{call_of};
 
 use std::alloc::{AllocError, Global};
-use um_model::{Fate, ProcessNumber, Signal};
+use um_model::{Fate, NextNumber, ProcessNumber, Signal};
 use um_state::Start;
 
 /// A call to the children.
@@ -33,9 +33,10 @@ pub enum Call {
     Forgot {
         number: ProcessNumber,
     },
-    /// What is kept of each other number that has ended was let go.
+    /// What is kept of each other number that has ended was let go; from the next number on none was ever started.
     ForgotOthers {
         live: Vec<ProcessNumber>,
+        next: NextNumber,
     },
 }
 
@@ -107,8 +108,9 @@ impl Call {
                 told: *told,
             }),
             Call::Forgot { number } => Ok(Call::Forgot { number: *number }),
-            Call::ForgotOthers { live } => Ok(Call::ForgotOthers {
+            Call::ForgotOthers { live, next } => Ok(Call::ForgotOthers {
                 live: Vec::from_slice(alloc, live.as_slice())?,
+                next: *next,
             }),
         }
     }

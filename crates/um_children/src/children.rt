@@ -63,7 +63,7 @@ pub trait Children {
     /// more. As with `forget` a claim stays. No number from `next` on was ever started: where something is kept of one, it is another manager's,
     /// and nothing goes.
     fn forget_others(&mut self, live: &[ProcessNumber], next: NextNumber) -> Result<(), ChildFault>
-        ensures past { IsTrue (honest self.old) → IsTrue (whole self.new) → ForgetsOthers live.now (past self.old) (past self.new) }
+        ensures past { IsTrue (honest self.old) → IsTrue (whole self.new) → ForgetsOthers live.now next (past self.old) (past self.new) }
         ensures whole { KeepsWhole result (whole self.old) (whole self.new) }
         ensures failures { CountsFault result (failures self.old) (failures self.new) }
         ensures honest { honest self.new ≡ honest self.old };

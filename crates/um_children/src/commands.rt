@@ -1,6 +1,6 @@
 //! The command lines that the manager runs: one that looks for the runner's program, one that starts a runner, and one that signals a process.
 
-ghost use Rattle.std.specs.Prelude.{◌≡◌, ◌∷◌, ◌++◌, [], List, ℕ, length, map, codes, decimal, string_bytes, IfOk, OnOk};
+ghost use Rattle.std.specs.Prelude.{◌≡◌, ◌∷◌, ◌++◌, [], map, decimal, string_bytes, IfOk, OnOk};
 ghost use Rattle.std.specs.Process.{command_program, command_args};
 ghost use Rattle.um_children.specs.Commands.{IsShell, lent, detaching, finding, signalling, runner_words, signal_name};
 
@@ -52,50 +52,38 @@ fn shell(alloc: Global, text: &str, words: &[&str]) -> Result<Command, AllocErro
     Ok(command)
 }
 
-/// Adds the number and how many texts the environment has.
-fn add_counts(
+/// Adds the words of the runner, without the command's own.
+fn add_place(
     command: &mut Command,
     alloc: Global,
+    folder: &str,
     number: u64,
-    count: usize,
 ) -> Result<(), AllocError>
     ensures program { OnOk result (command_program command.new ≡ command_program command.old) }
-    ensures args { OnOk result (command_args command.new ≡ command_args command.old
-        ++ codes "--number" ∷ decimal number ∷ codes "--env" ∷ decimal count ∷ codes "--" ∷ []) }
+    ensures args { OnOk result (command_args command.new ≡ command_args command.old ++ runner_words folder.now number []) }
 {
     let number = format!(in alloc; "{number}")?;
-    let count = format!(in alloc; "{count}")?;
     add(
         command,
-        &["--number", number.as_str(), "--env", count.as_str(), "--"],
-    )
+        &["run", "--dir", folder, "--number", number.as_str()],
+    )?;
+    add(command, &["--env-file", "--"])
 }
 
-/// Adds what the runner is told of an order.
-fn add_order(command: &mut Command, alloc: Global, order: &SpawnOrder) -> Result<(), AllocError>
-    ensures program { OnOk result (command_program command.new ≡ command_program command.old) }
-    ensures args { OnOk result (command_args command.new ≡ command_args command.old
-        ++ codes "--number" ∷ decimal order.now.number ∷ codes "--env" ∷ decimal (length order.now.environment)
-        ∷ codes "--" ∷ (order.now.environment ++ order.now.words)) }
-{
-    let environment = order.environment(alloc)?;
-    let words = order.words(alloc)?;
-    add_counts(command, alloc, order.number().get(), environment.len())?;
-    add_texts(command, environment.as_slice())?;
-    add_texts(command, words.as_slice())
-}
-
-/// The command that starts the runner at `program` for an order, in the folder.
+/// The command that starts the runner at `program` for an order, in the folder. The order's environment isn't among its words, which any user
+/// may read.
 pub fn start_command(
     alloc: Global,
     program: &str,
     folder: &str,
     order: &SpawnOrder,
 ) -> Result<Command, AllocError>
-    ensures { IfOk result (IsShell detaching (program.now ∷ runner_words folder.now order.now)) }
+    ensures { IfOk result (IsShell detaching (program.now ∷ runner_words folder.now order.now.number order.now.words)) }
 {
-    let mut command = shell(alloc, DETACHING, &[program, "run", "--dir", folder])?;
-    add_order(&mut command, alloc, order)?;
+    let words = order.words(alloc)?;
+    let mut command = shell(alloc, DETACHING, &[program])?;
+    add_place(&mut command, alloc, folder, order.number().get())?;
+    add_texts(&mut command, words.as_slice())?;
     Ok(command)
 }
 

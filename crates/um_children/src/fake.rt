@@ -354,7 +354,7 @@ impl Children for FakeChildren {
 
     /// As `forget`.
     fn forget_others(&mut self, live: &[ProcessNumber], next: NextNumber) -> Result<(), ChildFault>
-        ensures past { IsTrue true → IsTrue (not self.new.lost) → ForgetsOthers live.now (calls_of self.old.calls.items) (calls_of self.new.calls.items) }
+        ensures past { IsTrue true → IsTrue (not self.new.lost) → ForgetsOthers live.now next (calls_of self.old.calls.items) (calls_of self.new.calls.items) }
         ensures whole { KeepsWhole result (not self.old.lost) (not self.new.lost) }
         ensures failures { CountsFault result self.old.failures self.new.failures }
         ensures fails { OnErr result (self.new.lost ≡ true) }
@@ -364,7 +364,7 @@ impl Children for FakeChildren {
         let Ok(live) = Vec::from_slice(*self.calls.allocator(), live) else {
             return Err(self.lose());
         };
-        if !note(&mut self.calls, Call::ForgotOthers { live }) {
+        if !note(&mut self.calls, Call::ForgotOthers { live, next }) {
             return Err(self.lose());
         }
         Ok(())

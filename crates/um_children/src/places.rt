@@ -9,7 +9,9 @@ use std::os::unix::fs::{DirBuilderExt, MetadataExt, PermissionsExt};
 use std::{fmt, fs, io};
 use thiserror::Error;
 use um_model::{NextNumber, ProcessNumber};
-use um_runner::{Claimant, FolderFault, RunnerFile, Told, claim, number_in, pid_in, status_in};
+use um_runner::{
+    Claimant, FolderFault, RunnerFile, Told, claim, number_in, pid_in, status_in, take_back,
+};
 
 /// The folder is the manager's own.
 const MODE: u32 = 0o700;
@@ -71,7 +73,7 @@ pub fn take_folder<R: Files>(rt: &R, folder: &str) -> Result<(), OpenFault> {
 }
 
 /// The files of a process, of a longer ending first.
-const FILES: [RunnerFile; 7] = [
+const FILES: [RunnerFile; 8] = [
     RunnerFile::ManagerDraft,
     RunnerFile::RunnerDraft,
     RunnerFile::PidDraft,
@@ -79,6 +81,7 @@ const FILES: [RunnerFile; 7] = [
     RunnerFile::Claim,
     RunnerFile::Pid,
     RunnerFile::Status,
+    RunnerFile::Entries,
 ];
 
 /// The number of which this file would have the name.
@@ -154,7 +157,7 @@ pub(crate) fn standing_in<R: Files>(
     Ok(before.by_pid(told))
 }
 
-/// Claims the number for the manager.
+/// Claims the number for the manager. Where it has the claim no runner takes the entries any more that were handed over, and they go.
 pub(crate) fn bar<R: Files>(
     rt: &R,
     alloc: Global,
@@ -162,7 +165,12 @@ pub(crate) fn bar<R: Files>(
     number: ProcessNumber,
 ) -> Result<Standing, Trouble> {
     let claiming = claim(rt, alloc, folder, number, Claimant::Manager)?;
-    Ok(Standing::claimed(claiming))
+    let standing = Standing::claimed(claiming);
+    if standing == Standing::Barred {
+        // what is left where this fails goes at an opening
+        let _left = take_back(rt, alloc, folder, number);
+    }
+    Ok(standing)
 }
 
 /// The greatest number of these files from the next one of the store on.

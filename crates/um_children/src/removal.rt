@@ -9,12 +9,13 @@ use um_model::ProcessNumber;
 use um_runner::{Claimant, RunnerFile, file_path, read_claim, status_in};
 
 /// What is left of a number, the claim first and the status last.
-const LEFT: [RunnerFile; 7] = [
+const LEFT: [RunnerFile; 8] = [
     RunnerFile::Claim,
     RunnerFile::ManagerDraft,
     RunnerFile::RunnerDraft,
     RunnerFile::PidDraft,
     RunnerFile::StatusDraft,
+    RunnerFile::Entries,
     RunnerFile::Pid,
     RunnerFile::Status,
 ];

@@ -23,7 +23,7 @@ use std::process::Processes;
 use std::time::Clock;
 use um_keeper::SpawnOrder;
 use um_model::{Fate, NextNumber, ProcessNumber, Signal};
-use um_runner::RunnerFile;
+use um_runner::{RunnerFile, take_back};
 
 /// Processes through runners: each is started by a runner of its own, which outlives the manager and tells of it by files in a folder.
 ///
@@ -51,6 +51,8 @@ pub struct RunnerDir<'a, R: Files + Processes + Clock> {
     silences: BTreeMap<u64, Silence>,
     /// The number that the last call found silent for too long, once.
     silent: Option<ProcessNumber>,
+    /// The number to which the last call found that a kept signal can't be sent, once.
+    unsignalled: Option<ProcessNumber>,
     /// The greatest number of which the folder has a file though it was never started from this store.
     foreign: Option<ProcessNumber>,
     /// So many processes run that aren't live.
@@ -73,6 +75,7 @@ impl<'a, R: Files + Processes + Clock> Drop for RunnerDir<'a, R> {
             cause: _cause,
             silences: _silences,
             silent: _,
+            unsignalled: _,
             foreign: _,
             unmanaged: _,
         } = self;
@@ -149,6 +152,7 @@ impl<'a, R: Files + Processes + Clock> RunnerDir<'a, R> {
             cause: None,
             silences: BTreeMap::new(alloc),
             silent: None,
+            unsignalled: None,
             foreign: None,
             unmanaged: 0,
         })
@@ -185,7 +189,7 @@ impl<'a, R: Files + Processes + Clock> RunnerDir<'a, R> {
     /// What it is that failed.
     fn place_of(&self, cause: &Cause) -> &str {
         match cause {
-            Cause::Folder(_) | Cause::Foreign => self.folder.as_str(),
+            Cause::Folder(_) | Cause::Foreign | Cause::Unsignalled => self.folder.as_str(),
             Cause::Runner => self.program.as_str(),
             Cause::Shell(_) => "sh",
         }
@@ -215,6 +219,12 @@ impl<'a, R: Files + Processes + Clock> RunnerDir<'a, R> {
     /// The number whose fate was asked last, where for ten seconds nobody has claimed it and this wasn't told of it yet.
     pub fn silent(&self) -> Option<ProcessNumber> {
         self.silent
+    }
+
+    /// The number whose fate was asked last, where a signal that was kept for it couldn't be sent though its process is there. It is kept no
+    /// longer.
+    pub fn unsignalled(&self) -> Option<ProcessNumber> {
+        self.unsignalled
     }
 
     /// The greatest number of which the folder had files at `forget_others` although it was never started: they are another store's. From
@@ -262,8 +272,14 @@ impl<'a, R: Files + Processes + Clock> RunnerDir<'a, R> {
         self.last = number.get();
     }
 
-    /// What is known of the number, once it was claimed where it has to be, and a kept signal was sent where it can be.
-    fn learn(&self, number: ProcessNumber, before: Known, claim: bool) -> Result<Known, Trouble> {
+    /// What is known of the number, once it was claimed where it has to be, and a kept signal was sent where it can be; and whether its process
+    /// is there and can't be signalled.
+    fn learn(
+        &self,
+        number: ProcessNumber,
+        before: Known,
+        claim: bool,
+    ) -> Result<(Known, bool), Trouble> {
         admit(self.foreign)?;
         let (folder, changes) = (self.folder.as_str(), self.watch.changes());
         let mut known = look(self.rt, self.alloc, folder, changes, number, before)?;
@@ -286,12 +302,16 @@ impl<'a, R: Files + Processes + Clock> RunnerDir<'a, R> {
     {
         self.begin(number);
         self.silent = None;
+        self.unsignalled = None;
         let before = known_in(&self.known, number);
         if self.runs_on(before) {
             return Ok(Fate::Executed);
         }
         let was_restless = mem::replace(&mut self.is_restless, true);
-        let known = self.learn(number, before, claim)?;
+        let (known, is_refused) = self.learn(number, before, claim)?;
+        if is_refused {
+            self.unsignalled = Some(number);
+        }
         if has_long_been(self.rt, &mut self.silences, number, known.standing) {
             self.silent = Some(number);
         }
@@ -301,6 +321,26 @@ impl<'a, R: Files + Processes + Clock> RunnerDir<'a, R> {
         Ok(known.standing.fate(claim))
     }
 
+    /// Sends the signal where the pid is there, and tells whether nothing is left to be done: false where it isn't there yet.
+    fn has_sent(
+        &self,
+        number: ProcessNumber,
+        before: Standing,
+        signal: Signal,
+    ) -> Result<bool, Trouble> {
+        // the files are read in any case: after a status the pid may be another's
+        match standing_in(self.rt, self.alloc, self.folder.as_str(), number, before)? {
+            Standing::Running(Some(pid)) => {
+                send(self.rt, self.alloc, pid, signal)?;
+                Ok(true)
+            }
+            Standing::Silent | Standing::Taken => Ok(false),
+            Standing::Running(None) | Standing::Ended(_) | Standing::Barred => Ok(true),
+        }
+    }
+
+    /// Delivers a signal. One whose pid isn't there yet is kept, and so is one that couldn't be sent for want of a shell, a descriptor or memory:
+    /// it is sent at the next look.
     fn deliver(&mut self, number: ProcessNumber, signal: Signal) -> Result<(), Trouble>
         ensures failures { self.new.failures ≡ self.old.failures }
     {
@@ -309,16 +349,20 @@ impl<'a, R: Files + Processes + Clock> RunnerDir<'a, R> {
         if known.standing.is_final() {
             return Ok(());
         }
-        // the files are read in any case: after a status the pid may be another's
-        let folder = self.folder.as_str();
-        match standing_in(self.rt, self.alloc, folder, number, known.standing)? {
-            Standing::Running(Some(pid)) => send(self.rt, self.alloc, pid, signal),
-            Standing::Silent | Standing::Taken => {
-                let kept = Some(stronger(known.kept, signal));
+        let kept = Some(stronger(known.kept, signal));
+        match self.has_sent(number, known.standing, signal) {
+            Ok(true) => Ok(()),
+            Ok(false) => {
                 self.known.insert(number.get(), Known { kept, ..known })?;
                 Ok(())
             }
-            Standing::Running(None) | Standing::Ended(_) | Standing::Barred => Ok(()),
+            Err(trouble) => {
+                // where there is no memory for it, it isn't repeated
+                if !trouble.is_of_the_process() {
+                    let _kept = self.known.insert(number.get(), Known { kept, ..known });
+                }
+                Err(trouble)
+            }
         }
     }
 
@@ -327,7 +371,26 @@ impl<'a, R: Files + Processes + Clock> RunnerDir<'a, R> {
         remove_files(self.rt, self.alloc, self.folder.as_str(), number)
     }
 
-    /// Forgets each number whose status stands in the folder, but these. Nothing goes where the folder is another store's.
+    fn take_back(&self, number: ProcessNumber) -> Result<(), Trouble> {
+        Ok(take_back(self.rt, self.alloc, self.folder.as_str(), number)?)
+    }
+
+    /// Lets go what this file of a number that isn't live tells to go: all, where it is the status, and entries that no runner has taken.
+    fn let_go(&mut self, number: ProcessNumber, file: RunnerFile) -> Result<(), ChildFault>
+        ensures failures { CountsFault result self.old.failures self.new.failures }
+    {
+        match file {
+            RunnerFile::Status => self.forget(number),
+            RunnerFile::Entries => {
+                let answer = self.take_back(number);
+                self.count(answer)
+            }
+            _ => Ok(()),
+        }
+    }
+
+    /// Forgets each number whose status stands in the folder, and removes entries that no runner has taken, but of these. Nothing goes where
+    /// the folder is another store's.
     fn forget_but(&mut self, live: &[ProcessNumber], next: NextNumber) -> Result<(), ChildFault>
         ensures failures { CountsFault result self.old.failures self.new.failures }
     {
@@ -339,8 +402,8 @@ impl<'a, R: Files + Processes + Clock> RunnerDir<'a, R> {
         let folder = self.folder.as_str();
         self.unmanaged = count_unmanaged(self.rt, self.alloc, folder, files.as_slice(), live);
         for (number, file) in &files {
-            if *file == RunnerFile::Status && !live.contains(number) {
-                self.forget(*number)?;
+            if !live.contains(number) {
+                self.let_go(*number, *file)?;
             }
         }
         Ok(())
@@ -391,8 +454,8 @@ impl<'a, R: Files + Processes + Clock> Children for RunnerDir<'a, R> {
         self.count(answer)
     }
 
-    /// Removes the files of each other number whose status stands in the folder, as `forget` does. Where files stand there of a number
-    /// that was never started nothing is removed, and it is noted (`foreign`).
+    /// Removes the files of each other number whose status stands in the folder, as `forget` does, and of each the entries that no runner has
+    /// taken. Where files stand there of a number that was never started nothing is removed, and it is noted (`foreign`).
     ///
     /// `NoMemory` where a growth was refused, `Device` where the folder is another store's, or the system refuses: a later call removes what was left.
     fn forget_others(

@@ -12,6 +12,7 @@ use std::process::{Command, Processes, Stdio};
 use std::{fs, io};
 use um_keeper::SpawnOrder;
 use um_model::Signal;
+use um_runner::{hand_over, take_back};
 
 /// Runs a shell with no stream of the manager and waits for it. False where it says that it failed.
 fn run_alone<R: Processes>(rt: &R, shell: &mut Command) -> io::Result<bool> {
@@ -31,7 +32,7 @@ fn by_shell(error: io::Error) -> Trouble {
     Trouble::Failed(Cause::Shell(error))
 }
 
-/// Starts the runner at `program` for the order. A runner tells nobody that it found no folder.
+/// Starts the runner at `program` for the order, and hands it the environment over. A runner tells nobody that it found no folder.
 pub(crate) fn start<R: Files + Processes>(
     rt: &R,
     alloc: Global,
@@ -42,41 +43,67 @@ pub(crate) fn start<R: Files + Processes>(
     if !fs::symlink_metadata(rt, folder)?.is_dir() {
         return Err(Trouble::from(io::Error::from(ErrorKind::NotADirectory)));
     }
-    match has_run(rt, start_command(alloc, program, folder, order)?) {
+    let number = order.number();
+    let entries = order.environment(alloc)?;
+    let command = start_command(alloc, program, folder, order)?;
+    hand_over(rt, alloc, folder, number, entries.as_slice())?;
+    match has_run(rt, command) {
         Ok(true) => Ok(()),
-        Ok(false) => Err(Trouble::Failed(Cause::Runner)),
+        Ok(false) => {
+            // what is left where this fails goes once the number is claimed
+            let _left = take_back(rt, alloc, folder, number);
+            Err(Trouble::Failed(Cause::Runner))
+        }
         Err(error) => Err(by_shell(error)),
     }
 }
 
+/// Whether a process has the pid.
+fn is_there<R: Files>(rt: &R, alloc: Global, pid: u32) -> Result<bool, Trouble> {
+    let path = format!(in alloc; "/proc/{pid}")?;
+    Ok(fs::symlink_metadata(rt, path.as_str()).is_ok())
+}
+
 /// Signals the pid. That no process has it is no failure.
-pub(crate) fn send<R: Processes>(
+pub(crate) fn send<R: Files + Processes>(
     rt: &R,
     alloc: Global,
     pid: u32,
     signal: Signal,
 ) -> Result<(), Trouble> {
     match has_run(rt, signal_command(alloc, signal, pid)?) {
-        Ok(_) => Ok(()),
+        Ok(true) => Ok(()),
+        Ok(false) if is_there(rt, alloc, pid)? => Err(Trouble::Failed(Cause::Unsignalled)),
+        Ok(false) => Ok(()),
         Err(error) => Err(by_shell(error)),
     }
 }
 
-/// Sends a kept signal once the pid is there; where no shell can be started it is kept on.
-pub(crate) fn send_kept<R: Processes>(rt: &R, alloc: Global, known: Known) -> Known
-    ensures standing { result.standing ≡ known.standing }
-    ensures changes { result.changes ≡ known.changes }
-    ensures kept { (result.kept ≡ known.kept) ⊎ (result.kept ≡ None) }
+/// Sends a kept signal once the pid is there; where no shell can be started it is kept on. Beside what is known then, whether the process
+/// is there and can't be signalled.
+pub(crate) fn send_kept<R: Files + Processes>(rt: &R, alloc: Global, known: Known) -> (Known, bool)
+    ensures standing { result.0.standing ≡ known.standing }
+    ensures changes { result.0.changes ≡ known.changes }
+    ensures kept { (result.0.kept ≡ known.kept) ⊎ (result.0.kept ≡ None) }
 {
-    match (known.standing, known.kept) {
-        (Standing::Running(Some(pid)), Some(signal)) => Known {
-            kept: if send(rt, alloc, pid, signal).is_ok() {
-                None
-            } else {
-                known.kept
+    let (Standing::Running(Some(pid)), Some(signal)) = (known.standing, known.kept) else {
+        return (known, false);
+    };
+    match send(rt, alloc, pid, signal) {
+        Ok(()) => (
+            Known {
+                kept: None,
+                ..known
             },
-            ..known
-        },
-        _ => known,
+            false,
+        ),
+        Err(trouble) if trouble.is_of_the_process() => (
+            Known {
+                kept: None,
+                ..known
+            },
+            true,
+        ),
+        Err(_) => (known, false),
     }
 }

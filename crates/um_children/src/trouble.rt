@@ -14,6 +14,9 @@ pub enum Cause {
     /// The system refused a shell, by which processes are started and signalled.
     #[error("{0}")]
     Shell(io::Error),
+    /// The process is there, and the shell's `kill` failed.
+    #[error("it can't be signalled")]
+    Unsignalled,
     /// The runner's program isn't there, or nobody can execute it.
     #[error("the runner can't be executed")]
     Runner,
@@ -22,12 +25,26 @@ pub enum Cause {
     Foreign,
 }
 
+impl Cause {
+    /// Whether a process is there that can't be signalled.
+    pub fn is_unsignalled(&self) -> bool {
+        matches!(self, Cause::Unsignalled)
+    }
+}
+
 /// Why a call isn't done.
 #[derive(Debug, Drop)]
 pub(crate) enum Trouble {
     /// A growth of memory was refused.
     NoMemory,
     Failed(Cause),
+}
+
+impl Trouble {
+    /// Whether it is the process itself that can't be signalled: another try would fail as this one did.
+    pub(crate) fn is_of_the_process(&self) -> bool {
+        matches!(self, Trouble::Failed(Cause::Unsignalled))
+    }
 }
 
 impl From<AllocError> for Trouble {

@@ -8,12 +8,11 @@ mod rows;
 use anyhow::bail;
 use std::env;
 use std::process::ExitCode;
-use um_runner::{Folder, FolderFault, RunnerLine};
+use um_runner::{FolderFault, RunnerLine};
 
 /// A runner.
 fn run(rt: &HostRuntime, line: &RunnerLine<'_>) -> Result<(), FolderFault> {
-    let mut folder = Folder::of(rt, rt.alloc(), line.folder, line.number);
-    um_runner::run(&mut folder, &line.job)
+    um_runner::run_line(rt, rt.alloc(), line)
 }
 
 /// The runner that these words ask for.

@@ -14,7 +14,7 @@ use Rattle.um_ctl.specs.Told.{is_plain, told_of}
 use Rattle.um_ctl.specs.View.{told_view}
 use Rattle.um_ctl.specs.Words.{verb_of, takes_text, request_data, IsReadAs}
 use Rattle.um_ctl.specs.declared.fault.CtlFault.{CtlFault}
-use Rattle.um_ctl.specs.declared.fault.CtlFault.TheVariants.{Usage, TooLarge, NoText, Input, NoReply, NoMemory}
+use Rattle.um_ctl.specs.declared.fault.CtlFault.TheVariants.{Usage, TooLarge, NoText, Late, Input, NoReply, NoMemory}
 use Rattle.um_ctl.specs.declared.reply.Told.{Told}
 use Rattle.um_ctl.specs.declared.words.Words.{Words}
 
@@ -66,3 +66,18 @@ abbrev pub IsNoReply : Verb → List ℕ → CtlFault → Type 0
 IsNoReply verb bytes NoReply = (d : Data) → IsJson bytes d → is_plain (get (codes "value") d) ≡ true → told_of verb d ≡ None
 IsNoReply verb bytes NoMemory = ⊤
 IsNoReply verb bytes other = ⊥
+
+-- only a time that was told is up
+abbrev pub IsLateBy : Option ℕ → CtlFault → Type 0
+IsLateBy timeout (Late seconds) = timeout ≡ Some seconds
+IsLateBy timeout other = ⊤
+
+-- a fault of the connection, with this time for the reply
+abbrev pub IsOfConnection : Option ℕ → CtlFault → Type 0
+IsOfConnection timeout Usage = ⊥
+IsOfConnection timeout TooLarge = ⊥
+IsOfConnection timeout NoText = ⊥
+IsOfConnection timeout (Input e) = ⊥
+IsOfConnection timeout NoReply = ⊥
+IsOfConnection timeout (Late seconds) = timeout ≡ Some seconds
+IsOfConnection timeout other = ⊤

@@ -2,7 +2,7 @@
 use Rattle.std.specs.Prelude.{ℕ, string_bytes}
 use Rattle.um_ctl.specs.Told as model
 use Rattle.um_ctl.specs.declared.fault.CtlFault.{CtlFault}
-use Rattle.um_ctl.specs.declared.fault.CtlFault.TheVariants.{Usage, TooLarge, NoText, NoConnection, Input, Read, Write, NoReply, NoMemory}
+use Rattle.um_ctl.specs.declared.fault.CtlFault.TheVariants.{Usage, TooLarge, NoText, NoConnection, Unread, Late, Input, Read, Write, NoReply, NoMemory}
 use Rattle.um_ctl.specs.declared.reply.Told.{Told}
 use Rattle.um_stream.specs.declared.fault.Fault.{Fault}
 use Rattle.um_stream.specs.declared.fault.Fault.TheVariants as stream
@@ -10,12 +10,14 @@ use Rattle.um_stream.specs.declared.fault.Fault.TheVariants as stream
 abbrev pub told_view : Told → model.Told
 told_view t = record { output = string_bytes t.output; error = string_bytes t.error; status = t.status }
 
--- the exit status of a fault: 1 refused, 2 wrong words, 4 no connection, 5 reading or writing failed
+-- the exit status of a fault: 1 refused, 2 wrong words, 4 nobody read the request, 5 reading or writing failed, 6 the time was up
 abbrev pub status_of : CtlFault → ℕ
 status_of Usage = 2
 status_of TooLarge = 1
 status_of NoText = 2
 status_of (NoConnection e) = 4
+status_of Unread = 4
+status_of (Late seconds) = 6
 status_of (Input e) = 5
 status_of (Read e) = 5
 status_of (Write e) = 5

@@ -2,15 +2,17 @@
 
 ghost use Rattle.std.specs.Prelude.{◌≡◌, ◌≢◌, ◌↔◌, ◌<◌, ◌^◌, None, IfOk, OnOk, IfErr, IsErrOf, length, option_map, string_bytes};
 ghost use Rattle.std.specs.Io.KnownBytes.{Appends};
-ghost use Rattle.um_ctl.specs.Prepares.{Prepares, IsAsked, IsNoReply, IsUnprepared, IsUntold, TellsReply, verb_told};
+ghost use Rattle.um_ctl.specs.Prepares.{Prepares, IsAsked, IsLateBy, IsNoReply, IsUnprepared, IsUntold, TellsReply, verb_told};
 ghost use Rattle.um_ctl.specs.Streams.{BeginsFrame, IsTextRead, TakesReply};
 ghost use Rattle.um_ctl.specs.Words.{takes_text as takes_text_of};
 ghost use Rattle.um_model.specs.Frames.{frame_of};
 ghost use Rattle.um_model.specs.Requests.{row_of};
 
+use crate::asking::reply_of;
 use crate::fault::CtlFault;
 use crate::reply::{Told, told_of};
 use crate::text::{FileText, read_text};
+use crate::waiting::{Patience, Waiting};
 use crate::words::{Words, takes_text};
 use crate::writing::request;
 use byteorder::{BigEndian, ByteOrder};
@@ -19,7 +21,7 @@ use std::alloc::Global;
 use std::io;
 use std::io::{ErrorKind, Read, Write};
 use std::net::Net;
-use std::os::unix::net::UnixStream;
+use std::time::Clock;
 use um_proto::Verb;
 use um_stream::{Fault, HEADER, put_frame, read_up_to};
 
@@ -115,26 +117,31 @@ fn tell_reply(alloc: Global, verb: Verb, bytes: &[u8]) -> Result<Told, CtlFault>
 
 /// Asks the manager at a socket for what the words say, with the text of a file from the input.
 ///
-/// The faults of `prepare` come first, before it connects; then `NoConnection`; `Read` and `Write` for the connection; `NoReply`.
-pub fn ask<N: Net, I: Read>(
+/// The faults of `prepare` come first, before it connects; then `NoConnection` where nobody serves the socket; `Unread` where the connection
+/// was closed before a byte of a reply came; `Read` and `Write` for the connection; `Late` where the time for the reply is up, if one is told:
+/// the request may have been taken all the same; `NoReply`. `NoConnection` for want of a socket or of a server, and `Unread`, come only once
+/// the time for retries is up.
+#[tactic(auto, using(crate::proofs::Untold::late_before))]
+pub fn ask<N: Net + Clock, I: Read>(
     rt: &N,
     alloc: Global,
     socket: &str,
     words: &Words,
+    patience: Patience,
     input: &mut I,
 ) -> Result<Told, CtlFault>
     ensures ok { IfOk result (IsAsked words.now (I.remaining input.old) (I.remaining input.new)) }
     ensures usage { IsErrOf result CtlFault.Usage ↔ verb_told words.now ≡ None }
     ensures err { IfErr result (IsUntold words.now (I.remaining input.old) (I.remaining input.new)) }
+    ensures late { IfErr result (IsLateBy patience.timeout) }
 {
     let (verb, request) = prepare(alloc, words, input)?;
     if request.len() > u32::MAX as usize {
         return Err(CtlFault::NoMemory);
     }
-    let stream = match UnixStream::connect(rt, socket) {
-        Ok(stream) => stream,
-        Err(e) => return Err(CtlFault::NoConnection(e)),
-    };
-    let reply = exchange(alloc, &mut &stream, &mut &stream, request.as_slice())?;
-    tell_reply(alloc, verb, reply.as_slice())
+    let waiting = Waiting::starting(rt, patience);
+    match reply_of(rt, alloc, waiting, socket, request.as_slice()) {
+        Ok(reply) => tell_reply(alloc, verb, reply.as_slice()),
+        Err(fault) => Err(fault),
+    }
 }

@@ -1,4 +1,5 @@
-//! Text as it is shown on standard error, where a control character of a name, a path or a key could mislead a terminal or a script.
+//! Text as it is shown on standard error, where a control character of a name, a path or a key, or a mark that turns the direction of text,
+//! could mislead a terminal or a script.
 
 ghost use Rattle.std.specs.Prelude.{◌≡◌, ◌++◌, ◌<◌, IfOk, OnOk, flat_map, string_bytes};
 ghost use Rattle.std.specs.Char.{digit_char};
@@ -9,7 +10,7 @@ ghost use Rattle.um_model.specs.Names.{byte_escape};
 use std::alloc::{AllocError, Global};
 
 /// The lower-case hexadecimal digit of a number below 16.
-fn hex_digit(n: u8) -> char
+pub(crate) fn hex_digit(n: u8) -> char
     requires { n < 16 }
     ensures value { result ≡ digit_char n }
     ensures ascii { result < 128 }
@@ -36,12 +37,22 @@ fn push_bytes(text: &mut String, bytes: &[u8]) -> Result<(), AllocError>
     Ok(())
 }
 
+/// Whether it is a mark by which a terminal may turn the direction of text.
+pub(crate) fn is_direction(c: char) -> bool
+    ensures { result ≡ model.is_direction c }
+{
+    matches!(
+        c,
+        '\u{61c}' | '\u{200e}'..='\u{200f}' | '\u{202a}'..='\u{202e}' | '\u{2066}'..='\u{2069}'
+    )
+}
+
 /// Puts a character as it is shown.
-#[tactic(auto, using(crate::proofs::ShownLaws::escapes_of_control))]
+#[tactic(auto, using(crate::proofs::ShownLaws::escapes_of_misleading))]
 fn push_shown(text: &mut String, c: char) -> Result<(), AllocError>
     ensures { OnOk result (string_bytes text.new ≡ string_bytes text.old ++ encode_utf8_all (model.shown_char c)) }
 {
-    if c.is_control() {
+    if c.is_control() || is_direction(c) {
         let mut buffer = [0; 4];
         push_bytes(text, c.encode_utf8(&mut buffer).as_bytes())
     } else {
@@ -49,8 +60,9 @@ fn push_shown(text: &mut String, c: char) -> Result<(), AllocError>
     }
 }
 
-/// The text as it is shown on standard error: a control character (below U+0020, and U+007F to U+009F) as `\x` and two lower-case
-/// hexadecimal digits for each of its bytes in UTF-8, so a line feed as `\x0a`; any other character as it is.
+/// The text as it is shown on standard error: a control character (below U+0020, and U+007F to U+009F) and a mark of direction (U+061C, U+200E,
+/// U+200F, U+202A to U+202E, U+2066 to U+2069) as `\x` and two lower-case hexadecimal digits for each of its bytes in UTF-8, so a line feed as
+/// `\x0a`; any other character as it is.
 pub fn shown(alloc: Global, text: &str) -> Result<String, AllocError>
     ensures { IfOk result (λ s. string_bytes s ≡ model.shown text.now) }
 {

@@ -16,6 +16,10 @@ pub enum CtlFault {
     NoText,
     /// Nobody serves the socket.
     NoConnection(io::Error),
+    /// The connection was closed before the frame was read whole: the manager has 64 clients, or it ended.
+    Unread,
+    /// No reply came within so many seconds.
+    Late(u32),
     /// Standard input couldn't be read.
     Input(io::Error),
     /// The connection couldn't be read.
@@ -29,15 +33,17 @@ pub enum CtlFault {
 }
 
 impl CtlFault {
-    /// The exit status: 1 refused, 2 for wrong words, 4 without a connection, 5 where reading or writing failed.
+    /// The exit status: 1 refused, 2 for wrong words, 4 where nobody read the request, 5 where reading or writing failed, 6 where the time
+    /// was up.
     pub fn status(&self) -> u8
         ensures { result ≡ status_of self.now }
     {
         match self {
             CtlFault::TooLarge | CtlFault::NoMemory => 1,
             CtlFault::Usage | CtlFault::NoText => 2,
-            CtlFault::NoConnection(_) => 4,
+            CtlFault::NoConnection(_) | CtlFault::Unread => 4,
             CtlFault::Input(_) | CtlFault::Read(_) | CtlFault::Write(_) | CtlFault::NoReply => 5,
+            CtlFault::Late(_) => 6,
         }
     }
 }

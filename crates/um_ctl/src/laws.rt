@@ -1,8 +1,7 @@
 ghost use Rattle.std.specs.Prelude.{◌≡◌, ◌≤◌, ◌++◌, ℕ, List, Some, false, length};
-ghost use Rattle.std.specs.Char.{is_control};
 ghost use Rattle.std.specs.List.{list_any};
 ghost use Rattle.std.specs.Str.{IsUtf8, chars};
-ghost use Rattle.um_ctl.specs.Shown.{shown, shown_chars};
+ghost use Rattle.um_ctl.specs.Shown.{misleads, misleads_in_json, on_terminal, shown, shown_chars, terminal_chars};
 ghost use Rattle.um_ctl.specs.Streams.{TakesReply};
 ghost use Rattle.um_model.specs.Frames.{frame_of};
 ghost use Rattle.um_model.specs.Replies.{reply_limit};
@@ -14,8 +13,11 @@ pub fn a_reply_is_one_frame()
     ensures one { (input a b r q : List ℕ) → TakesReply (Some input) (Some r) a → TakesReply (Some input) (Some q) b → (a ≡ b) × (r ≡ q) }
 {}
 
-/// What is shown holds no control character, and a text that holds none is shown as it is.
+/// What is shown holds no control character and no mark of direction, and a text that holds none is shown as it is; what goes to a terminal
+/// holds none of them but line feeds and others below U+0020, which JSON has escaped before.
 pub fn what_is_shown_has_no_control_character()
-    ensures plain { (text : List ℕ) → list_any is_control (shown_chars text) ≡ false }
-    ensures same { (text : List ℕ) → IsUtf8 text → list_any is_control (chars text) ≡ false → shown text ≡ text }
+    ensures plain { (text : List ℕ) → list_any misleads (shown_chars text) ≡ false }
+    ensures same { (text : List ℕ) → IsUtf8 text → list_any misleads (chars text) ≡ false → shown text ≡ text }
+    ensures terminal { (text : List ℕ) → list_any misleads_in_json (terminal_chars text) ≡ false }
+    ensures untouched { (text : List ℕ) → IsUtf8 text → list_any misleads_in_json (chars text) ≡ false → on_terminal text ≡ text }
 {}

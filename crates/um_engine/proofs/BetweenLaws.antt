@@ -1,5 +1,5 @@
 -- Rows that are put one after another in the place of those that were, and the delta that comes of them.
-use Rattle.std.proofs.Common.{◌≡◌, ◌∙◌, ◌+◌, ◌<◌, ◌≤◌, ℕ, List, length, set, get_or, sym, ap, inl, inr, arith}
+use Rattle.std.proofs.Common.{◌≡◌, ◌∙◌, ◌+◌, ◌<◌, ◌≤◌, ℕ, true, List, length, set, get_or, sym, ap, inl, inr, arith}
 use Rattle.std.proofs.lemmas.Bool.{cases_eq}
 use Rattle.std.proofs.lemmas.List.{get_or-set_same, get_or-set_other, get_or_default, length-set, same_lists}
 use Rattle.um_model.specs.Jobs.{no_jobs, with_jobs}
@@ -15,7 +15,7 @@ use Rattle.um_state.specs.Working.{AreRowsOf, WorkView, jobs_set, next_set, unit
 use Rattle.um_state.specs.declared.row.Numbered.{Numbered}
 use Rattle.um_state.proofs.PutLaws.{jobs_put_well, units_put}
 use Rattle.um_state.proofs.TableLaws.{row_set}
-use Rattle.um_engine.specs.Engine.{HasSameTables}
+use Rattle.um_engine.specs.Engine.{HasSameTreesAndNames}
 
 -- the first n of these rows stand in the work, in the place of those from which it began
 pub record HasPut (b : Standing) (units : List UnitState) (jobs : List UnitJobs) (n : ℕ) (w : WorkView) : Type 0 where
@@ -32,8 +32,8 @@ pub record HasPut (b : Standing) (units : List UnitState) (jobs : List UnitJobs)
 -- a state with its own rows
 own_rows : (b : Standing) (was : Numbered) → AreRowsOf b was → b ≡ with_rows b was.units.now was.jobs.now (state_of b).next
 own_rows b was are =
-    ap (λ m. record { state = record b.state { pending = m }; names = b.names }) (sym are.pending)
-    ∙ ap (λ m. record { state = record b.state { units = m; pending = jobs_by b.names was.jobs.now }; names = b.names }) (sym are.units)
+    ap (λ m. record b { state = record b.state { pending = m } }) (sym are.pending)
+    ∙ ap (λ m. record b { state = record b.state { units = m; pending = jobs_by b.names was.jobs.now } }) (sym are.units)
 
 pub none_put : (b : Standing) (units : List UnitState) (jobs : List UnitJobs) (was : Numbered) (w : WorkView) → AreRowsOf b was → w.base ≡ b → w.now ≡ w.base → HasPut b units jobs 0 w
 none_put b units jobs was w are base now = record {
@@ -65,14 +65,14 @@ module _ (b : Standing) (units : List UnitState) (jobs : List UnitJobs) (n : ℕ
   unit_there =
       put_unit
       ∙ (ap (λ (s : Standing). unit_set s n u) at.now
-      ∙ ap (λ m. record { state = record b.state { units = m; pending = jobs_by b.names at.now_jobs }; names = b.names })
+      ∙ ap (λ m. record b { state = record b.state { units = m; pending = jobs_by b.names at.now_jobs } })
       (sym (row_set dead_unit with_unit units_put b.names at.now_units at.sorted at.units_len n u (omega (arith, at.units_len, low)))))
 
   jobs_there : x.now ≡ with_rows b (set at.now_units n u) (set at.now_jobs n j) (state_of b).next
   jobs_there =
       put_jobs
       ∙ (ap (λ (s : Standing). jobs_set s n j) unit_there
-      ∙ ap (λ m. record { state = record b.state { units = units_by b.names (set at.now_units n u); pending = m }; names = b.names })
+      ∙ ap (λ m. record b { state = record b.state { units = units_by b.names (set at.now_units n u); pending = m } })
       (sym (row_set no_jobs with_jobs jobs_put_well b.names at.now_jobs at.sorted at.jobs_len n j (omega (arith, at.jobs_len, low)))))
 
   pub more_put : HasPut b units jobs (n + 1) x
@@ -98,20 +98,21 @@ all_put b units jobs n w units_len jobs_len past at =
     (same_lists at.now_jobs jobs (at.jobs_len ∙ sym jobs_len) (λ k d h. at.jobs_put k d (omega (arith, h, at.jobs_len, past)))))
 
 same_standing : (s t : Standing) → s.state.tree ≡ t.state.tree → s.state.loaded ≡ t.state.loaded → s.state.boot ≡ t.state.boot → s.state.clock ≡ t.state.clock → s.state.next ≡ t.state.next
-    → s.state.units ≡ t.state.units → s.state.pending ≡ t.state.pending → s.names ≡ t.names → s ≡ t
-same_standing s t tree loaded boot clock next units pending names = λ i. record {
+    → s.state.units ≡ t.state.units → s.state.pending ≡ t.state.pending → s.common ≡ t.common → s.names ≡ t.names → s ≡ t
+same_standing s t tree loaded boot clock next units pending common names = λ i. record {
   state = record { tree = tree i; loaded = loaded i; boot = boot i; clock = clock i; next = next i; units = units i; pending = pending i };
+  common = common i;
   names = names i;
 }
 
 -- the rows of another state that has the same tables lead to it
-pub leads_to : (b t d : Standing) (rows : Numbered) (v w x : WorkView) (clock next : ℕ) → HasSameTables b t → AreRowsOf t rows → v.base ≡ b → w.base ≡ v.base
+pub leads_to : (b t d : Standing) (rows : Numbered) (v w x : WorkView) (clock next : ℕ) → HasSameTreesAndNames b t → b.common ≡ true → AreRowsOf t rows → v.base ≡ b → w.base ≡ v.base
     → w.now ≡ with_rows v.base rows.units.now rows.jobs.now (state_of v.base).next → x.base ≡ w.base → x.now ≡ next_set w.now next → clock ≡ (state_of t).clock → next ≡ (state_of t).next
     → d ≡ timed clock (state_of x.now).next x.now → d ≡ t
-leads_to b t d rows v w x clock next same are first second put third set at is made =
+leads_to b t d rows v w x clock next same common are first second put third set at is made =
     let there : x.now ≡ next_set (with_rows b rows.units.now rows.jobs.now (state_of b).next) next =
     set ∙ ap (λ (s : Standing). next_set s next) (put ∙ ap (λ (s : Standing). with_rows s rows.units.now rows.jobs.now (state_of s).next) first) in
     let so : d ≡ timed clock next (with_rows b rows.units.now rows.jobs.now (state_of b).next) = made ∙ ap (λ (s : Standing). timed clock (state_of s).next s) there in
     so
     ∙ same_standing (timed clock next (with_rows b rows.units.now rows.jobs.now (state_of b).next)) t (sym same.tree) (sym same.loaded) (sym same.boot) at is
-    (ap (λ ns. units_by ns rows.units.now) (sym same.names) ∙ are.units) (ap (λ ns. jobs_by ns rows.jobs.now) (sym same.names) ∙ are.pending) (sym same.names)
+    (ap (λ ns. units_by ns rows.units.now) (sym same.names) ∙ are.units) (ap (λ ns. jobs_by ns rows.jobs.now) (sym same.names) ∙ are.pending) (common ∙ sym are.common) (sym same.names)

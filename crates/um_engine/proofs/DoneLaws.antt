@@ -1,10 +1,11 @@
 -- What is done in rows, by what is told of the work in which it was done and of the delta that comes of it.
-use Rattle.std.proofs.Common.{◌≡◌, ◌≢◌, ◌∙◌, ◌↔◌, ℕ, List, [], ◌∷◌, length, Contains, Ok, Err, vec_len, refl, sym, ap, subst, arith}
+use Rattle.std.proofs.Common.{◌≡◌, ◌≢◌, ◌∙◌, ◌↔◌, ℕ, true≢false, List, [], ◌∷◌, length, Contains, Ok, Err, vec_len, refl, sym, ap, subst, arith}
+use Rattle.std.proofs.lemmas.Option.{none-some}
 use Rattle.std.specs.Prelude.{IfErr, IsErrAnd, Result}
 use Rattle.um_falling.specs.Carrying.{Adds}
 use Rattle.um_falling.specs.Work.{Goes, Keeps, WorkView}
 use Rattle.um_model.specs.Jobs.{jobs_of_unit}
-use Rattle.um_model.specs.Machine.{State, AwaitsReport, Follows, Happens, IsProcessOf, IsTooHeavy, ProcessEnded, ProcessExecuted, Settles, Tick, end_of}
+use Rattle.um_model.specs.Machine.{State, AwaitsReport, Follows, Happening, Happens, HasNoEffect, IsProcessOf, IsTooHeavy, ProcessEnded, ProcessExecuted, Settles, Tick, end_of}
 use Rattle.um_model.specs.Service.{Action, state_of_unit}
 use Rattle.um_model.specs.Standing.{Standing}
 use Rattle.um_model.specs.declared.service.End.{End}
@@ -20,9 +21,13 @@ use Rattle.um_state.specs.declared.row.Row.{Row}
 use Rattle.um_wire.specs.Refusal.{refused_of}
 use Rattle.um_wire.specs.declared.refusal.Refusal.{Refusal}
 use Rattle.um_wire.specs.declared.refusal.Refusal.TheVariants.{NoMemory}
-use Rattle.um_engine.specs.Engine.{DiffersInRows, DoesRows, FollowsUpon, LeadsTo, MetBy, SettlesTooHeavy}
+use Rattle.um_engine.specs.Engine.{AreTrees, DiffersInRows, DoesBy, DoesRows, FollowsUpon, HasSameTrees, LeadsTo, MetBy, SettlesTooHeavy, TellsRows, changed}
 use Rattle.um_engine.specs.Served.{ServedView, WorksOn, begun_at, standing_of}
-use Rattle.um_engine.specs.declared.engine.Change.TheVariants.{Nothing, Rows}
+use Rattle.um_laws.proofs.KeepsLaws.{settles_keeps}
+use Rattle.um_engine.specs.declared.between.Trees.{Trees}
+use Rattle.um_engine.specs.declared.between.Trees.TheVariants.{Stay, Differ, Untold}
+use Rattle.um_engine.specs.declared.engine.Change.{Change}
+use Rattle.um_engine.specs.declared.engine.Change.TheVariants.{Nothing, Rows, Tables}
 use Rattle.um_engine.proofs.Ticks.{end_follows, follows_upon, report_follows, tick_acts, tick_follows, tick_is_idle}
 
 -- ---- rows leave the trees
@@ -34,6 +39,10 @@ rows_tree (r ∷ rows) s = rows_tree rows (put_row r s)
 rows_loaded : (rows : List Row) (s : Standing) → (rows_after rows s).state.loaded ≡ s.state.loaded
 rows_loaded [] s = refl
 rows_loaded (r ∷ rows) s = rows_loaded rows (put_row r s)
+
+rows_boot : (rows : List Row) (s : Standing) → (rows_after rows s).state.boot ≡ s.state.boot
+rows_boot [] s = refl
+rows_boot (r ∷ rows) s = rows_boot rows (put_row r s)
 
 -- ---- a state and itself differ in no row
 
@@ -92,11 +101,43 @@ module _ (s : Standing) (t : ℕ) (x : WorkView) (delta : Delta) (actions : List
   }
 
 -- what another relation has of all that it has is done too
-pub done_as : (Relation Other : List Action → State → Type 0) (t : ℕ) (s : Standing) (delta : Delta) (actions : List Action) → ((a : List Action) (v : State) → Relation a v → Other a v)
-    → DoesRows Relation t s delta actions → DoesRows Other t s delta actions
-done_as Relation Other t s delta actions more done = record {
+pub done_as : (Relation Other : List Action → State → Type 0) (t : ℕ) (s : Standing) (change : Change) (actions : List Action) → ((a : List Action) (v : State) → Relation a v → Other a v)
+    → DoesBy Relation t s change actions → DoesBy Other t s change actions
+done_as Relation Other t s change actions more done = record {
   leads = record { state = done.leads.state; leads = more actions done.leads.state done.leads.leads; is = done.leads.is };
-  rows = done.rows;
+  tells = done.tells;
+}
+
+-- ---- what the change of a delta does
+
+-- a change that leads where the delta does
+pub does_by : (Relation : List Action → State → Type 0) (t : ℕ) (s : Standing) (delta : Delta) (change : Change) (actions : List Action) → DoesRows Relation t s delta actions
+    → state_of (changed change s) ≡ state_of (delta_after delta s) → TellsRows s change → DoesBy Relation t s change actions
+does_by Relation t s delta change actions done same tells = record {
+  leads = record { state = done.leads.state; leads = done.leads.leads; is = same ∙ done.leads.is };
+  tells = tells;
+}
+
+pub met_by : (t : ℕ) (s : Standing) (happening : Happening) (change : Change) (actions : List Action) → ¬ HasNoEffect t (state_of s) happening
+    → DoesBy (Follows t (state_of s) happening) t s change actions → MetBy t s happening change actions
+met_by t s happening Nothing actions effect done = absurd (true≢false (sym done.tells.effect))
+met_by t s happening (Rows delta) actions effect done = (effect, done)
+met_by t s happening (Tables given rows) actions effect done = (effect, done)
+
+-- the delta itself
+pub tells_rows : (s : Standing) (delta : Delta) → CountsDiffering (state_of s) (state_of (delta_after delta s)) (vec_len delta.rows) → TellsRows s (Rows delta)
+tells_rows s delta count = record {
+  effect = refl;
+  rows = (rows_tree delta.rows.items (timed delta.clock delta.next s), rows_loaded delta.rows.items (timed delta.clock delta.next s), count);
+  tables = λ none. absurd (none-some (vec_len delta.rows) (sym none));
+}
+
+-- the trees and the boot's id stay
+pub same_trees : (s : Standing) (delta : Delta) (v : State) → v ≡ state_of (delta_after delta s) → HasSameTrees (state_of s) v
+same_trees s delta v is = record {
+  tree = ap (λ (x : State). x.tree) is ∙ rows_tree delta.rows.items (timed delta.clock delta.next s);
+  loaded = ap (λ (x : State). x.loaded) is ∙ rows_loaded delta.rows.items (timed delta.clock delta.next s);
+  boot = ap (λ (x : State). x.boot) is ∙ rows_boot delta.rows.items (timed delta.clock delta.next s);
 }
 
 -- ---- jobs begin after what a command did
@@ -162,25 +203,23 @@ happened_rows v t unit event w x y delta actions begins first happens second set
     (FollowsUpon t v.state unit event)
     (follows_upon t v.state (state_of w.now) (state_of x.now) (state_of y.now) unit event w.actions x.actions y.actions same none happened settled)
 
--- ---- what happens, by rows
+-- ---- what happens
 
-pub end_met : (t : ℕ) (s : Standing) (number : ℕ) (end : End) (unit : List ℕ) (event : UnitEvent) (delta : Delta) (actions : List Action) → IsProcessOf (state_of s).units number unit
-    → event ≡ end_of (state_of_unit (state_of s).units unit) number end → DoesRows (FollowsUpon t (state_of s) unit event) t s delta actions
-    → MetBy t s (ProcessEnded number end) (Rows delta) actions
-end_met t s number end unit event delta actions process is done = (
-  end_has_effect t (state_of s) number end unit process.has,
-  done_as (FollowsUpon t (state_of s) unit event) (Follows t (state_of s) (ProcessEnded number end)) t s delta actions
-      (λ a v h. end_follows t (state_of s) v number end unit event a process is h) done,
-)
+pub end_met : (t : ℕ) (s : Standing) (number : ℕ) (end : End) (unit : List ℕ) (event : UnitEvent) (change : Change) (actions : List Action) → IsProcessOf (state_of s).units number unit
+    → event ≡ end_of (state_of_unit (state_of s).units unit) number end → DoesBy (FollowsUpon t (state_of s) unit event) t s change actions
+    → MetBy t s (ProcessEnded number end) change actions
+end_met t s number end unit event change actions process is done =
+    met_by t s (ProcessEnded number end) change actions (end_has_effect t (state_of s) number end unit process.has)
+    (done_as (FollowsUpon t (state_of s) unit event) (Follows t (state_of s) (ProcessEnded number end)) t s change actions
+    (λ a v h. end_follows t (state_of s) v number end unit event a process is h) done)
 
-pub report_met : (t : ℕ) (s : Standing) (number : ℕ) (unit : List ℕ) (delta : Delta) (actions : List Action) → IsProcessOf (state_of s).units number unit
-    → AwaitsReport (state_of s) number unit → DoesRows (FollowsUpon t (state_of s) unit Executed) t s delta actions
-    → MetBy t s (ProcessExecuted number) (Rows delta) actions
-report_met t s number unit delta actions process awaits done = (
-  report_has_effect t (state_of s) number unit process awaits,
-  done_as (FollowsUpon t (state_of s) unit Executed) (Follows t (state_of s) (ProcessExecuted number)) t s delta actions
-      (λ a v h. report_follows t (state_of s) v number unit a process awaits h) done,
-)
+pub report_met : (t : ℕ) (s : Standing) (number : ℕ) (unit : List ℕ) (change : Change) (actions : List Action) → IsProcessOf (state_of s).units number unit
+    → AwaitsReport (state_of s) number unit → DoesBy (FollowsUpon t (state_of s) unit Executed) t s change actions
+    → MetBy t s (ProcessExecuted number) change actions
+report_met t s number unit change actions process awaits done =
+    met_by t s (ProcessExecuted number) change actions (report_has_effect t (state_of s) number unit process awaits)
+    (done_as (FollowsUpon t (state_of s) unit Executed) (Follows t (state_of s) (ProcessExecuted number)) t s change actions
+    (λ a v h. report_follows t (state_of s) v number unit a process awaits h) done)
 
 -- ---- a tick
 
@@ -220,16 +259,33 @@ module _ (v : ServedView) (t : ℕ) (w x : WorkView) (delta : Delta) (actions : 
         nothing,
       )
 
-  pub tick_goes : (vec_len delta.rows ≡ 0 → (state_of x.now).next ≡ v.state.next → actions ≡ [] → ⊥) → MetBy t (standing_of v) Tick (Rows delta) actions
-  tick_goes differs = (
-    tick_acts t v.state (state_of x.now) x.actions follows
-        (λ nothing same.
-        differs
-        (counts_none v.state (state_of (delta_after delta (standing_of v))) (vec_len delta.rows) (rows_done (standing_of v) t x delta actions ends_in).2
-        (same.units ∙ sym (ap (λ (z : Standing). (state_of z).units) is_after)) (same.pending ∙ sym (ap (λ (z : Standing). (state_of z).pending) is_after)))
-        (sym same.next) (asked ∙ nothing)),
-    done_rows (standing_of v) t x delta actions ends_in (Follows t v.state Tick) follows,
-  )
+  pub tick_counts : CountsDiffering v.state (state_of (delta_after delta (standing_of v))) (vec_len delta.rows)
+  tick_counts = (rows_done (standing_of v) t x delta actions ends_in).2
+
+  pub tick_goes : (change : Change) → state_of (changed change (standing_of v)) ≡ state_of (delta_after delta (standing_of v)) → TellsRows (standing_of v) change
+      → (vec_len delta.rows ≡ 0 → (state_of x.now).next ≡ v.state.next → actions ≡ [] → ⊥) → MetBy t (standing_of v) Tick change actions
+  tick_goes change leads tells differs =
+      met_by t (standing_of v) Tick change actions
+      (tick_acts t v.state (state_of x.now) x.actions follows
+      (λ nothing same.
+      differs
+      (counts_none v.state (state_of (delta_after delta (standing_of v))) (vec_len delta.rows) tick_counts
+      (same.units ∙ sym (ap (λ (z : Standing). (state_of z).units) is_after)) (same.pending ∙ sym (ap (λ (z : Standing). (state_of z).pending) is_after)))
+      (sym same.next) (asked ∙ nothing)))
+      (does_by (Follows t v.state Tick) t (standing_of v) delta change actions (done_rows (standing_of v) t x delta actions ends_in (Follows t v.state Tick) follows) leads tells)
+
+-- what is told of the trees holds still when jobs have begun
+pub trees_settled : (trees : Trees) (s u v : State) (t : ℕ) (actions : List Action) → AreTrees trees s u → LeadsTo (Settles t u) t actions v → AreTrees trees s v
+trees_settled Stay s u v t actions same leads =
+    let kept = settles_keeps t u actions leads.state leads.leads in
+    record {
+      tree = ap (λ (x : State). x.tree) leads.is ∙ (kept.tree ∙ same.tree);
+      loaded = ap (λ (x : State). x.loaded) leads.is ∙ (kept.loaded ∙ same.loaded);
+      boot = ap (λ (x : State). x.boot) leads.is ∙ (kept.boot ∙ same.boot);
+    }
+trees_settled Differ s u v t actions differs leads = λ same.
+    differs (sym (ap (λ (x : State). x.tree) leads.is ∙ (settles_keeps t u actions leads.state leads.leads).tree) ∙ same)
+trees_settled Untold s u v t actions none leads = tt
 
 -- a refusal that is handed on is for want of room as it was
 pub heavy_is : {X : Type 0} (size t : ℕ) (u : State) (before : List Action) (result : Result X Refusal) (e : Refusal) → IsErrAnd result (λ f. f ≡ e)

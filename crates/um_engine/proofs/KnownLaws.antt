@@ -1,6 +1,7 @@
 -- What is known for a state, by what the tests of it tell.
 use Rattle.std.proofs.Common.{◌≡◌, ◌⊎◌, ◌↔◌, ◌∙◌, ◌<◌, ◌≤◌, ℕ, List, [], Contains, Option, Some, None, Result, Ok, Err, is_some, Bool, true, true≢false, refl, sym, ap, subst, inl, inr, arith}
-use Rattle.std.specs.Prelude.{IfOk, MatchOption, slice_get, unwrap_or}
+use Rattle.std.specs.Prelude.{IfErr, IfOk, MatchOption, slice_get, unwrap_or}
+use Rattle.std.specs.Result.{IsErrAnd}
 use Rattle.std.proofs.lemmas.List.{get_or_default}
 use Rattle.std.proofs.lemmas.Option.{get_or_from_slice_get, none-some}
 use Rattle.um_graph.proofs.NamedLaws.{got_within}
@@ -17,6 +18,9 @@ use Rattle.um_laws.proofs.KnownLaws.{more_known}
 use Rattle.um_laws.proofs.SceneLaws.{one_count}
 use Rattle.um_model.proofs.TreeLaws.{without_run_twice}
 use Rattle.um_name.specs.Names.{IsApart}
+use Rattle.um_model.specs.declared.refusals.Limit.TheVariants as limits
+use Rattle.um_wire.specs.declared.refusal.Refusal.{Refusal}
+use Rattle.um_wire.specs.declared.refusal.Refusal.TheVariants as refusals
 use Rattle.um_graph.specs.Graph.{GraphView, IsGraphOf}
 use Rattle.um_state.specs.View.{state_of}
 use Rattle.um_falling.specs.Over.{Serves}
@@ -167,3 +171,19 @@ works_settled v w x t works keeps (new, settles, is) =
 pub works_knows : (v : ServedView) (w : WorkView) → KnowsFor v.known v.state → WorksOn v w → Serves w.graph (state_of w.now) → KnowsFor v.known (state_of w.now)
 works_knows v w knows works serves =
     knows_still v.known v.state (state_of w.now) knows works.loaded (λ x held. subst (λ (g : GraphView). Contains g.names x) works.graph (serves.held x held))
+
+-- what was made for those of the held units that the tree doesn't make known by itself is known for the state
+pub knows_by_named : (k : KnownView) (s : State) (tree : Tree) (held others : List (List ℕ)) → tree ≡ s.loaded → IsGraphFor tree (Contains k.extra) k.graph → k.extra ≡ others
+    → ((unit : List ℕ) → Contains k.lasting unit ↔ IsKnown (without_run tree) (Contains k.extra) unit) → ((unit : List ℕ) → Contains held unit ↔ IsHeld s unit)
+    → ((unit : List ℕ) → Contains held unit → IsKnown tree (Contains others) unit) → KnowsFor k s
+knows_by_named k s tree held others same made extras lasting is known = record {
+  made = subst (λ t. IsGraphFor t (Contains k.extra) k.graph) same made;
+  lasting = subst (λ t. (unit : List ℕ) → Contains k.lasting unit ↔ IsKnown (without_run t) (Contains k.extra) unit) same lasting;
+  held = λ unit h. (made.of.known unit).1 (subst (λ xs. IsKnown tree (Contains xs) unit) (sym extras) (known unit ((is unit).1 h)));
+}
+
+-- a call that gives on a refusal for too many units
+pub full_on : {X : Type 0} (Full : Type 0) (result : Result X Refusal) (e : Refusal) → IsErrAnd result (λ f. f ≡ e) → (¬ (e ≡ refusals.NoMemory) → (e ≡ refusals.TooLarge limits.Units) × Full)
+    → IfErr result (λ f. ¬ (f ≡ refusals.NoMemory) → (f ≡ refusals.TooLarge limits.Units) × Full)
+full_on Full (Ok x) e on full = absurd on
+full_on Full (Err f) e on full = subst (λ (r : Refusal). ¬ (r ≡ refusals.NoMemory) → (r ≡ refusals.TooLarge limits.Units) × Full) (sym on) full

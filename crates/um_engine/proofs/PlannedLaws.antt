@@ -1,5 +1,5 @@
 -- A command for a unit: why it is refused and what it changes, by the name that was found for it.
-use Rattle.std.proofs.Common.{◌≡◌, ◌≢◌, ◌⊎◌, ◌↔◌, ◌∙◌, ◌+◌, ◌<◌, ℕ, Bool, List, [], Contains, Option, Some, None, Result, Ok, Err, length, unwrap_or, refl, sym, ap, subst, inl, inr, arith}
+use Rattle.std.proofs.Common.{◌≡◌, ◌≢◌, ◌⊎◌, ◌↔◌, ◌∙◌, ◌+◌, ◌<◌, ℕ, Bool, List, [], Contains, Option, Some, None, Result, Ok, Err, length, unwrap_or, vec_len, refl, sym, ap, subst, inl, inr, arith}
 use Rattle.std.specs.Result.{IsErrAnd}
 use Rattle.std.specs.FinMap as map
 use Rattle.std.proofs.lemmas.Bool.{cases_lt}
@@ -11,6 +11,7 @@ use Rattle.um_model.specs.Machine.{State, IsCrowded, IsHeld, IsHeldOr, IsNotTher
 use Rattle.um_model.specs.Plan.{CausesOfPlan, IsPlan}
 use Rattle.um_model.specs.Refusals.{Refused}
 use Rattle.um_model.specs.Servable.{IsFew}
+use Rattle.um_model.specs.Standing.{Standing}
 use Rattle.um_model.specs.Service.{ByUnit, active_state_of, state_of_unit}
 use Rattle.um_model.specs.Tree.{Tree}
 use Rattle.um_model.specs.Units.{unit_named}
@@ -45,6 +46,7 @@ use Rattle.um_engine.specs.Planned.{AreActive, ArePending, HasPlan, IsTransactio
 use Rattle.um_engine.specs.Served.{ServedView, WorksOn, begun_at, standing_of}
 use Rattle.um_engine.proofs.NumberedLaws.{free_for, plan_for, refused_for}
 use Rattle.um_engine.proofs.SameUnitsLaws.{full_by}
+use Rattle.um_engine.proofs.DoneLaws.{without_rows}
 use Rattle.um_engine.proofs.Causes.{by_absence, by_fullness, by_plan, few_at_rest, few_planned, free_to_plan, free_to_rest, plans_to, rests_so}
 
 -- a call that gives on the refusal of another is refused for its cause
@@ -281,3 +283,11 @@ served_plan s root v u x t delta same clock works moment planned after is =
     let served : u.state ≡ state_of x.now =
     ap state_of (is ∙ (ap (delta_after delta) (sym works.base) ∙ after)) ∙ ap (λ m. record (state_of x.now) { clock = m }) at in
     subst (HasPlan s root) (sym served) plan
+
+-- a plan whose delta has no rows leaves the state as it is
+pub same_without : (s : State) (root : Demand × List ℕ) (v u : ServedView) (delta : Delta) → HasPlan s root u.state → v.state ≡ s → standing_of u ≡ delta_after delta (standing_of v)
+    → vec_len delta.rows ≡ 0 → u.state ≡ v.state
+same_without s root v u delta plan same is none =
+    let after : standing_of u ≡ timed delta.clock delta.next (standing_of v) = is ∙ without_rows delta (standing_of v) none in
+    let pending : u.state.pending ≡ v.state.pending = ap (λ (x : Standing). x.state.pending) after in
+    plan.rest ∙ (ap (λ (x : State). record x { pending = u.state.pending }) (sym same) ∙ ap (λ p. record v.state { pending = p }) pending)

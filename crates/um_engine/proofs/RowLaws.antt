@@ -19,20 +19,20 @@ use Rattle.um_graph.specs.Graph.{GraphView}
 use Rattle.um_falling.specs.Work.{WorkView}
 use Rattle.um_falling.proofs.AlongLaws.{pending_apart, units_apart}
 use Rattle.um_engine.specs.Known.{KnownView, KnowsFor}
-use Rattle.um_engine.specs.Served.{ServedView, begun_at, standing_of, trees_weight}
+use Rattle.um_engine.specs.Served.{IsNumberedBy, ServedView, begun_at, standing_of, trees_weight}
 use Rattle.um_engine.proofs.KnownLaws.{knows_still}
 
 module _ (k : KnownView) where
   -- the names with a number are those of the graph, and it is known for the state
   abbrev pub Stands : Standing → Type 0
-  Stands s = (s.names ≡ k.graph.names) × KnowsFor k s.state
+  Stands s = IsNumberedBy k.graph.names s × KnowsFor k s.state
 
   put_knows : (r : Row) (s : Standing) → Stands s → Stands (put_row r s)
-  put_knows r s (same, knows) = (
-    same,
+  put_knows r s (numbered, knows) = (
+    numbered,
     knows_still k s.state (put_row r s).state knows refl (λ x h. elim (cases_lt r.number (length s.names)) as (λ _. Contains k.graph.names x) [
       | inl within ↦ elim (same_name x (name_at s.names r.number)) as (λ _. Contains k.graph.names x) [
-        | inl is ↦ subst (Contains k.graph.names) (sym is) (subst (λ ns. Contains ns (name_at s.names r.number)) same (r.number, within, get_or_default s.names r.number (name_at s.names r.number) [] within))
+        | inl is ↦ subst (Contains k.graph.names) (sym is) (subst (λ ns. Contains ns (name_at s.names r.number)) numbered.1 (r.number, within, get_or_default s.names r.number (name_at s.names r.number) [] within))
         | inr apart ↦ knows.held x (before_within within x apart h)
       ]
       | inr past ↦ knows.held x (before_past past x h)
@@ -50,7 +50,7 @@ module _ (k : KnownView) where
       before_past past x (inr h) = inr (λ e. h (ap (λ m. map.get m x) (put_past no_jobs with_jobs jobs_put_well s.names s.state.pending r.number r.jobs past) ∙ e))
 
   timed_knows : (clock next : ℕ) (s : Standing) → Stands s → Stands (timed clock next s)
-  timed_knows clock next s (same, knows) = (same, knows_still k s.state (timed clock next s).state knows refl knows.held)
+  timed_knows clock next s (numbered, knows) = (numbered, knows_still k s.state (timed clock next s).state knows refl knows.held)
 
   pub after_knows : (rows : List Row) (s : Standing) → Stands s → Stands (rows_after rows s)
   after_knows [] s h = h
@@ -83,33 +83,33 @@ module _ (k : KnownView) where
   undo_weighs d s t n is so = so ∙ (sym (before_weighs d.rows.items s) ∙ ap (λ (x : Standing). trees_weight x.state) (sym is))
 
   -- the standing of what is served is that of its state
-  pub standing_so : (s : Standing) → s.names ≡ k.graph.names → standing_of (record { state = s.state; known = k }) ≡ s
-  standing_so s same = ap (λ ns. record { state = s.state; names = ns }) (sym same)
+  pub standing_so : (s : Standing) → IsNumberedBy k.graph.names s → standing_of (record { state = s.state; known = k }) ≡ s
+  standing_so s numbered = λ i. record { state = s.state; common = sym numbered.0 i; names = sym numbered.1 i }
 
 -- work that begins in what is served begins in its state
-pub served_begun : (v : ServedView) (k : KnownView) (s : Standing) → record { state = s.state; known = k } ≡ v → s.names ≡ k.graph.names → (g : GraphView) → g ≡ k.graph → (w : WorkView) (t : ℕ)
+pub served_begun : (v : ServedView) (k : KnownView) (s : Standing) → record { state = s.state; known = k } ≡ v → IsNumberedBy k.graph.names s → (g : GraphView) → g ≡ k.graph → (w : WorkView) (t : ℕ)
     → w ≡ begun_at s g t → w ≡ begun_at (standing_of v) v.known.graph t
-served_begun v k s seen same g shown w t is =
-    subst (λ (x : ServedView). w ≡ begun_at (standing_of x) x.known.graph t) seen (is ∙ (ap (λ h. begun_at s h t) shown ∙ ap (λ (y : Standing). begun_at y k.graph t) (sym (standing_so k s same))))
+served_begun v k s seen numbered g shown w t is =
+    subst (λ (x : ServedView). w ≡ begun_at (standing_of x) x.known.graph t) seen (is ∙ (ap (λ h. begun_at s h t) shown ∙ ap (λ (y : Standing). begun_at y k.graph t) (sym (standing_so k s numbered))))
 
 -- what is served after its state was given a delta, or was taken back
-module _ (k : KnownView) (s : Standing) (same : s.names ≡ k.graph.names) (knows : KnowsFor k s.state) (d : Delta) where
+module _ (k : KnownView) (s : Standing) (numbered : IsNumberedBy k.graph.names s) (knows : KnowsFor k s.state) (d : Delta) where
   pub delta_stands : (t : Standing) → t ≡ delta_after d s → Stands k t
-  delta_stands t is = subst (Stands k) (sym is) (delta_knows k d s (same, knows))
+  delta_stands t is = subst (Stands k) (sym is) (delta_knows k d s (numbered, knows))
 
   pub delta_served : (v : ServedView) (t : Standing) → record { state = s.state; known = k } ≡ v → t ≡ delta_after d s → standing_of (record { state = t.state; known = k }) ≡ delta_after d (standing_of v)
   delta_served v t seen is =
-      standing_so k t (delta_stands t is).0 ∙ (is ∙ subst (λ (x : ServedView). delta_after d s ≡ delta_after d (standing_of x)) seen (ap (delta_after d) (sym (standing_so k s same))))
+      standing_so k t (delta_stands t is).0 ∙ (is ∙ subst (λ (x : ServedView). delta_after d s ≡ delta_after d (standing_of x)) seen (ap (delta_after d) (sym (standing_so k s numbered))))
 
   pub undo_stands : (t : Standing) → t ≡ delta_before d s → Stands k t
-  undo_stands t is = subst (Stands k) (sym is) (back_knows k d s (same, knows))
+  undo_stands t is = subst (Stands k) (sym is) (back_knows k d s (numbered, knows))
 
   pub undo_served : (v : ServedView) (t : Standing) → record { state = s.state; known = k } ≡ v → t ≡ delta_before d s → standing_of (record { state = t.state; known = k }) ≡ delta_before d (standing_of v)
   undo_served v t seen is =
-      standing_so k t (undo_stands t is).0 ∙ (is ∙ subst (λ (x : ServedView). delta_before d s ≡ delta_before d (standing_of x)) seen (ap (delta_before d) (sym (standing_so k s same))))
+      standing_so k t (undo_stands t is).0 ∙ (is ∙ subst (λ (x : ServedView). delta_before d s ≡ delta_before d (standing_of x)) seen (ap (delta_before d) (sym (standing_so k s numbered))))
 
 -- and leads back by the delta that was exchanged for it
-pub back_served : (k : KnownView) (s t : Standing) (v : ServedView) (d : Delta) → s.names ≡ k.graph.names → t.names ≡ k.graph.names → record { state = s.state; known = k } ≡ v → delta_before d t ≡ s
+pub back_served : (k : KnownView) (s t : Standing) (v : ServedView) (d : Delta) → IsNumberedBy k.graph.names s → IsNumberedBy k.graph.names t → record { state = s.state; known = k } ≡ v → delta_before d t ≡ s
     → delta_before d (standing_of (record { state = t.state; known = k })) ≡ standing_of v
-back_served k s t v d same there seen is =
-    ap (delta_before d) (standing_so k t there) ∙ (is ∙ subst (λ (x : ServedView). s ≡ standing_of x) seen (sym (standing_so k s same)))
+back_served k s t v d numbered there seen is =
+    ap (delta_before d) (standing_so k t there) ∙ (is ∙ subst (λ (x : ServedView). s ≡ standing_of x) seen (sym (standing_so k s numbered)))

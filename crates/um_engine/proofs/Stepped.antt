@@ -1,6 +1,6 @@
 -- A step, by what is planned of it.
 use Rattle.um_falling.specs.Carrying.{Adds}
-use Rattle.std.proofs.Common.{◌≡◌, ◌≢◌, ◌∙◌, ◌↔◌, ℕ, Bool, true, false, true≢false, List, [], None, vec_len, refl, sym, ap, subst}
+use Rattle.std.proofs.Common.{◌≡◌, ◌≢◌, ◌∙◌, ◌↔◌, ℕ, Bool, true, false, true≢false, List, [], None, refl, sym, ap, subst}
 use Rattle.std.specs.Prelude.{IfErr, IfOk, IfSome, Result, Ok, Err}
 use Rattle.std.proofs.lemmas.Option.{none-some}
 use Rattle.um_model.specs.Machine as model
@@ -82,34 +82,35 @@ pub met_step : (size : ℕ) (s : Standing) (i : Input) (t : ℕ) (happening : Ha
 met_step size s i t happening reply all actions Nothing e f met g h = idle_step size (state_of s) i t happening reply all (state_of s) e f met.0 g (h ∙ met.1) refl
 met_step size s i t happening reply all actions (Rows delta) e f met g h =
     leads_step size (state_of s) i t happening reply all actions (state_of (changed (Rows delta) s)) e f met.0 met.1.leads g h
-met_step size s i t happening reply all actions (Tables given) e f met g h = leads_step size (state_of s) i t happening reply all actions given.state e f met.0 met.1 g h
+met_step size s i t happening reply all actions (Tables given rows) e f met g h =
+    leads_step size (state_of s) i t happening reply all actions (state_of (changed (Tables given rows) s)) e f met.0 met.1.leads g h
 
 pub met_effect : (t t' : ℕ) (s : Standing) (event : Event) (happening : Happening) (change : Change) (actions : List Action) (b : Bool)
     → event ≡ Happened happening → t ≡ t' → b ≡ is_change change → MetBy t s happening change actions → (b ≡ false) ↔ LacksEffect t' (state_of s) event
 met_effect t t' s event happening Nothing actions b e f g met =
     (λ _. subst (λ x. LacksEffect t' (state_of s) x) (sym e) (subst (λ n. HasNoEffect n (state_of s) happening) f met.0), λ _. g)
 met_effect t t' s event happening (Rows delta) actions b e f g met = acts_so t t' (state_of s) event happening b e f g met.0
-met_effect t t' s event happening (Tables given) actions b e f g met = acts_so t t' (state_of s) event happening b e f g met.0
+met_effect t t' s event happening (Tables given rows) actions b e f g met = acts_so t t' (state_of s) event happening b e f g met.0
 
 pub met_nothing : (t : ℕ) (s : Standing) (happening : Happening) (change : Change) (all actions : List Action) → MetBy t s happening change actions → all ≡ actions
     → is_change change ≡ false → (state_of (changed change s) ≡ state_of s) × (all ≡ [])
 met_nothing t s happening Nothing all actions met h none = (refl, h ∙ met.1)
 met_nothing t s happening (Rows delta) all actions met h none = absurd (true≢false none)
-met_nothing t s happening (Tables given) all actions met h none = absurd (true≢false none)
+met_nothing t s happening (Tables given rows) all actions met h none = absurd (true≢false none)
 
 -- and it tells how many rows it changes
 pub met_rows : (t : ℕ) (s : Standing) (happening : Happening) (change : Change) (actions : List Action) → MetBy t s happening change actions
     → IfSome (rows_of change) (DiffersInRows (state_of s) (state_of (changed change s)))
 met_rows t s happening Nothing actions met = none_differ (state_of s)
-met_rows t s happening (Rows delta) actions met = met.1.rows
-met_rows t s happening (Tables given) actions met = tt
+met_rows t s happening (Rows delta) actions met = met.1.tells.rows
+met_rows t s happening (Tables given rows) actions met = met.1.tells.rows
 
--- where it holds tables, they differ in more than rows
+-- where it tells none, more than rows differs
 pub met_tables : (t : ℕ) (s : Standing) (happening : Happening) (change : Change) (actions : List Action) → MetBy t s happening change actions → rows_of change ≡ None
-    → ¬ HasSameTables s (changed change s)
+    → ¬ HasSameTables (state_of s) (state_of (changed change s))
 met_tables t s happening Nothing actions met none = absurd (none-some 0 (sym none))
-met_tables t s happening (Rows delta) actions met none = absurd (none-some (vec_len delta.rows) (sym none))
-met_tables t s happening (Tables given) actions met none = met.2
+met_tables t s happening (Rows delta) actions met none = met.1.tells.tables none
+met_tables t s happening (Tables given rows) actions met none = met.1.tells.tables none
 
 pub command_effect : (t : ℕ) (s : State) (event : Event) (command : Command) (b : Bool) → event ≡ Commanded command → b ≡ true → (b ≡ false) ↔ LacksEffect t s event
 command_effect t s event command b e f = (λ h. absurd (true≢false (sym f ∙ h)), λ h. absurd (subst (λ x. LacksEffect t s x) e h))
@@ -148,9 +149,7 @@ module _ (size t : ℕ) (s : Standing) (command : Command) (o : Outcome) (free :
         is = settled.leads.is;
         reply = same_answer t (Commanded command) (state_of s) (state_by o) settled.leads.state (actions_by o) (actions_in n) (reply_in n) (reply ∙ answer) goes;
         room = settled.leads.leads.1;
-        effect = settled.effect;
-        rows = settled.rows;
-        tables = settled.tables;
+        tells = settled.tells;
       }
 
   pub declines_so : (r : Refused) → SettlesTooHeavy size t (state_by o) (actions_by o) r → Declines size t (state_of s) command r

@@ -116,11 +116,17 @@ boot_is_known t s boot is = (is_known is, refl)
 
 -- another one has
 pub boot_follows : (t : ℕ) (s : Standing) (boot : List ℕ) (after : ServedView) (u : State) → ¬ (boot ≡ (state_of s).boot) → u ≡ booted boot (state_of s)
-    → after.state ≡ record u { clock = t } → MetBy t s (Booted boot) (Tables after) []
+    → after.state ≡ record u { clock = t } → MetBy t s (Booted boot) (Tables after None) []
 boot_follows t s boot after u other is so = (
   boot_has_effect t (state_of s) boot other,
-  record { state = u; leads = subst (Follows t (state_of s) (Booted boot) []) (sym is) boots; is = so },
-  λ same. other (sym (ap (λ (v : State). v.boot) (so ∙ ap (λ (v : State). record v { clock = t }) is)) ∙ same.boot),
+  record {
+    leads = record { state = u; leads = subst (Follows t (state_of s) (Booted boot) []) (sym is) boots; is = so };
+    tells = record {
+      effect = refl;
+      rows = tt;
+      tables = λ none same. other (sym (ap (λ (v : State). v.boot) (so ∙ ap (λ (v : State). record v { clock = t }) is)) ∙ same.trees.boot);
+    };
+  },
 )
 
 -- texts are tested byte by byte

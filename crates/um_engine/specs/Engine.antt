@@ -1,7 +1,8 @@
 -- What an engine stands on, what a planned step and the way back make of that; and what the engine's helpers do, with the actions before and after.
-use Rattle.std.specs.Prelude.{◌≡◌, ℕ, ◌<◌, ◌≤◌, Bool, true, false, List, [], ◌++◌, Option, Some, None, IfSome, map, vec_len}
+use Rattle.std.specs.Prelude.{◌≡◌, ◌↔◌, ℕ, ◌<◌, ◌≤◌, Bool, true, false, List, [], ◌++◌, Option, Some, None, IfSome, map, vec_len}
 use Rattle.std.specs.FinMap as finite
 use Rattle.um_falling.specs.Carrying.{Adds}
+use Rattle.um_model.specs.Dependencies.{IsKnown}
 use Rattle.um_model.specs.Machine as model
 use Rattle.um_model.specs.Refusals.{Refused, no_room}
 use Rattle.um_model.specs.Service.{Action}
@@ -14,12 +15,15 @@ use Rattle.um_state.specs.Deltas.{delta_after, delta_before}
 use Rattle.um_state.specs.View.{state_of, reply_of, action_of}
 use Rattle.um_state.specs.Working.{CountsDiffering}
 use Rattle.um_state.specs.declared.delta.Delta.{Delta}
-use Rattle.um_engine.specs.Served.{standing_of}
+use Rattle.um_engine.specs.Exact.{IsExact, IsExactIfFew}
+use Rattle.um_engine.specs.Served.{ServedView, standing_of}
 use Rattle.um_engine.specs.declared.engine.Change.{Change}
 use Rattle.um_engine.specs.declared.engine.Change.TheVariants.{Nothing, Rows, Tables}
 use Rattle.um_engine.specs.declared.engine.Engine.{Engine}
 use Rattle.um_engine.specs.declared.engine.Next.{Next}
 use Rattle.um_engine.specs.declared.engine.Back.{Back}
+use Rattle.um_engine.specs.declared.between.Trees.{Trees}
+use Rattle.um_engine.specs.declared.between.Trees.TheVariants.{Stay, Differ, Untold}
 
 -- the state of an engine
 abbrev pub state_in : Engine → model.State
@@ -37,25 +41,25 @@ size_in e = e.size
 abbrev pub changed : Change → Standing → Standing
 changed Nothing s = s
 changed (Rows delta) s = delta_after delta s
-changed (Tables given) s = standing_of given
+changed (Tables given rows) s = standing_of given
 
 -- what a change that leads back makes of a standing
 abbrev pub unchanged : Change → Standing → Standing
 unchanged Nothing s = s
 unchanged (Rows delta) s = delta_before delta s
-unchanged (Tables given) s = standing_of given
+unchanged (Tables given rows) s = standing_of given
 
 -- it changes something
 abbrev pub is_change : Change → Bool
 is_change Nothing = false
 is_change (Rows delta) = true
-is_change (Tables given) = true
+is_change (Tables given rows) = true
 
--- how many rows it changes; none is told where it changes tables
+-- of how many units it changes what is held, where it tells that
 abbrev pub rows_of : Change → Option ℕ
 rows_of Nothing = Some 0
 rows_of (Rows delta) = Some (vec_len delta.rows)
-rows_of (Tables given) = None
+rows_of (Tables given rows) = rows
 
 -- the standing after a planned step that is taken
 abbrev pub state_after : Next → Standing → Standing
@@ -77,7 +81,35 @@ has_effect_in n = is_change n.change
 abbrev pub state_before : Back → Standing → Standing
 state_before b s = unchanged b.change s
 
--- of how many units a planned step changes how they stand or their pending jobs; none where it changes tables
+-- what an engine serves: its state, and what it knows of units
+abbrev pub served_in : Engine → ServedView
+served_in e = e.served
+
+-- what is served after a change
+abbrev pub served_by : Change → ServedView → ServedView
+served_by Nothing v = v
+served_by (Rows delta) v = record v { state = state_of (delta_after delta (standing_of v)) }
+served_by (Tables given rows) v = given
+
+-- what was served before it, by a change that leads back
+abbrev pub served_back : Change → ServedView → ServedView
+served_back Nothing v = v
+served_back (Rows delta) v = record v { state = state_of (delta_before delta (standing_of v)) }
+served_back (Tables given rows) v = given
+
+-- what is served after a planned step that is taken
+abbrev pub served_after : Next → ServedView → ServedView
+served_after n v = served_by n.change v
+
+-- what was served before a step that was taken
+abbrev pub served_before : Back → ServedView → ServedView
+served_before b v = served_back b.change v
+
+-- a change leaves what is known exact, where no more units are known behind it than may be
+abbrev pub KeepsExact : ServedView → Change → Type 0
+KeepsExact v change = IsExact v → IsExactIfFew (served_by change v)
+
+-- of how many units a planned step changes how they stand or their pending jobs, where it tells that
 abbrev pub rows_in : Next → Option ℕ
 rows_in n = rows_of n.change
 
@@ -85,8 +117,29 @@ rows_in n = rows_of n.change
 abbrev pub DiffersInRows : model.State → model.State → ℕ → Type 0
 DiffersInRows s t n = (t.tree ≡ s.tree) × (t.loaded ≡ s.loaded) × CountsDiffering s t n
 
--- all is the same but how units stand, their pending jobs, the moment and the next process number
-pub record HasSameTables (s t : Standing) : Type 0 where
+-- the tree in hand, the loaded tree and the boot's id are the same
+pub record HasSameTrees (s t : model.State) : Type 0 where
+  pub tree : t.tree ≡ s.tree
+  pub loaded : t.loaded ≡ s.loaded
+  pub boot : t.boot ≡ s.boot
+
+-- what is told of the trees that a command leaves holds of them
+abbrev pub AreTrees : Trees → model.State → model.State → Type 0
+AreTrees Stay s t = HasSameTrees s t
+AreTrees Differ s t = ¬ (t.tree ≡ s.tree)
+AreTrees Untold s t = Unit {0}
+
+-- just the same units are known: those of the loaded tree, and all of which the state holds anything
+abbrev pub KnowsTheSame : model.State → model.State → Type 0
+KnowsTheSame s t = (unit : List ℕ) → IsKnown s.loaded (model.IsHeld s) unit ↔ IsKnown t.loaded (model.IsHeld t) unit
+
+-- the trees, the boot's id and the known units are the same
+pub record HasSameTables (s t : model.State) : Type 0 where
+  pub trees : HasSameTrees s t
+  pub known : KnowsTheSame s t
+
+-- all is the same but how units stand, their pending jobs, the moment and the next process number; and so are the names with a number
+pub record HasSameTreesAndNames (s t : Standing) : Type 0 where
   pub tree : (state_of t).tree ≡ (state_of s).tree
   pub loaded : (state_of t).loaded ≡ (state_of s).loaded
   pub boot : (state_of t).boot ≡ (state_of s).boot
@@ -135,12 +188,21 @@ pub record DoesRows (Relation : List Action → model.State → Type 0) (t : ℕ
   pub leads : LeadsTo Relation t actions (state_of (delta_after delta s))
   pub rows : DiffersInRows (state_of s) (state_of (delta_after delta s)) (vec_len delta.rows)
 
+-- a change is one, and tells of how many units what is held differs unless a tree, the boot's id or the known units do
+pub record TellsRows (s : Standing) (change : Change) : Type 0 where
+  pub effect : is_change change ≡ true
+  pub rows : IfSome (rows_of change) (DiffersInRows (state_of s) (state_of (changed change s)))
+  pub tables : rows_of change ≡ None → ¬ HasSameTables (state_of s) (state_of (changed change s))
+
+-- a change leads there, and tells its rows
+pub record DoesBy (Relation : List Action → model.State → Type 0) (t : ℕ) (s : Standing) (change : Change) (actions : List Action) : Type 0 where
+  pub leads : LeadsTo Relation t actions (state_of (changed change s))
+  pub tells : TellsRows s change
+
 -- a change to the state that jobs lead to that begin after these actions, at the moment, and what is asked of processes by then
 pub record Settled (size t : ℕ) (s : Standing) (u : model.State) (before : List Action) (change : Change) (actions : List Action) : Type 0 where
   pub leads : LeadsTo (λ all v. Adds (model.Settles t u) before v all × (¬ model.IsTooHeavy size v)) t actions (state_of (changed change s))
-  pub effect : is_change change ≡ true
-  pub rows : IfSome (rows_of change) (DiffersInRows (state_of s) (state_of (changed change s)))
-  pub tables : rows_of change ≡ None → ¬ HasSameTables s (changed change s)
+  pub tells : TellsRows s change
 
 -- what jobs lead to that begin after these actions is too heavy
 pub record SettlesTooHeavy (size t : ℕ) (u : model.State) (before : List Action) (r : Refused) : Type 0 where
@@ -157,16 +219,12 @@ pub record Obeys (size t : ℕ) (s : Standing) (command : model.Command) (n : Ne
   pub is : state_of (state_after n s) ≡ record state { clock = t }
   pub reply : reply_in n ≡ model.reply_after (model.Commanded command) (state_of s).tree state.tree
   pub room : ¬ model.IsTooHeavy size state
-  pub effect : has_effect_in n ≡ true
-  pub rows : IfSome (rows_in n) (DiffersInRows (state_of s) (state_of (state_after n s)))
-  pub tables : rows_in n ≡ None → ¬ HasSameTables s (state_after n s)
+  pub tells : TellsRows s n.change
 
--- what changes by a happening: nothing, where it has no effect; else it leads to what follows, at the moment, and to other tables where it
--- holds tables
+-- what changes by a happening: nothing, where it has no effect; else it leads to what follows, at the moment
 abbrev pub MetBy : ℕ → Standing → model.Happening → Change → List Action → Type 0
 MetBy t s happening Nothing actions = model.HasNoEffect t (state_of s) happening × (actions ≡ [])
 MetBy t s happening (Rows delta) actions =
-    (¬ model.HasNoEffect t (state_of s) happening) × DoesRows (model.Follows t (state_of s) happening) t s delta actions
-MetBy t s happening (Tables given) actions =
-    (¬ model.HasNoEffect t (state_of s) happening) × LeadsTo (model.Follows t (state_of s) happening) t actions given.state
-    × (¬ HasSameTables s (standing_of given))
+    (¬ model.HasNoEffect t (state_of s) happening) × DoesBy (model.Follows t (state_of s) happening) t s (Rows delta) actions
+MetBy t s happening (Tables given rows) actions =
+    (¬ model.HasNoEffect t (state_of s) happening) × DoesBy (model.Follows t (state_of s) happening) t s (Tables given rows) actions

@@ -1,7 +1,7 @@
 -- What the engine knows of the units of a tree: the graph, the units for which it was made, and those that are known without the entries under `run/`.
 -- Follows no manual page: it is how the engine keeps what it knows of units.
 -- Commands and the room that a state takes stand on this file.
-use Rattle.std.specs.Prelude.{◌≡◌, ◌⊎◌, ◌↔◌, ℕ, List, Contains, Option, Some, None, slice_get}
+use Rattle.std.specs.Prelude.{◌≡◌, ◌⊎◌, ◌↔◌, ℕ, Bool, true, false, List, Contains, Option, Some, None, length, slice_get, slice_index_or}
 use Rattle.um_model.specs.Dependencies.{CountsFor, IsKnown, KnowsTooMany}
 use Rattle.um_model.specs.Machine.{State, IsHeld, IsHeldOr}
 use Rattle.um_model.specs.Tree.{Tree, without_run}
@@ -37,6 +37,11 @@ AreLasting tree extra (Some names) = (unit : List ℕ) → Contains names unit �
 -- among these numbers stands that of each unit of these names that isn't among those that are known without the entries under `run/`
 abbrev pub ArePassing : (names lasting : List (List ℕ)) → List ℕ → Type 0
 ArePassing names lasting passing = (i : ℕ) (unit : List ℕ) → slice_get names i ≡ Some unit → Contains lasting unit ⊎ Contains passing i
+
+-- by number: whether the unit of these names is one for which the graph was made
+pub record AreMarked (names extra : List (List ℕ)) (marks : List Bool) : Type 0 where
+  pub long : length marks ≡ length names
+  pub each : (i : ℕ) (unit : List ℕ) → slice_get names i ≡ Some unit → (slice_index_or marks i false ≡ true) ↔ Contains extra unit
 
 -- it was made for the state's loaded tree, tells which of its units are known without the entries under `run/`, and the state holds units of
 -- the graph alone

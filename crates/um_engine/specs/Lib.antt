@@ -1,5 +1,6 @@
 pub mod Demanded
 pub mod Engine
+pub mod Exact
 pub mod Filled
 pub mod Known
 pub mod OfStore

@@ -5,26 +5,27 @@ use Rattle.std.specs.Prelude.{◌≡◌, ℕ, List, []}
 use Rattle.um_model.specs.Machine as model
 use Rattle.um_model.specs.Service.{Action}
 use Rattle.um_state.specs.View.{state_of, reply_of}
+use Rattle.um_engine.specs.Engine.{AreTrees}
 use Rattle.um_engine.specs.Served.{ServedView, WorksOn}
 use Rattle.um_engine.specs.declared.commands.Outcome.{Outcome}
 use Rattle.um_engine.specs.declared.commands.Outcome.TheVariants.{Rows, Tables}
 
 abbrev pub state_by : Outcome → model.State
 state_by (Rows work) = state_of work.now
-state_by (Tables served reply) = served.state
+state_by (Tables served reply trees) = served.state
 
 abbrev pub reply_by : Outcome → model.Reply
 reply_by (Rows work) = model.Done
-reply_by (Tables served reply) = reply_of reply
+reply_by (Tables served reply trees) = reply_of reply
 
 abbrev pub actions_by : Outcome → List Action
 actions_by (Rows work) = work.actions
-actions_by (Tables served reply) = []
+actions_by (Tables served reply trees) = []
 
--- work in rows goes over what is served, at the moment
+-- work in rows goes over what is served, at the moment; and of tables it is told whether the trees differ
 abbrev pub IsBasedOn : ServedView → ℕ → Outcome → Type 0
 IsBasedOn v t (Rows work) = WorksOn v work × (work.moment ≡ t)
-IsBasedOn v t (Tables served reply) = Unit {0}
+IsBasedOn v t (Tables served reply trees) = AreTrees trees v.state served.state
 
 -- nothing is answered, and nothing is asked of processes yet
 pub record IsSilent (o : Outcome) : Type 0 where

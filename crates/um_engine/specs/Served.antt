@@ -1,7 +1,7 @@
 -- A state with what is known of its units, and the standing that both make.
 -- Follows no manual page: it is how the engine keeps what it knows of units.
 -- The engine, its steps and the ways back stand on this file.
-use Rattle.std.specs.Prelude.{◌≡◌, ◌+◌, ℕ, []}
+use Rattle.std.specs.Prelude.{◌≡◌, ◌+◌, ℕ, true, List, []}
 use Rattle.um_model.specs.Machine.{State}
 use Rattle.um_model.specs.Standing.{Standing}
 use Rattle.um_model.specs.Weight.{tree_weight}
@@ -14,9 +14,13 @@ pub record ServedView : Type 0 where
   pub state : State
   pub known : KnownView
 
+-- units and pending jobs have the numbers of these names in common
+abbrev pub IsNumberedBy : List (List ℕ) → Standing → Type 0
+IsNumberedBy names s = (s.common ≡ true) × (s.names ≡ names)
+
 -- the names that have a number are those of the graph
 abbrev pub standing_of : ServedView → Standing
-standing_of v = record { state = v.state; names = v.known.graph.names }
+standing_of v = record { state = v.state; common = true; names = v.known.graph.names }
 
 -- what the trees of a state weigh together
 abbrev pub trees_weight : State → ℕ

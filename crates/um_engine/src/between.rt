@@ -1,14 +1,30 @@
-//! What leads from one state to another by rows, where nothing but rows differs.
+//! Of how many units two states differ, where nothing else does.
 
-ghost use Rattle.std.specs.Prelude.{◌≡◌, ◌↔◌, None, length, vec_len, IfOk, IfSome, IsTrue};
-ghost use Rattle.um_engine.specs.Engine.{HasSameTables};
+ghost use Rattle.std.specs.Prelude.{◌≡◌, ◌↔◌, ℕ, true, List, Contains, None, length, vec_len, IfOk, IfSome, IsTrue};
+ghost use Rattle.um_engine.specs.Engine.{AreTrees, DiffersInRows, HasSameTreesAndNames, HasSameTables, HasSameTrees, KnowsTheSame};
+ghost use Rattle.um_model.specs.Dependencies.{IsKnown};
+ghost use Rattle.um_model.specs.Machine.{IsHeld};
+ghost use Rattle.um_name.specs.Names.{AreAscending};
 ghost use Rattle.um_state.specs.Deltas.{delta_after};
 ghost use Rattle.um_state.specs.View.{state_of};
 ghost use Rattle.um_state.specs.Working.{AreRowsOf, CountsDiffering, with_rows};
 
 use crate::same::{is_same_names, is_same_tree};
+use crate::served::Served;
 use std::alloc::{AllocError, Global};
+use um_graph::known_units;
+use um_name::Names;
 use um_state::{Delta, Numbered, State, Work};
+
+/// What is told of the trees that a command leaves, with no look into them.
+#[derive(Clone, Copy)]
+pub enum Trees {
+    /// Both are as they were, and so is the boot's id.
+    Stay,
+    /// The tree in hand is another one.
+    Differ,
+    Untold,
+}
 
 /// Whether the tree in hand, the loaded one and the boot's id are the same.
 fn has_same_trees(state: &State, other: &State) -> bool
@@ -22,6 +38,44 @@ fn has_same_trees(state: &State, other: &State) -> bool
         return false;
     }
     other.boot().as_str() == state.boot().as_str()
+}
+
+/// The same, with a look into the trees only where nothing is told of them.
+fn are_same(trees: Trees, state: &State, other: &State) -> bool
+    requires { AreTrees trees (state_of state.now) (state_of other.now) }
+    ensures { IsTrue result ↔ HasSameTrees (state_of state.now) (state_of other.now) }
+{
+    match trees {
+        Trees::Stay => true,
+        Trees::Differ => false,
+        Trees::Untold => has_same_trees(state, other),
+    }
+}
+
+/// The names of the units that are known for the state that is served.
+fn known_names(alloc: Global, served: &Served) -> Result<Names, AllocError>
+    ensures known { IfOk result (λ names. (unit : List ℕ) → Contains names unit ↔ IsKnown served.now.state.loaded (IsHeld served.now.state) unit) }
+    ensures ascending { IfOk result AreAscending }
+{
+    let state = served.state();
+    let known = served.known();
+    if known.is_exact(state) {
+        let names = known.names().copy()?;
+        return Ok(names);
+    }
+    let held = state.held(alloc)?;
+    let units = known_units(alloc, state.loaded(), &held)?;
+    let names = Names::of(alloc, &units)?;
+    Ok(names)
+}
+
+/// Whether just the same units are known for both.
+fn knows_the_same(alloc: Global, served: &Served, after: &Served) -> Result<bool, AllocError>
+    ensures { IfOk result (λ same. IsTrue same ↔ KnowsTheSame served.now.state after.now.state) }
+{
+    let names = known_names(alloc, served)?;
+    let others = known_names(alloc, after)?;
+    Ok(is_same_names(&names, &others))
 }
 
 /// Puts these rows in the place of those that were, from which the work begins. It takes no memory.
@@ -47,7 +101,7 @@ fn delta_to(
     after: &State,
     rows: Numbered<'_>,
 ) -> Result<Delta, AllocError>
-    requires same { HasSameTables base.now after.now }
+    requires same { HasSameTreesAndNames base.now after.now }
     requires was { AreRowsOf base.now was }
     requires rows { AreRowsOf after.now rows }
     ensures after { IfOk result (λ d. delta_after d base.now ≡ after.now) }
@@ -55,7 +109,7 @@ fn delta_to(
 {
     let Some(mut work) = Work::of(alloc, base)? else {
         // it has rows: these
-        return Err(AllocError);
+        unreachable!()
     };
     put_rows(&mut work, was, rows);
     work.set_next(after.next());
@@ -63,24 +117,52 @@ fn delta_to(
     Ok(delta)
 }
 
-/// What leads from one state to another, both with numbers for their units. None where a tree, the boot's id or the names with a number
-/// differ.
-pub fn rows_between(alloc: Global, base: &State, after: &State) -> Result<Option<Delta>, AllocError>
-    ensures same { IfOk result (λ made. IfSome made (λ _. HasSameTables base.now after.now)) }
-    ensures after { IfOk result (λ made. IfSome made (λ d. delta_after d base.now ≡ after.now)) }
-    ensures count { IfOk result (λ made. IfSome made (λ d. CountsDiffering (state_of base.now) (state_of after.now) (vec_len d.rows))) }
-    ensures none { IfOk result (λ made. made ≡ None → ¬ HasSameTables base.now after.now) }
+/// Of how many units what is held differs, by rows under the same numbers.
+fn rows_to(alloc: Global, base: &State, after: &State) -> Result<usize, AllocError>
+    requires same { HasSameTreesAndNames base.now after.now }
+    requires base { base.now.common ≡ true }
+    requires after { after.now.common ≡ true }
+    ensures { IfOk result (λ rows. CountsDiffering (state_of base.now) (state_of after.now) rows) }
 {
-    // what is served was numbered, so it has rows
     let Some(was) = base.numbered() else {
-        return Err(AllocError);
+        unreachable!()
     };
     let Some(rows) = after.numbered() else {
-        return Err(AllocError);
+        unreachable!()
     };
-    if !has_same_trees(base, after) || !is_same_names(was.names, rows.names) {
+    let delta = delta_to(alloc, base, was, after, rows)?;
+    Ok(delta.len())
+}
+
+/// Of how many units what is held differs, where the trees and the known units are the same: by name, since the numbers may be others.
+fn rows_by_name(alloc: Global, served: &Served, after: &Served) -> Result<usize, AllocError>
+    requires { HasSameTables served.now.state after.now.state }
+    ensures { IfOk result (λ rows. CountsDiffering served.now.state after.now.state rows) }
+{
+    let mut base = served.state().copy()?;
+    base.number(after.known().names())?;
+    let rows = rows_to(alloc, &base, after.standing())?;
+    Ok(rows)
+}
+
+/// Of how many units what is held differs after a step. None where a tree, the boot's id or the known units differ.
+pub fn rows_between(
+    alloc: Global,
+    served: &Served,
+    after: &Served,
+    trees: Trees,
+) -> Result<Option<usize>, AllocError>
+    requires { AreTrees trees served.now.state after.now.state }
+    ensures rows { IfOk result (λ made. IfSome made (DiffersInRows served.now.state after.now.state)) }
+    ensures none { IfOk result (λ made. made ≡ None → ¬ HasSameTables served.now.state after.now.state) }
+{
+    if !are_same(trees, served.state(), after.state()) {
         return Ok(None);
     }
-    let delta = delta_to(alloc, base, was, after, rows)?;
-    Ok(Some(delta))
+    let same = knows_the_same(alloc, served, after)?;
+    if !same {
+        return Ok(None);
+    }
+    let rows = rows_by_name(alloc, served, after)?;
+    Ok(Some(rows))
 }

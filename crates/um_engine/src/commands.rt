@@ -1,8 +1,8 @@
 //! What a command does, and why it is refused.
 
-ghost use Rattle.std.specs.Prelude.{◌≡◌, [], false, Err, IfOk, IfErr, OnOk};
+ghost use Rattle.std.specs.Prelude.{◌≡◌, [], ℕ, false, None, Err, IfOk, IfErr, OnOk};
 ghost use Rattle.um_engine.specs.Known.{KnowsFor};
-ghost use Rattle.um_engine.specs.Outcomes.{IsBasedOn, actions_by, reply_by, state_by};
+ghost use Rattle.um_engine.specs.Outcomes.{IsBasedOn, IsSilent, actions_by, reply_by, state_by};
 ghost use Rattle.um_engine.specs.Served.{WorksOn};
 ghost use Rattle.um_falling.specs.Work.{Keeps};
 ghost use Rattle.um_model.specs.Install.{paths_beyond};
@@ -10,18 +10,20 @@ ghost use Rattle.um_model.specs.Jobs.{cancelled, jobs_of_unit};
 ghost use Rattle.um_model.specs.Live.{HoldsNoMore};
 ghost use Rattle.um_model.specs.Machine as model;
 ghost use Rattle.um_model.specs.Refusals as told;
-ghost use Rattle.um_model.specs.Tree.{put_file, put_link, remove_at};
+ghost use Rattle.um_model.specs.Tree.{link_cause, put_cause, put_file, put_link, remove_at, remove_cause};
 ghost use Rattle.um_model.specs.Waiting.{has_waiting};
 ghost use Rattle.um_state.specs.View.{state_of, command_of, reply_of};
 ghost use Rattle.um_wire.specs.Gives.{RefusesBy};
 ghost use Rattle.um_wire.specs.Refusal.{refused_of};
 ghost use Rattle.um_wire.specs.declared.refusal.Refusal.TheVariants.{NoMemory};
 
+use crate::between::Trees;
 use crate::known::Known;
 use crate::loading::{check_order, known_of_loaded};
 use crate::numbered::jobs_in;
 use crate::planning::planned;
 use crate::resetting::{asked_unit, without_failures};
+use crate::same::has_entry;
 use crate::served::Served;
 use std::alloc::{AllocError, Global};
 use std::rc::Rc;
@@ -30,7 +32,7 @@ use um_install::{Installed, check_units, relink};
 use um_model::{InstallVerb, Moment};
 use um_name::UnitName;
 use um_state::{Command, Reply, State};
-use um_tree::Tree;
+use um_tree::{Entry, Tree};
 use um_wire::{Refusal, no_such_job};
 
 /// Takes out the jobs of the unit that wait. Where none of them waits it is refused (E21).
@@ -71,7 +73,8 @@ fn without_waiting<'s>(
 
 /// Refuses a file with the text at the path for the first cause there is, before anything is copied.
 fn check_put(alloc: Global, state: &State, path: &str, text: &str) -> Result<(), Refusal>
-    ensures { IfErr result (λ e. ¬ (e ≡ NoMemory) → put_file (state_of state.now).tree path.now text.now ≡ Err (refused_of e)) }
+    ensures ok { OnOk result (put_cause (state_of state.now).tree path.now text.now ≡ None) }
+    ensures refused { IfErr result (λ e. ¬ (e ≡ NoMemory) → put_file (state_of state.now).tree path.now text.now ≡ Err (refused_of e)) }
 {
     match state.tree().put_cause(path, text) {
         Some(cause) => Err(cause.refusal(alloc)),
@@ -80,11 +83,10 @@ fn check_put(alloc: Global, state: &State, path: &str, text: &str) -> Result<(),
 }
 
 /// The state with the file in its tree in hand.
-fn with_file(alloc: Global, state: &State, path: &str, text: &str) -> Result<State, Refusal>
+fn with_file(state: &State, path: &str, text: &str) -> Result<State, Refusal>
     ensures changed { IfOk result (λ u. model.Changes (state_of state.now) (model.PutFile path.now text.now) (state_of u)) }
     ensures refused { RefusesBy (model.Refuses (state_of state.now) (model.PutFile path.now text.now)) result }
 {
-    check_put(alloc, state, path, text)?;
     let mut changed = state.copy()?;
     changed.put_file(path, text)?;
     Ok(changed)
@@ -92,7 +94,8 @@ fn with_file(alloc: Global, state: &State, path: &str, text: &str) -> Result<Sta
 
 /// Refuses a link to the target at the path for the first cause there is, before anything is copied.
 fn check_link(alloc: Global, state: &State, path: &str, target: &str) -> Result<(), Refusal>
-    ensures { IfErr result (λ e. ¬ (e ≡ NoMemory) → put_link (state_of state.now).tree path.now target.now ≡ Err (refused_of e)) }
+    ensures ok { OnOk result (link_cause (state_of state.now).tree path.now target.now ≡ None) }
+    ensures refused { IfErr result (λ e. ¬ (e ≡ NoMemory) → put_link (state_of state.now).tree path.now target.now ≡ Err (refused_of e)) }
 {
     match state.tree().link_cause(path, target) {
         Some(cause) => Err(cause.refusal(alloc)),
@@ -101,11 +104,10 @@ fn check_link(alloc: Global, state: &State, path: &str, target: &str) -> Result<
 }
 
 /// The state with the link in its tree in hand.
-fn with_link(alloc: Global, state: &State, path: &str, target: &str) -> Result<State, Refusal>
+fn with_link(state: &State, path: &str, target: &str) -> Result<State, Refusal>
     ensures changed { IfOk result (λ u. model.Changes (state_of state.now) (model.PutLink path.now target.now) (state_of u)) }
     ensures refused { RefusesBy (model.Refuses (state_of state.now) (model.PutLink path.now target.now)) result }
 {
-    check_link(alloc, state, path, target)?;
     let mut changed = state.copy()?;
     changed.put_link(path, target)?;
     Ok(changed)
@@ -113,7 +115,8 @@ fn with_link(alloc: Global, state: &State, path: &str, target: &str) -> Result<S
 
 /// Refuses a removal at the path for the first cause there is, before anything is copied.
 fn check_remove(alloc: Global, state: &State, path: &str) -> Result<(), Refusal>
-    ensures { IfErr result (λ e. ¬ (e ≡ NoMemory) → remove_at (state_of state.now).tree path.now ≡ Err (refused_of e)) }
+    ensures ok { OnOk result (remove_cause (state_of state.now).tree path.now ≡ None) }
+    ensures refused { IfErr result (λ e. ¬ (e ≡ NoMemory) → remove_at (state_of state.now).tree path.now ≡ Err (refused_of e)) }
 {
     match state.tree().remove_cause(path) {
         Some(cause) => Err(cause.refusal(alloc)),
@@ -122,11 +125,10 @@ fn check_remove(alloc: Global, state: &State, path: &str) -> Result<(), Refusal>
 }
 
 /// The state without what stands in its tree in hand at the path.
-fn without_path(alloc: Global, state: &State, path: &str) -> Result<State, Refusal>
+fn without_path(state: &State, path: &str) -> Result<State, Refusal>
     ensures changed { IfOk result (λ u. model.Changes (state_of state.now) (model.Remove path.now) (state_of u)) }
     ensures refused { RefusesBy (model.Refuses (state_of state.now) (model.Remove path.now)) result }
 {
-    check_remove(alloc, state, path)?;
     let mut changed = state.copy()?;
     changed.remove(path)?;
     Ok(changed)
@@ -137,8 +139,8 @@ fn without_path(alloc: Global, state: &State, path: &str) -> Result<State, Refus
 pub enum Outcome<'s> {
     /// Units and pending jobs alone change, and nothing is answered.
     Rows(Work<'s>),
-    /// A tree, or what is known of units, is made anew.
-    Tables(Served, Reply),
+    /// A tree, or what is known of units, is made anew; and what is told of the trees.
+    Tables(Served, Reply, Trees),
 }
 
 /// The state as a command left its trees, with nothing new that it holds: what is known stays.
@@ -147,6 +149,63 @@ fn kept(served: &Served, state: State) -> Result<Served, AllocError>
     ensures { IfOk result (λ u. u.state ≡ state_of state) }
 {
     Served::numbered(state, served.share_known()?)
+}
+
+/// What a file with the text at the path leads to: no rows, where it stands there already. No other text is looked into.
+fn filed<'s>(
+    alloc: Global,
+    served: &'s Served,
+    moment: Moment,
+    path: &str,
+    text: &str,
+) -> Result<Outcome<'s>, Refusal>
+    ensures changed { IfOk result (λ o. model.Changes served.now.state (model.PutFile path.now text.now) (state_by o)) }
+    ensures silent { IfOk result (λ o. IsSilent o) }
+    ensures based { IfOk result (IsBasedOn served.now moment) }
+    ensures refused { RefusesBy (model.Refuses served.now.state (model.PutFile path.now text.now)) result }
+{
+    let state = served.state();
+    check_put(alloc, state, path, text)?;
+    if has_entry(state.tree(), path, Entry::File(text)) {
+        return Ok(Outcome::Rows(served.work(alloc, moment)?));
+    }
+    let changed = with_file(state, path, text)?;
+    Ok(Outcome::Tables(kept(served, changed)?, Reply::Done, Trees::Differ))
+}
+
+/// What a link to the target at the path leads to: no rows, where it stands there already.
+fn linked<'s>(
+    alloc: Global,
+    served: &'s Served,
+    moment: Moment,
+    path: &str,
+    target: &str,
+) -> Result<Outcome<'s>, Refusal>
+    ensures changed { IfOk result (λ o. model.Changes served.now.state (model.PutLink path.now target.now) (state_by o)) }
+    ensures silent { IfOk result (λ o. IsSilent o) }
+    ensures based { IfOk result (IsBasedOn served.now moment) }
+    ensures refused { RefusesBy (model.Refuses served.now.state (model.PutLink path.now target.now)) result }
+{
+    let state = served.state();
+    check_link(alloc, state, path, target)?;
+    if has_entry(state.tree(), path, Entry::Link(target)) {
+        return Ok(Outcome::Rows(served.work(alloc, moment)?));
+    }
+    let changed = with_link(state, path, target)?;
+    Ok(Outcome::Tables(kept(served, changed)?, Reply::Done, Trees::Differ))
+}
+
+/// What it leads to that what stands in the tree in hand at the path is removed.
+fn removed<'s>(alloc: Global, served: &'s Served, path: &str) -> Result<Outcome<'s>, Refusal>
+    ensures changed { IfOk result (λ o. model.Changes served.now.state (model.Remove path.now) (state_by o)) }
+    ensures silent { IfOk result (λ o. IsSilent o) }
+    ensures based { IfOk result (λ o. (t : ℕ) → IsBasedOn served.now t o) }
+    ensures refused { RefusesBy (model.Refuses served.now.state (model.Remove path.now)) result }
+{
+    let state = served.state();
+    check_remove(alloc, state, path)?;
+    let changed = without_path(state, path)?;
+    Ok(Outcome::Tables(kept(served, changed)?, Reply::Done, Trees::Differ))
 }
 
 /// The state with its tree in hand as the loaded one.
@@ -219,18 +278,22 @@ pub fn done<'s>(
     let state = served.state();
     match command {
         Command::PutFile { path, text } => {
-            let changed = with_file(alloc, state, path.as_str(), text.as_str())?;
-            Ok(Outcome::Tables(kept(served, changed)?, Reply::Done))
+            let outcome = filed(alloc, served, moment, path.as_str(), text.as_str())?;
+            Ok(outcome)
         }
         Command::PutLink { path, target } => {
-            let changed = with_link(alloc, state, path.as_str(), target.as_str())?;
-            Ok(Outcome::Tables(kept(served, changed)?, Reply::Done))
+            let outcome = linked(alloc, served, moment, path.as_str(), target.as_str())?;
+            Ok(outcome)
         }
         Command::Remove { path } => {
-            let changed = without_path(alloc, state, path.as_str())?;
-            Ok(Outcome::Tables(kept(served, changed)?, Reply::Done))
+            let outcome = removed(alloc, served, path.as_str())?;
+            Ok(outcome)
         }
-        Command::DaemonReload => Ok(Outcome::Tables(reloaded(alloc, state)?, Reply::Done)),
+        Command::DaemonReload => Ok(Outcome::Tables(
+            reloaded(alloc, state)?,
+            Reply::Done,
+            Trees::Untold,
+        )),
         Command::ForUnit { verb, unit, mode } => {
             let outcome = planned(alloc, served, moment, *verb, unit, *mode)?;
             Ok(outcome)
@@ -243,7 +306,7 @@ pub fn done<'s>(
         }
         Command::Install { verb, unit } => {
             let (served, reply) = installed(alloc, state, *verb, unit)?;
-            Ok(Outcome::Tables(served, reply))
+            Ok(Outcome::Tables(served, reply, Trees::Untold))
         }
     }
 }

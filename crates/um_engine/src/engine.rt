@@ -1,20 +1,22 @@
-ghost use Rattle.std.specs.Prelude.{◌≡◌, ◌≢◌, ◌↔◌, [], true, false, None, is_some, map, IfOk, IfErr, IfSome, IsTrue, MatchOption, OnOk};
-ghost use Rattle.um_engine.specs.Engine.{DiffersInRows, HasSameTables, LacksEffect, LeadsTo, Obeys, Settled, SettlesTooHeavy, changed, is_change, rows_of, standing_in, state_in, size_in, has_effect_in, rows_in, state_after, reply_in, actions_in, state_before};
+ghost use Rattle.std.specs.Prelude.{◌≡◌, ◌≢◌, ◌↔◌, [], true, false, All, None, is_some, map, vec_len, IfOk, IfErr, IfSome, IsTrue, OnOk};
+ghost use Rattle.um_engine.specs.Engine.{AreTrees, DiffersInRows, HasSameTables, KeepsExact, LacksEffect, LeadsTo, Obeys, Settled, SettlesTooHeavy, TellsRows, changed, standing_in, state_in, size_in, has_effect_in, rows_in, state_after, reply_in, actions_in, state_before, served_after, served_before, served_by, served_in};
+ghost use Rattle.um_engine.specs.Exact.{IsExact, IsExactIfFew, LetsNoneGo};
 ghost use Rattle.um_engine.specs.OfStore.{is_of_store};
 ghost use Rattle.um_engine.specs.Planned.{Declines};
 ghost use Rattle.um_engine.specs.Served.{WorksOn, standing_of};
-ghost use Rattle.um_engine.specs.declared.engine.Change.TheVariants as changes;
 ghost use Rattle.um_falling.specs.Work.{Goes, Keeps};
 ghost use Rattle.um_model.specs.Machine as model;
 ghost use Rattle.um_model.specs.Machine.{Step, moment_of};
 ghost use Rattle.um_model.specs.Refusals.{Refused};
 ghost use Rattle.um_model.specs.Servable.{IsServable};
+ghost use Rattle.um_state.specs.Deltas.{delta_after};
+ghost use Rattle.um_state.specs.Working.{CountsDiffering};
 ghost use Rattle.um_state.specs.View.{state_of, input_of, query_of, reply_of, action_of, command_of};
 ghost use Rattle.um_wire.specs.Gives.{RefusesBy};
 ghost use Rattle.um_wire.specs.Refusal.{refused_of};
 ghost use Rattle.um_wire.specs.declared.refusal.Refusal.TheVariants.{NoMemory};
 
-use crate::between::rows_between;
+use crate::between::{Trees, rows_between};
 use crate::commands::{Outcome, done};
 use crate::happenings::{is_unawaited, met};
 use crate::loading::known_of_loaded;
@@ -52,10 +54,10 @@ impl Drop for Engine {
 #[derive(Drop)]
 pub(crate) enum Change {
     Nothing,
-    /// The rows of some units, the moment and the next process number; trees and known units stay.
+    /// The rows of some units, the moment and the next process number; trees and numbers stay.
     Rows(Delta),
-    /// All: the state, and what is known of its units.
-    Tables(Served),
+    /// All: the state, and what is known of its units. And of how many units what is held differs, where neither trees nor known units do.
+    Tables(Served, Option<usize>),
 }
 
 /// A step that is planned and not yet taken: of use for the engine that planned it, in the state that it had then.
@@ -75,7 +77,7 @@ impl Next {
         match &self.change {
             Change::Nothing => Some(0),
             Change::Rows(delta) => Some(delta.len()),
-            Change::Tables(_) => None,
+            Change::Tables(_, rows) => *rows,
         }
     }
 
@@ -86,7 +88,7 @@ impl Next {
     {
         match self.change {
             Change::Nothing => false,
-            Change::Rows(_) | Change::Tables(_) => true,
+            Change::Rows(_) | Change::Tables(_, _) => true,
         }
     }
 }
@@ -104,6 +106,7 @@ impl Engine {
         ensures state { IfOk result (λ made. IfSome made (λ e. state_in e ≡ state_of state)) }
         ensures size { IfOk result (λ made. IfSome made (λ e. size_in e ≡ size)) }
         ensures some { IfOk result (λ made. IsTrue (is_some made) ↔ IsServable size (state_of state)) }
+        ensures exact { IfOk result (λ made. IfSome made (λ e. IsExact (served_in e))) }
     {
         match servable(alloc, state, size) {
             Ok(served) => Ok(Some(Engine {
@@ -137,12 +140,15 @@ impl Engine {
     /// The step that a command is at the moment.
     fn obeyed(&self, moment: Moment, command: &Command) -> Result<Next, Refusal>
         ensures obeys { IfOk result (λ next. Obeys (size_in self.now) moment (standing_in self.now) (command_of command.now) next) }
+        ensures exact { IfOk result (λ next. KeepsExact (served_in self.now) next.change) }
         ensures refused { IfErr result (λ e. ¬ (e ≡ NoMemory) → Declines (size_in self.now) moment (state_in self.now) (command_of command.now) (refused_of e)) }
     {
         let outcome = done(self.alloc, &self.served, moment, command)?;
         match outcome {
             Outcome::Rows(work) => self.with_rows(work),
-            Outcome::Tables(served, reply) => self.with_tables(served, reply, moment),
+            Outcome::Tables(served, reply, trees) => {
+                self.with_tables(served, reply, trees, moment)
+            }
         }
     }
 
@@ -151,14 +157,16 @@ impl Engine {
         requires { WorksOn self.now.served work }
         ensures settled { IfOk result (λ next.
             Settled (size_in self.now) work.entry.moment (standing_in self.now) (state_of work.entry.now) work.entry.actions next.change (actions_in next)) }
+        ensures exact { IfOk result (λ next. KeepsExact (served_in self.now) next.change) }
         ensures reply { IfOk result (λ next. reply_in next ≡ model.Done) }
         ensures refused { IfErr result (λ e. ¬ (e ≡ NoMemory)
             → SettlesTooHeavy (size_in self.now) work.entry.moment (state_of work.entry.now) work.entry.actions (refused_of e)) }
     {
         self.settle_rows(&mut work)?;
         let (delta, actions) = work.done()?;
+        let change = change_by(self.alloc, &self.served, delta)?;
         Ok(Next {
-            change: Change::Rows(delta),
+            change,
             reply: Reply::Done,
             actions,
         })
@@ -179,13 +187,21 @@ impl Engine {
     }
 
     /// The step to these tables once jobs have begun at the moment.
-    fn with_tables(&self, served: Served, reply: Reply, moment: Moment) -> Result<Next, Refusal>
+    fn with_tables(
+        &self,
+        served: Served,
+        reply: Reply,
+        trees: Trees,
+        moment: Moment,
+    ) -> Result<Next, Refusal>
+        requires { AreTrees trees self.now.served.state served.state }
         ensures settled { IfOk result (λ next.
             Settled (size_in self.now) moment (standing_in self.now) served.state [] next.change (actions_in next)) }
+        ensures exact { IfOk result (λ next. KeepsExact (served_in self.now) next.change) }
         ensures reply { IfOk result (λ next. reply_in next ≡ reply_of reply) }
         ensures refused { IfErr result (λ e. ¬ (e ≡ NoMemory) → SettlesTooHeavy (size_in self.now) moment served.state [] (refused_of e)) }
     {
-        let (change, actions) = self.change_to(served, moment)?;
+        let (change, actions) = self.change_to(served, trees, moment)?;
         Ok(Next {
             change,
             reply,
@@ -194,26 +210,40 @@ impl Engine {
     }
 
     /// The change to these tables once jobs have begun at the moment, and what is asked of processes.
-    fn change_to(&self, served: Served, moment: Moment) -> Result<(Change, Vec<Action>), Refusal>
+    fn change_to(
+        &self,
+        served: Served,
+        trees: Trees,
+        moment: Moment,
+    ) -> Result<(Change, Vec<Action>), Refusal>
+        requires { AreTrees trees self.now.served.state served.state }
         ensures settled { IfOk result (λ r.
             Settled (size_in self.now) moment (standing_in self.now) served.state [] r.0 (map action_of r.1.items)) }
+        ensures exact { IfOk result (λ r. KeepsExact (served_in self.now) r.0) }
         ensures refused { IfErr result (λ e. ¬ (e ≡ NoMemory) → SettlesTooHeavy (size_in self.now) moment served.state [] (refused_of e)) }
     {
-        let mut served = served;
-        let actions = self.settle_in_room(&mut served, moment)?;
-        let change = change_between(self.alloc, &self.served, served)?;
+        let (after, actions) = self.settle_in_room(served, moment)?;
+        let change = change_between(self.alloc, &self.served, after, trees)?;
         Ok((change, actions))
     }
 
-    /// Lets jobs begin in these tables at the moment, and tells what is asked of processes. Refused is what weighs too much then (E14).
-    fn settle_in_room(&self, served: &mut Served, moment: Moment) -> Result<Vec<Action>, Refusal>
-        ensures leads { IfOk result (λ r. LeadsTo (model.Settles moment served.old.state) moment (map action_of r.items) served.new.state) }
-        ensures room { IfOk result (λ _. ¬ model.IsTooHeavy (size_in self.now) served.new.state) }
-        ensures refused { IfErr result (λ e. ¬ (e ≡ NoMemory) → SettlesTooHeavy (size_in self.now) moment served.old.state [] (refused_of e)) }
+    /// Lets jobs begin in these tables at the moment, with what is known of just the units that count then, and tells what is asked of
+    /// processes. Refused is what weighs too much then (E14).
+    fn settle_in_room(
+        &self,
+        served: Served,
+        moment: Moment,
+    ) -> Result<(Served, Vec<Action>), Refusal>
+        ensures leads { IfOk result (λ r. LeadsTo (model.Settles moment served.state) moment (map action_of r.1.items) r.0.state) }
+        ensures exact { IfOk result (λ r. IsExactIfFew r.0) }
+        ensures room { IfOk result (λ r. ¬ model.IsTooHeavy (size_in self.now) r.0.state) }
+        ensures refused { IfErr result (λ e. ¬ (e ≡ NoMemory) → SettlesTooHeavy (size_in self.now) moment served.state [] (refused_of e)) }
     {
-        let actions = settle_served(self.alloc, served, moment)?;
-        check_room(self.alloc, served, self.size)?;
-        Ok(actions)
+        let mut settled = served;
+        let actions = settle_served(self.alloc, &mut settled, moment)?;
+        let after = settled.exactly(self.alloc)?;
+        check_room(self.alloc, &after, self.size)?;
+        Ok((after, actions))
     }
 
     /// The step that the input is. It is refused as the machine refuses it, or for want of memory (E15); nothing has changed then.
@@ -232,7 +262,8 @@ impl Engine {
         ensures rows { IfOk result (λ next.
             IfSome (rows_in next) (DiffersInRows (state_in self.now) (state_after next (standing_in self.now)).state)) }
         ensures tables { IfOk result (λ next.
-            rows_in next ≡ None → ¬ HasSameTables (standing_in self.now) (state_after next (standing_in self.now))) }
+            rows_in next ≡ None → ¬ HasSameTables (state_in self.now) (state_after next (standing_in self.now)).state) }
+        ensures exact { IfOk result (λ next. IsExact (served_in self.now) → IsExact (served_after next (served_in self.now))) }
     {
         let moment = self.served.state().clock().or_later(input.moment());
         match input.event() {
@@ -271,6 +302,8 @@ impl Engine {
         ensures reply { reply_of result.0 ≡ reply_in next }
         ensures actions { map action_of result.1.items ≡ actions_in next }
         ensures back { state_before result.2 (standing_in self.new) ≡ standing_in self.old }
+        ensures serves { served_in self.new ≡ served_after next (served_in self.old) }
+        ensures served { served_before result.2 (served_in self.new) ≡ served_in self.old }
     {
         let Next {
             change,
@@ -283,7 +316,10 @@ impl Engine {
                 self.served.swap(&mut delta);
                 Change::Rows(delta)
             }
-            Change::Tables(served) => Change::Tables(mem::replace(&mut self.served, served)),
+            Change::Tables(served, _) => {
+                let was = mem::replace(&mut self.served, served);
+                Change::Tables(was, None)
+            }
         };
         (reply, actions, Back { change })
     }
@@ -291,13 +327,14 @@ impl Engine {
     /// Takes back the step that the last commit of this engine took. It takes no memory and always succeeds, as `commit`.
     pub fn back(&mut self, back: Back)
         ensures state { standing_in self.new ≡ state_before back (standing_in self.old) }
+        ensures serves { served_in self.new ≡ served_before back (served_in self.old) }
         ensures size { size_in self.new ≡ size_in self.old }
     {
         let Back { change } = back;
         match change {
             Change::Nothing => {}
             Change::Rows(delta) => self.served.undo(delta),
-            Change::Tables(served) => self.served = served,
+            Change::Tables(served, _) => self.served = served,
         }
     }
 
@@ -320,6 +357,7 @@ impl Engine {
 /// circle (E9).
 fn served_of(alloc: Global, state: State) -> Result<Served, Refusal>
     ensures state { IfOk result (λ served. served.state ≡ state_of state) }
+    ensures exact { IfOk result IsExactIfFew }
     ensures refused { RefusesBy (model.CausesOfLoad (state_of state) (state_of state).loaded) result }
 {
     let known = known_of_loaded(alloc, &state, state.loaded())?;
@@ -331,6 +369,7 @@ fn served_of(alloc: Global, state: State) -> Result<Served, Refusal>
 fn servable(alloc: Global, state: State, size: u64) -> Result<Served, Refusal>
     ensures state { IfOk result (λ served. served.state ≡ state_of state) }
     ensures servable { IfOk result (λ _. IsServable size (state_of state)) }
+    ensures exact { IfOk result IsExact }
     ensures refused { IfErr result (λ e. ¬ (e ≡ NoMemory) → ¬ IsServable size (state_of state)) }
 {
     let served = served_of(alloc, state)?;
@@ -353,23 +392,46 @@ fn settle_served(
     Ok(actions)
 }
 
-/// The change of these rows, or to these tables where there are none.
-fn change_of(rows: Option<Delta>, after: Served) -> Change
-    ensures { MatchOption rows (result ≡ changes.Tables after) (λ delta. result ≡ changes.Rows delta) }
+/// What leads from what is served to these tables: with a count of rows, where no tree differs and the same units are known.
+fn change_between(
+    alloc: Global,
+    served: &Served,
+    after: Served,
+    trees: Trees,
+) -> Result<Change, AllocError>
+    requires { AreTrees trees served.now.state after.state }
+    ensures leads { IfOk result (λ change. state_of (changed change (standing_of served.now)) ≡ after.state) }
+    ensures serves { IfOk result (λ change. served_by change served.now ≡ after) }
+    ensures tells { IfOk result (λ change. TellsRows (standing_of served.now) change) }
 {
-    match rows {
-        Some(delta) => Change::Rows(delta),
-        None => Change::Tables(after),
-    }
+    let rows = rows_between(alloc, served, &after, trees)?;
+    Ok(Change::Tables(after, rows))
 }
 
-/// What leads from what is served to these tables: rows, where nothing else differs.
-fn change_between(alloc: Global, served: &Served, after: Served) -> Result<Change, AllocError>
-    ensures leads { IfOk result (λ change. changed change (standing_of served.now) ≡ standing_of after) }
-    ensures effect { IfOk result (λ change. is_change change ≡ true) }
-    ensures rows { IfOk result (λ change. IfSome (rows_of change) (DiffersInRows served.now.state after.state)) }
-    ensures tables { IfOk result (λ change. rows_of change ≡ None → ¬ HasSameTables (standing_of served.now) (standing_of after)) }
+/// What is served with the delta taken, and with what is known of just its units then.
+fn after_delta(alloc: Global, served: &Served, delta: Delta) -> Result<Served, AllocError>
+    ensures state { IfOk result (λ after. after.state ≡ state_of (delta_after delta (standing_of served.now))) }
+    ensures exact { IfOk result IsExactIfFew }
 {
-    let rows = rows_between(alloc, served.standing(), after.standing())?;
-    Ok(change_of(rows, after))
+    let mut after = served.copy()?;
+    let mut delta = delta;
+    after.swap(&mut delta);
+    let exact = after.exactly(alloc)?;
+    Ok(exact)
+}
+
+/// The change that a delta is. Where after it nothing is held any more of a unit that is known by that alone, what is known is made anew.
+pub(crate) fn change_by(alloc: Global, served: &Served, delta: Delta) -> Result<Change, AllocError>
+    requires { CountsDiffering served.now.state (state_of (delta_after delta (standing_of served.now))) (vec_len delta.rows) }
+    ensures leads { IfOk result (λ change. state_of (changed change (standing_of served.now)) ≡ state_of (delta_after delta (standing_of served.now))) }
+    ensures exact { IfOk result (KeepsExact served.now) }
+    ensures stays { IfOk result (λ change. All (LetsNoneGo served.now.known) delta.rows.items → (served_by change served.now).known ≡ served.now.known) }
+    ensures tells { IfOk result (λ change. TellsRows (standing_of served.now) change) }
+{
+    if !served.known().is_let_go(delta.rows()) {
+        return Ok(Change::Rows(delta));
+    }
+    let after = after_delta(alloc, served, delta)?;
+    let change = change_between(alloc, served, after, Trees::Stay)?;
+    Ok(change)
 }

@@ -2,7 +2,7 @@
 
 ghost use Rattle.std.specs.Bool.{Decides};
 ghost use Rattle.std.specs.Prelude.{◌≡◌, ◌↔◌, ◌&&◌, ℕ, true, [], Contains, map, vec_len, IfOk, IsTrue};
-ghost use Rattle.um_engine.specs.Engine.{DoesRows, FollowsUpon, MetBy};
+ghost use Rattle.um_engine.specs.Engine.{DoesBy, FollowsUpon, KeepsExact, MetBy};
 ghost use Rattle.um_engine.specs.Served.{begun_at, standing_of};
 ghost use Rattle.um_falling.specs.Over.{Serves};
 ghost use Rattle.um_falling.specs.Work.{Goes, Keeps};
@@ -12,7 +12,7 @@ ghost use Rattle.um_model.specs.Service.{is_number, state_of_unit};
 ghost use Rattle.um_state.specs.View.{state_of, happening_of, action_of};
 ghost use Rattle.um_wire.specs.declared.refusal.Refusal.TheVariants.{NoMemory};
 
-use crate::engine::Change;
+use crate::engine::{Change, change_by};
 use crate::numbered::number_of;
 use crate::served::Served;
 use crate::settling::{fire, settle};
@@ -43,16 +43,18 @@ fn after_happening(
     moment: Moment,
     unit: &UnitName,
     event: UnitEvent,
-) -> Result<(Delta, Vec<Action>), AllocError>
+) -> Result<(Change, Vec<Action>), AllocError>
     requires { Contains served.now.known.graph.names unit.now }
-    ensures { IfOk result (λ r. DoesRows (FollowsUpon moment served.now.state unit.now event) moment (standing_of served.now) r.0 (map action_of r.1.items)) }
+    ensures does { IfOk result (λ r. DoesBy (FollowsUpon moment served.now.state unit.now event) moment (standing_of served.now) r.0 (map action_of r.1.items)) }
+    ensures exact { IfOk result (λ r. KeepsExact served.now r.0) }
 {
     let mut work = served.work(alloc, moment)?;
     let number = number_of(work.graph(), unit);
     happen(&mut work, number, event)?;
     settle(&mut work)?;
     let (delta, actions) = work.done()?;
-    Ok((delta, actions))
+    let change = change_by(alloc, served, delta)?;
+    Ok((change, actions))
 }
 
 /// What changes by the end of a process; nothing where no live process has the number.
@@ -63,7 +65,8 @@ fn after_end(
     number: u64,
     end: End,
 ) -> Result<(Change, Vec<Action>), AllocError>
-    ensures { IfOk result (λ met. MetBy moment (standing_of served.now) (model.ProcessEnded number end) met.0 (map action_of met.1.items)) }
+    ensures met { IfOk result (λ met. MetBy moment (standing_of served.now) (model.ProcessEnded number end) met.0 (map action_of met.1.items)) }
+    ensures exact { IfOk result (λ met. KeepsExact served.now met.0) }
 {
     let units = served.state().units();
     let unit = match units.process(number) {
@@ -71,8 +74,8 @@ fn after_end(
         None => return Ok((Change::Nothing, Vec::new(alloc))),
     };
     let event = end_of(units.get(unit), number, end);
-    let (delta, actions) = after_happening(alloc, served, moment, unit, event)?;
-    Ok((Change::Rows(delta), actions))
+    let (change, actions) = after_happening(alloc, served, moment, unit, event)?;
+    Ok((change, actions))
 }
 
 /// Whether the process is there and has the number.
@@ -124,7 +127,8 @@ fn after_report(
     moment: Moment,
     number: u64,
 ) -> Result<(Change, Vec<Action>), AllocError>
-    ensures { IfOk result (λ met. MetBy moment (standing_of served.now) (model.ProcessExecuted number) met.0 (map action_of met.1.items)) }
+    ensures met { IfOk result (λ met. MetBy moment (standing_of served.now) (model.ProcessExecuted number) met.0 (map action_of met.1.items)) }
+    ensures exact { IfOk result (λ met. KeepsExact served.now met.0) }
 {
     let units = served.state().units();
     let unit = match units.process(number) {
@@ -135,8 +139,8 @@ fn after_report(
         return Ok((Change::Nothing, Vec::new(alloc)));
     }
     let event = UnitEvent::Executed;
-    let (delta, actions) = after_happening(alloc, served, moment, unit, event)?;
-    Ok((Change::Rows(delta), actions))
+    let (change, actions) = after_happening(alloc, served, moment, unit, event)?;
+    Ok((change, actions))
 }
 
 /// Whether the next number is as it was.
@@ -172,7 +176,8 @@ fn after_tick(
     served: &Served,
     moment: Moment,
 ) -> Result<(Change, Vec<Action>), AllocError>
-    ensures { IfOk result (λ met. MetBy moment (standing_of served.now) model.Tick met.0 (map action_of met.1.items)) }
+    ensures met { IfOk result (λ met. MetBy moment (standing_of served.now) model.Tick met.0 (map action_of met.1.items)) }
+    ensures exact { IfOk result (λ met. KeepsExact served.now met.0) }
 {
     let state = served.state();
     if state.units().none_due(moment) {
@@ -184,7 +189,8 @@ fn after_tick(
     if is_idle(is_next, &delta, actions.as_slice()) {
         return Ok((Change::Nothing, actions));
     }
-    Ok((Change::Rows(delta), actions))
+    let change = change_by(alloc, served, delta)?;
+    Ok((change, actions))
 }
 
 /// Want of memory, as the one cause for which nothing else is refused.
@@ -205,7 +211,8 @@ fn after_boot(
     moment: Moment,
     boot: &BootId,
 ) -> Result<Change, AllocError>
-    ensures { IfOk result (λ change. MetBy moment (standing_of served.now) (model.Booted boot.now) change []) }
+    ensures met { IfOk result (λ change. MetBy moment (standing_of served.now) (model.Booted boot.now) change []) }
+    ensures exact { IfOk result (KeepsExact served.now) }
 {
     let state = served.state();
     if boot.as_str() == state.boot().as_str() {
@@ -216,7 +223,7 @@ fn after_boot(
     after.begin_boot(alloc, id);
     after.set_clock(moment);
     match Served::of(alloc, after) {
-        Ok(served) => Ok(Change::Tables(served)),
+        Ok(served) => Ok(Change::Tables(served, None)),
         Err(refusal) => Err(want_of_memory(refusal)),
     }
 }
@@ -228,7 +235,8 @@ pub fn met(
     moment: Moment,
     happening: &Happening,
 ) -> Result<(Change, Vec<Action>), AllocError>
-    ensures { IfOk result (λ met. MetBy moment (standing_of served.now) (happening_of happening.now) met.0 (map action_of met.1.items)) }
+    ensures met { IfOk result (λ met. MetBy moment (standing_of served.now) (happening_of happening.now) met.0 (map action_of met.1.items)) }
+    ensures exact { IfOk result (λ met. KeepsExact served.now met.0) }
 {
     match happening {
         Happening::ProcessEnded { number, end } => after_end(alloc, served, moment, *number, *end),

@@ -1,7 +1,8 @@
 //! What is known of the units of a tree.
 
-ghost use Rattle.std.specs.Prelude.{◌≡◌, ◌↔◌, ℕ, List, Contains, IfOk, IfErr, IsTrue, Option, Some, option_copied, option_map, unwrap_or};
-ghost use Rattle.um_engine.specs.Known.{AreLasting, ArePassing, IsFull, IsGraphFor, IsHeldWith, KnowsFor, KnownView};
+ghost use Rattle.std.specs.Prelude.{◌≡◌, ◌⊎◌, ◌↔◌, ◌<◌, ℕ, false, true, All, List, Contains, IfOk, IfErr, IsTrue, OnOk, Option, Some, length, option_copied, option_map, unwrap_or};
+ghost use Rattle.um_engine.specs.Exact.{LetsNoneGo, holds_none};
+ghost use Rattle.um_engine.specs.Known.{AreLasting, AreMarked, ArePassing, IsFull, IsGraphFor, IsHeldWith, KnowsFor, KnownView};
 ghost use Rattle.um_model.specs.Dependencies.{IsKnown};
 ghost use Rattle.um_model.specs.Tree.{without_run};
 ghost use Rattle.um_graph.specs.Graph.{IsGraphOf, IsNumberOf};
@@ -16,7 +17,7 @@ use std::rc::Rc;
 use um_falling::Work;
 use um_graph::{Graph, known_units};
 use um_name::{Names, UnitName};
-use um_state::State;
+use um_state::{Row, State};
 use um_tree::Tree;
 use um_wire::Refusal;
 
@@ -27,6 +28,8 @@ pub struct Known {
     /// Those of its units, each with the number that it has there.
     names: Names,
     extra: Vec<UnitName>,
+    /// By number: whether the unit is one of those.
+    is_extra: Vec<bool>,
     /// In the order of their names; None where no entry stands under `run/`, since they are those of the graph then.
     lasting: Option<Vec<UnitName>>,
     /// The numbers of the graph's units that aren't among them: those that only entries under `run/` name, and few as a rule.
@@ -39,7 +42,8 @@ impl Model for Known {
     ghost view = { λ k. record { graph = k.graph; extra = k.extra.items; lasting = unwrap_or (option_map (λ names. names.items) k.lasting) k.graph.names } };
 
     ghost invariant = { λ k. (k.names ≡ k.graph.names)
-        × ArePassing k.graph.names (unwrap_or (option_map (λ names. names.items) k.lasting) k.graph.names) k.passing.items };
+        × ArePassing k.graph.names (unwrap_or (option_map (λ names. names.items) k.lasting) k.graph.names) k.passing.items
+        × AreMarked k.graph.names k.extra.items k.is_extra.items };
 }
 
 // One call, where a derived one is taken apart at each exit.
@@ -49,6 +53,7 @@ impl Drop for Known {
             graph: _graph,
             names: _names,
             extra: _extra,
+            is_extra: _is_extra,
             lasting: _lasting,
             passing: _passing,
         } = self;
@@ -162,6 +167,81 @@ fn passing(
     }
 }
 
+/// By number: whether the graph's unit is one of these.
+fn marked(alloc: Global, graph: &Graph, units: &[UnitName]) -> Result<Vec<bool>, AllocError>
+    ensures { IfOk result (λ marks. AreMarked graph.now.names units.now marks.items) }
+{
+    let mut marks = vec![in alloc; false; graph.len()]?;
+    for unit in units {
+        if let Some(number) = graph.number(unit) {
+            marks[number] = true;
+        }
+    }
+    Ok(marks)
+}
+
+/// Adds the unit behind the others, unless it is among the ones that are known and those that last; these stand in the order of their names.
+fn push_other(
+    others: &mut Vec<UnitName>,
+    known: &[UnitName],
+    lasting: &Option<Vec<UnitName>>,
+    unit: &UnitName,
+) -> Result<(), AllocError>
+    ensures keeps { OnOk result ((name : List ℕ) → Contains others.old.items name → Contains others.new.items name) }
+    ensures has { OnOk result (Contains others.new.items unit.now ⊎ Contains known.now unit.now) }
+    ensures only { OnOk result ((name : List ℕ) → Contains others.new.items name → Contains others.old.items name ⊎ (unit.now ≡ name)) }
+{
+    if is_named(known, lasting, unit) {
+        return Ok(());
+    }
+    others.push(unit.copy()?)?;
+    Ok(())
+}
+
+/// Those of the units that aren't among the ones that are known, or not among those that last; these stand in the order of their names.
+fn others(
+    alloc: Global,
+    units: &[UnitName],
+    known: &[UnitName],
+    lasting: &Option<Vec<UnitName>>,
+) -> Result<Vec<UnitName>, AllocError>
+    ensures has { IfOk result (λ others. (unit : List ℕ) → Contains units.now unit → Contains others.items unit ⊎ Contains known.now unit) }
+    ensures only { IfOk result (λ others. (unit : List ℕ) → Contains others.items unit → Contains units.now unit) }
+{
+    let mut others = Vec::new(alloc);
+    for unit in units {
+        push_other(&mut others, known, lasting, unit)?;
+    }
+    Ok(others)
+}
+
+/// Whether the unit is among the ones that are known, and among those that last where these are told apart.
+fn is_named(known: &[UnitName], lasting: &Option<Vec<UnitName>>, unit: &UnitName) -> bool
+    ensures { IsTrue result → Contains known.now unit.now }
+{
+    if !is_among(known, unit) {
+        return false;
+    }
+    match lasting {
+        Some(lasting) => is_among(lasting, unit),
+        None => true,
+    }
+}
+
+/// Those of the units that aren't known by the tree itself, with its entries under `run/` and without them.
+fn unnamed(alloc: Global, tree: &Tree, units: Vec<UnitName>) -> Result<Vec<UnitName>, AllocError>
+    ensures known { IfOk result (λ others. (unit : List ℕ) → Contains units.items unit → IsKnown tree.now (Contains others.items) unit) }
+    ensures only { IfOk result (λ others. (unit : List ℕ) → Contains others.items unit → Contains units.items unit) }
+{
+    if units.is_empty() {
+        return Ok(units);
+    }
+    let known = known_units(alloc, tree, &[])?;
+    let lasting = lasting(alloc, tree, &[])?;
+    let others = others(alloc, &units, &known, &lasting)?;
+    Ok(others)
+}
+
 impl Known {
     /// What is known of the units of the tree, with those that the state holds and one that is named. Refused are too many (E13
     /// `units`).
@@ -196,13 +276,30 @@ impl Known {
         let names = names_of(alloc, &graph)?;
         let lasting = lasting(alloc, tree, extra.as_slice())?;
         let passing = passing(alloc, &graph, &lasting)?;
+        let is_extra = marked(alloc, &graph, &extra)?;
         Ok(Known {
             graph,
             names,
             extra,
+            is_extra,
             lasting,
             passing,
         })
+    }
+
+    /// What is known of the units of the state's loaded tree, with just those that the state holds: made for those of them alone that the
+    /// tree doesn't name by itself, so that it stays when all else is let go. Refused are too many (E13 `units`).
+    pub fn of_held(alloc: Global, state: &State) -> Result<Rc<Known>, Refusal>
+        ensures knows { IfOk result (λ k. KnowsFor k.value (state_of state.now)) }
+        ensures held { IfOk result (λ k. (unit : List ℕ) → Contains k.value.extra unit → IsHeld (state_of state.now) unit) }
+        ensures refused { IfErr result (λ e. ¬ (e ≡ refusals.NoMemory) → (e ≡ refusals.TooLarge limits.Units)
+            × IsFull (state_of state.now).loaded (IsHeld (state_of state.now))) }
+    {
+        let tree = state.loaded();
+        let held = state.held(alloc)?;
+        let extra = unnamed(alloc, tree, held)?;
+        let known = Known::with_units(alloc, tree, extra)?;
+        Ok(Rc::new(alloc, known)?)
     }
 
     /// The graph.
@@ -276,6 +373,35 @@ impl Known {
         }
     }
 
+    /// Whether after these rows nothing is held any more of a unit for which the graph was made: no other row is looked at.
+    pub fn is_let_go(&self, rows: &[Row]) -> bool
+        ensures stays { result ≡ false → All (LetsNoneGo self.now) rows.now }
+        ensures goes { result ≡ true → ¬ All (LetsNoneGo self.now) rows.now }
+    {
+        for row in rows {
+            if self.lets_go(row) {
+                return true;
+            }
+        }
+        false
+    }
+
+    /// Whether the row is that of a unit for which the graph was made, and nothing is held of it by the row.
+    fn lets_go(&self, row: &Row) -> bool
+        ensures stays { result ≡ false → LetsNoneGo self.now row.now }
+        ensures goes { result ≡ true → ¬ LetsNoneGo self.now row.now }
+    {
+        self.is_extra_at(row.number) && is_empty(row)
+    }
+
+    /// Whether the unit with this number is one for which the graph was made.
+    fn is_extra_at(&self, number: usize) -> bool
+        ensures told { (unit : List ℕ) → IsNumberOf self.now.graph number unit → IsTrue result ↔ Contains self.now.extra unit }
+        ensures within { IsTrue result → number < length self.now.graph.names }
+    {
+        matches!(self.is_extra.get(number), Some(true))
+    }
+
     /// Whether the units of the graph are exactly those that are known for the state: it holds each one for which the graph was made.
     pub fn is_exact(&self, state: &State) -> bool
         ensures { IsTrue result → KnowsFor self.now (state_of state.now)
@@ -287,8 +413,9 @@ impl Known {
     /// Whether what is known for a state is exactly what counts by its loaded tree, with the units that it holds and the one that
     /// is named.
     pub fn fits(&self, state: &State, named: Option<&UnitName>) -> bool
-        ensures { IsTrue result → KnowsFor self.now (state_of state.now)
+        ensures graph { IsTrue result → KnowsFor self.now (state_of state.now)
             → IsGraphFor (state_of state.now).loaded (IsHeldWith (state_of state.now) (option_copied named.entry)) self.now.graph }
+        ensures made { IsTrue result → (unit : List ℕ) → Contains self.now.extra unit → IsHeldWith (state_of state.now) (option_copied named.entry) unit }
     {
         if !self.knows(named) {
             return false;
@@ -355,4 +482,11 @@ fn is_held_in(work: &Work<'_>, unit: &UnitName) -> bool
         Some(number) => work.holds(number),
         None => false,
     }
+}
+
+/// Whether by the row nothing is held of its unit.
+fn is_empty(row: &Row) -> bool
+    ensures { result ≡ holds_none row.now }
+{
+    row.unit.holds_nothing() && !row.jobs.has_job()
 }

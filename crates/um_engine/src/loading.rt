@@ -2,7 +2,7 @@
 
 ghost use Rattle.std.specs.Prelude.{◌≡◌, IfOk, Contains, ℕ, List};
 ghost use Rattle.um_engine.specs.Known.{KnowsFor};
-ghost use Rattle.um_model.specs.Machine.{CausesOfLoad, IsBefore};
+ghost use Rattle.um_model.specs.Machine.{CausesOfLoad, IsBefore, IsHeld};
 ghost use Rattle.um_model.specs.Plan.{NamesCycle};
 ghost use Rattle.um_model.specs.Tree.{Tree};
 ghost use Rattle.um_state.specs.View.{state_of};
@@ -31,6 +31,7 @@ pub fn check_order(alloc: Global, known: &Known, state: &State) -> Result<(), Re
 /// wait for one another in a circle (E9).
 pub fn known_of_loaded(alloc: Global, state: &State, tree: &Tree) -> Result<Rc<Known>, Refusal>
     ensures knows { IfOk result (λ k. KnowsFor k.value (record (state_of state.now) { loaded = tree.now })) }
+    ensures held { IfOk result (λ k. (unit : List ℕ) → Contains k.value.extra unit → IsHeld (state_of state.now) unit) }
     ensures refused { RefusesBy (CausesOfLoad (state_of state.now) tree.now) result }
 {
     let known = Known::of(alloc, tree, state, None)?;

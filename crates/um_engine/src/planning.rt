@@ -1,6 +1,6 @@
 //! What the plan of a command for a unit makes of the state (systemctl(1), "start", "stop", "restart", "try-restart").
 
-ghost use Rattle.std.specs.Prelude.{◌≡◌, [], ℕ, List, Contains, IfOk, IfErr, OnOk, length};
+ghost use Rattle.std.specs.Prelude.{◌≡◌, [], ℕ, List, Contains, false, IfOk, MatchOption, OnOk, length};
 ghost use Rattle.um_answer.specs.Loaded.{is_found as finds};
 ghost use Rattle.um_engine.specs.Demanded.{Demands, wants_it_there};
 ghost use Rattle.um_engine.specs.Known.{IsGraphFor, KnowsFor};
@@ -18,9 +18,8 @@ ghost use Rattle.um_model.specs.Units.{load as load_in};
 ghost use Rattle.um_model.specs.declared.dependencies.Demand as demands;
 ghost use Rattle.um_state.specs.View.{state_of};
 ghost use Rattle.um_wire.specs.Gives.{RefusesBy};
-ghost use Rattle.um_wire.specs.Refusal.{refused_of};
-ghost use Rattle.um_wire.specs.declared.refusal.Refusal.TheVariants.{NoMemory};
 
+use crate::between::Trees;
 use crate::commands::Outcome;
 use crate::jobs::demand_of;
 use crate::known::Known;
@@ -263,27 +262,30 @@ fn planned_in<'s>(
     Ok(work)
 }
 
-/// Carries out the plan for the demand on a unit that is known, at the moment that the state has. Refused is what `put_checked` refuses.
+/// Carries out the plan for the demand on a unit that is known, at the moment that the state has, and tells whether that changes any job.
+/// Refused is what `put_checked` refuses.
 fn carry_out(
     alloc: Global,
     served: &mut Served,
     demand: Demand,
     unit: &UnitName,
     wanted: &Wanted<'_>,
-) -> Result<(), Refusal>
+) -> Result<bool, Refusal>
     requires demands { Demands served.old.state wanted.now.verb wanted.now.asked.now wanted.now.is_found demand unit.now }
     requires exact { IsGraphFor served.old.state.loaded (IsHeldOr served.old.state unit.now) served.old.known.graph }
     ensures planned { OnOk result (HasPlan served.old.state (demand, unit.now) served.new.state) }
+    ensures same { IfOk result (λ changes. changes ≡ false → served.new.state ≡ served.old.state) }
     ensures refused { RefusesBy (model.Refuses served.old.state (model.ForUnit wanted.now.verb wanted.now.asked.now wanted.now.mode)) result }
 {
     let moment = served.state().clock();
     let work = planned_in(alloc, served, moment, demand, unit, wanted)?;
     let (mut delta, _) = work.done()?;
+    let changes = delta.len() > 0;
     served.swap(&mut delta);
-    Ok(())
+    Ok(changes)
 }
 
-/// The state after a plan by other known units, at the moment that it has.
+/// The state after a plan by other known units, at the moment that it has. None where the plan changes no job.
 fn planned_with(
     alloc: Global,
     served: &Served,
@@ -291,51 +293,24 @@ fn planned_with(
     demand: Demand,
     unit: &UnitName,
     wanted: &Wanted<'_>,
-) -> Result<Served, Refusal>
+) -> Result<Option<Served>, Refusal>
     requires demands { Demands served.now.state wanted.now.verb wanted.now.asked.now wanted.now.is_found demand unit.now }
     requires knows { KnowsFor known.value served.now.state }
     requires exact { IsGraphFor served.now.state.loaded (IsHeldOr served.now.state unit.now) known.value.graph }
-    ensures planned { IfOk result (λ u. HasPlan served.now.state (demand, unit.now) u.state) }
+    ensures planned { IfOk result (λ made. MatchOption made (HasPlan served.now.state (demand, unit.now) served.now.state)
+        (λ u. HasPlan served.now.state (demand, unit.now) u.state)) }
     ensures refused { RefusesBy (model.Refuses served.now.state (model.ForUnit wanted.now.verb wanted.now.asked.now wanted.now.mode)) result }
 {
     let state = served.state().copy()?;
     let mut changed = Served::numbered(state, known)?;
-    carry_out(alloc, &mut changed, demand, unit, wanted)?;
-    Ok(changed)
-}
-
-/// The same, with just the units that are known by it. Refused are too many (E13).
-fn known_anew(alloc: Global, served: Served) -> Result<Served, Refusal>
-    ensures state { IfOk result (λ u. u.state ≡ served.state) }
-    ensures refused { IfErr result (λ e. ¬ (e ≡ NoMemory) → model.IsCrowded served.state.loaded (model.IsHeld served.state) (refused_of e)) }
-{
-    if served.known().lasts_for(served.state(), None) {
-        return Ok(served);
+    let changes = carry_out(alloc, &mut changed, demand, unit, wanted)?;
+    if changes {
+        return Ok(Some(changed));
     }
-    Served::of(alloc, served.into_state())
+    Ok(None)
 }
 
-/// The same, with just the units that are known by the state then.
-fn planned_anew(
-    alloc: Global,
-    served: &Served,
-    known: Rc<Known>,
-    demand: Demand,
-    unit: &UnitName,
-    wanted: &Wanted<'_>,
-) -> Result<Served, Refusal>
-    requires demands { Demands served.now.state wanted.now.verb wanted.now.asked.now wanted.now.is_found demand unit.now }
-    requires knows { KnowsFor known.value served.now.state }
-    requires exact { IsGraphFor served.now.state.loaded (IsHeldOr served.now.state unit.now) known.value.graph }
-    ensures planned { IfOk result (λ u. HasPlan served.now.state (demand, unit.now) u.state) }
-    ensures refused { RefusesBy (model.Refuses served.now.state (model.ForUnit wanted.now.verb wanted.now.asked.now wanted.now.mode)) result }
-{
-    let changed = planned_with(alloc, served, known, demand, unit, wanted)?;
-    let after = known_anew(alloc, changed)?;
-    Ok(after)
-}
-
-/// What the plan for the demand on a unit leads to: rows, where what is known of units fits and stays.
+/// What the plan for the demand on a unit leads to: rows, where what is known of units fits and stays, or the plan changes no job.
 fn planned_by<'s>(
     alloc: Global,
     served: &'s Served,
@@ -359,8 +334,11 @@ fn planned_by<'s>(
             return Ok(Outcome::Rows(work));
         }
     }
-    let changed = planned_anew(alloc, served, known, demand, unit, wanted)?;
-    Ok(Outcome::Tables(changed, Reply::Done))
+    let planned = planned_with(alloc, served, known, demand, unit, wanted)?;
+    let Some(changed) = planned else {
+        return Ok(Outcome::Rows(served.work(alloc, moment)?));
+    };
+    Ok(Outcome::Tables(changed, Reply::Done, Trees::Stay))
 }
 
 /// What the plan of a command leads to for the unit that was found for it.

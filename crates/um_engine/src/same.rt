@@ -1,5 +1,6 @@
 //! Whether two trees, or two lists of names, are the same.
 
+ghost use Rattle.std.specs.FinMap as map;
 ghost use Rattle.std.specs.Prelude.{◌≡◌, ◌↔◌, Some, IsTrue, option_copied, option_map};
 ghost use Rattle.um_tree.specs.View.{entry_of, path_with_entry};
 
@@ -23,6 +24,16 @@ fn is_same_at(path: &str, entry: Entry<'_>, other: Option<(&str, Entry<'_>)>) ->
 {
     match other {
         Some((other_path, other)) => path == other_path && is_same_entry(entry, other),
+        None => false,
+    }
+}
+
+/// Whether this entry stands in the tree at the path. It looks into no other text, and takes no memory.
+pub fn has_entry(tree: &Tree, path: &str, entry: Entry<'_>) -> bool
+    ensures { IsTrue result ↔ (map.get tree.now path.now ≡ Some (entry_of entry.entry)) }
+{
+    match tree.get(path) {
+        Some(other) => is_same_entry(entry, other),
         None => false,
     }
 }

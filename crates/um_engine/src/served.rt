@@ -1,10 +1,11 @@
 //! A state with what is known of its units.
 
-ghost use Rattle.std.specs.Prelude.{◌≡◌, IfOk, Some};
+ghost use Rattle.std.specs.Prelude.{◌≡◌, IfOk, IsTrue, Some};
 ghost use Rattle.std.specs.Coded.{codes};
 ghost use Rattle.std.specs.FinMap as maps;
+ghost use Rattle.um_engine.specs.Exact.{IsExactIfFew};
 ghost use Rattle.um_engine.specs.Known.{IsGraphFor, KnowsFor};
-ghost use Rattle.um_engine.specs.Served.{ServedView, WorksOn, begun_at, standing_of, trees_weight};
+ghost use Rattle.um_engine.specs.Served.{IsNumberedBy, ServedView, WorksOn, begun_at, standing_of, trees_weight};
 ghost use Rattle.um_model.specs.Machine.{IsHeld, IsHeldOr, IsCrowded};
 ghost use Rattle.um_state.specs.Deltas.{delta_after, delta_before};
 ghost use Rattle.um_state.specs.View.{state_of};
@@ -12,6 +13,7 @@ ghost use Rattle.um_tree.specs.Code.{tree_code};
 ghost use Rattle.um_wire.specs.Gives.{RefusesBy};
 
 use crate::known::Known;
+use crate::memory::is_for_memory;
 use std::alloc::{AllocError, Global};
 use std::marker::Model;
 use std::rc::Rc;
@@ -37,7 +39,7 @@ impl Model for Served {
 
     ghost view = { λ s. record { state = state_of s.state; known = s.known.value } };
 
-    ghost invariant = { λ s. (s.state.names ≡ s.known.value.graph.names) × KnowsFor s.known.value (state_of s.state) × (s.trees ≡ trees_weight (state_of s.state)) };
+    ghost invariant = { λ s. IsNumberedBy s.known.value.graph.names s.state × KnowsFor s.known.value (state_of s.state) × (s.trees ≡ trees_weight (state_of s.state)) };
 }
 
 // One call, where a derived one is taken apart at each exit.
@@ -55,6 +57,7 @@ impl Served {
     /// The state with what is known of just its units. Refused are too many known units (E13).
     pub fn of(alloc: Global, state: State) -> Result<Served, Refusal>
         ensures state { IfOk result (λ s. s.state ≡ state_of state) }
+        ensures exact { IfOk result IsExactIfFew }
         ensures refused { RefusesBy (IsCrowded (state_of state).loaded (IsHeld (state_of state))) result }
     {
         let known = Known::of(alloc, state.loaded(), &state, None)?;
@@ -98,8 +101,8 @@ impl Served {
     {
         match Work::of(alloc, self.known.graph(), &self.state, moment)? {
             Some(work) => Ok(work),
-            // the state was numbered, so it has rows
-            None => Err(AllocError),
+            // the state was numbered
+            None => unreachable!(),
         }
     }
 
@@ -156,6 +159,43 @@ impl Served {
         ensures knows { KnowsFor self.now.known self.now.state }
     {
         self.known.clone()
+    }
+
+    /// The same again.
+    pub fn copy(&self) -> Result<Served, AllocError>
+        ensures { IfOk result (λ s. standing_of s ≡ standing_of self.now) }
+    {
+        let state = self.state().copy()?;
+        let known = self.share_known()?;
+        let served = Served::numbered(state, known)?;
+        Ok(served)
+    }
+
+    /// Whether what is known is that of just its units.
+    fn is_exact(&self) -> bool
+        ensures { IsTrue result → IsExactIfFew self.now }
+    {
+        self.known().fits(self.state(), None)
+    }
+
+    /// The same with what is known of just its units: made anew where that isn't so. It stays as it is where too many units would be known,
+    /// which no step leads to.
+    pub fn exactly(self, alloc: Global) -> Result<Served, AllocError>
+        ensures state { IfOk result (λ s. s.state ≡ self.state) }
+        ensures exact { IfOk result IsExactIfFew }
+    {
+        if self.is_exact() {
+            return Ok(self);
+        }
+        match Known::of_held(alloc, self.state()) {
+            Ok(known) => Served::numbered(self.into_state(), known),
+            Err(refusal) => {
+                if is_for_memory(refusal) {
+                    return Err(AllocError);
+                }
+                Ok(self)
+            }
+        }
     }
 
     /// What is known of the units and of the one that a command names: the same again where that fits. Refused are too many known

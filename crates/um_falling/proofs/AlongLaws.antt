@@ -1,7 +1,7 @@
 -- What the code takes along, going from one unit to the next, is what a failed start takes along.
-use Rattle.std.proofs.Common.{◌≡◌, ◌≢◌, ◌⊎◌, ◌∙◌, ◌+◌, ◌<◌, ◌≤◌, ◌&&◌, ◌||◌, ℕ, zero, suc, Bool, true, false, true≢false, cond, List, [], ◌∷◌, ◌++◌, length, sum_by, Contains, Option, Some, None, slice_get, refl, sym, ap, subst, inl, inr, arith}
-use Rattle.std.proofs.lemmas.Bool.{or_cases}
-use Rattle.std.proofs.lemmas.List.{length-append}
+use Rattle.std.proofs.Common.{◌≡◌, ◌≢◌, ◌⊎◌, ◌∙◌, ◌+◌, ◌<◌, ◌≤◌, ◌&&◌, ◌||◌, ℕ, zero, suc, Bool, true, false, true≢false, cond, List, [], ◌∷◌, ◌++◌, length, sum_by, Contains, Option, Some, None, get_or, slice_get, refl, sym, ap, subst, inl, inr, arith}
+use Rattle.std.proofs.lemmas.Bool.{cases_eq, cases_lt, or_cases}
+use Rattle.std.proofs.lemmas.List.{get_or_default, length-append}
 use Rattle.std.proofs.lemmas.List.Sums.{sum_by-cons}
 use Rattle.std.proofs.lemmas.Option.{none-some, get_or_from_slice_get, slice_get-get_or}
 use Rattle.std.specs.FinMap as map
@@ -17,10 +17,10 @@ use Rattle.um_model.specs.declared.service.UnitState.{UnitState}
 use Rattle.um_model.proofs.TimersLaws.{same_name}
 use Rattle.um_model.proofs.UnitLaws.{jobs_apart, jobs_here, unlike}
 use Rattle.um_model.specs.Waiting.{NoMoreWait, waits, waits_in}
-use Rattle.um_graph.specs.Graph.{GraphView, IsNumberOf}
+use Rattle.um_graph.specs.Graph.{AreOnce, GraphView, IsNumberOf}
 use Rattle.um_graph.specs.declared.row.Neighbour.{Neighbour}
 use Rattle.um_graph.proofs.NamedLaws.{got_within}
-use Rattle.um_falling.specs.Along.{Taking, goes_before, needs_it, taken, taken_all, taken_by, taken_named, taken_next, without_start_of}
+use Rattle.um_falling.specs.Along.{Taking, is_later, needs_it, taken, taken_all, taken_by, taken_named, taken_next, without_start_of}
 
 -- ---- tests and lists
 pub any_in : {A : Type 0} (p : A → Bool) (xs : List A) (x : A) → Contains xs x → p x ≡ true → list_any p xs ≡ true
@@ -55,6 +55,16 @@ and_both false b h k = absurd (true≢false (sym h))
 pub cons_cases : {A : Type 0} (z : A) (xs : List A) (x : A) → Contains (z ∷ xs) x → (z ≡ x) ⊎ Contains xs x
 cons_cases z xs x (zero, h, e) = inl e
 cons_cases z xs x (suc k, h, e) = inr (k, omega arith, e)
+
+-- of a unit that stands in a row once there is one neighbour
+pub once_there : (row : List Neighbour) → AreOnce row → (m n : Neighbour) → Contains row m → Contains row n → m.unit ≡ n.unit → m ≡ n
+once_there row once m n (i, h, e) (j, k, f) same = elim (cases_eq i j) as (λ _. m ≡ n) [
+  | inl is ↦ sym e ∙ (get_or_default row i m n h ∙ (ap (λ p. get_or row p n) is ∙ f))
+  | inr other ↦ elim (cases_lt i j) as (λ _. m ≡ n) [
+    | inl less ↦ absurd (once i j n less k (ap (λ (x : Neighbour). x.unit) (get_or_default row i n m h ∙ e) ∙ (same ∙ ap (λ (x : Neighbour). x.unit) (sym f))))
+    | inr more ↦ absurd (once j i m (omega (arith, more, other)) h (ap (λ (x : Neighbour). x.unit) (get_or_default row j m n k ∙ f) ∙ (sym same ∙ ap (λ (x : Neighbour). x.unit) (sym e))))
+  ]
+]
 
 pub waiting_is : (o : Option JobState) → is_waiting o ≡ true → o ≡ Some Waiting
 waiting_is (Some Waiting) h = refl
@@ -115,26 +125,26 @@ module _ (g : GraphView) where
   taken_quiet : (u : ℕ) (m : Taking) (y : List ℕ) → IsNumberOf g u y → ¬ StartWaits (taken g u m) y
   taken_quiet u m y n w = named_quiet y u m (subst (λ o. StartWaits (taken_by o u m) y) n w)
 
-  next_calm : (row : List Neighbour) (n : Neighbour) (m : Taking) (z : List ℕ) → StartWaits (taken_next g row n m) z → StartWaits m z
-  next_calm row n m z = by (needs_it n && goes_before row n.unit)
+  next_calm : (n : Neighbour) (m : Taking) (z : List ℕ) → StartWaits (taken_next g n m) z → StartWaits m z
+  next_calm n m z = by (needs_it n && is_later n)
     where
       by : (b : Bool) → StartWaits (cond b (taken g n.unit m) m) z → StartWaits m z
       by true w = taken_calm n.unit m z w
       by false w = w
 
-  all_calm : (row ns : List Neighbour) (m : Taking) (z : List ℕ) → StartWaits (taken_all g row ns m) z → StartWaits m z
-  all_calm row [] m z w = w
-  all_calm row (n ∷ ns) m z w = next_calm row n m z (all_calm row ns (taken_next g row n m) z w)
+  all_calm : (ns : List Neighbour) (m : Taking) (z : List ℕ) → StartWaits (taken_all g ns m) z → StartWaits m z
+  all_calm [] m z w = w
+  all_calm (n ∷ ns) m z w = next_calm n m z (all_calm ns (taken_next g n m) z w)
 
-  pub all_quiet : (row ns : List Neighbour) (m : Taking) (n : Neighbour) → Contains ns n → (needs_it n && goes_before row n.unit) ≡ true → (y : List ℕ) → IsNumberOf g n.unit y
-      → ¬ StartWaits (taken_all g row ns m) y
-  all_quiet row [] m n c t y is w = absurd (omega (arith, c.1))
-  all_quiet row (k ∷ ns) m n c t y is w = elim (cons_cases k ns n c) as (λ _. ⊥) [
+  pub all_quiet : (ns : List Neighbour) (m : Taking) (n : Neighbour) → Contains ns n → (needs_it n && is_later n) ≡ true → (y : List ℕ) → IsNumberOf g n.unit y
+      → ¬ StartWaits (taken_all g ns m) y
+  all_quiet [] m n c t y is w = absurd (omega (arith, c.1))
+  all_quiet (k ∷ ns) m n c t y is w = elim (cons_cases k ns n c) as (λ _. ⊥) [
     | inl same ↦
-        let test : (needs_it k && goes_before row k.unit) ≡ true = ap (λ x. needs_it x && goes_before row x.unit) same ∙ t in
+        let test : (needs_it k && is_later k) ≡ true = ap (λ x. needs_it x && is_later x) same ∙ t in
         let there : IsNumberOf g k.unit y = subst (λ (x : Neighbour). IsNumberOf g x.unit y) (sym same) is in
-        taken_quiet k.unit m y there (subst (λ b. StartWaits (cond b (taken g k.unit m) m) y) test (all_calm row ns (taken_next g row k m) y w))
-    | inr later ↦ all_quiet row ns (taken_next g row k m) n later t y is w
+        taken_quiet k.unit m y there (subst (λ b. StartWaits (cond b (taken g k.unit m) m) y) test (all_calm ns (taken_next g k m) y w))
+    | inr later ↦ all_quiet ns (taken_next g k m) n later t y is w
   ]
 
 -- ---- how many starts wait, with those that are to be followed
@@ -184,19 +194,19 @@ module _ (g : GraphView) where
       by None e = omega arith
       by (Some y) e = named_left y u m (known_by g u y e)
 
-  all_left : (row ns : List Neighbour) (m : Taking) → left g (taken_all g row ns m) ≤ left g m
-  all_left row [] m = omega arith
-  all_left row (n ∷ ns) m = let rest = all_left row ns (taken_next g row n m) in let here = by (needs_it n && goes_before row n.unit) in omega arith
+  all_left : (ns : List Neighbour) (m : Taking) → left g (taken_all g ns m) ≤ left g m
+  all_left [] m = omega arith
+  all_left (n ∷ ns) m = let rest = all_left ns (taken_next g n m) in let here = by (needs_it n && is_later n) in omega arith
     where
       by : (b : Bool) → left g (cond b (taken g n.unit m) m) ≤ left g m
       by true = taken_left n.unit m
       by false = omega arith
 
   -- a turn leaves fewer
-  pub fewer_left : (row ns : List Neighbour) (c : State) (l l' : List ℕ) (u : ℕ) (m : Taking) → l ≡ l' ++ u ∷ [] → m ≡ taken_all g row ns (c, l') → left g m < left g (c, l)
-  fewer_left row ns c l l' u m e is =
+  pub fewer_left : (ns : List Neighbour) (c : State) (l l' : List ℕ) (u : ℕ) (m : Taking) → l ≡ l' ++ u ∷ [] → m ≡ taken_all g ns (c, l') → left g m < left g (c, l)
+  fewer_left ns c l l' u m e is =
       let shorter : length l ≡ length l' + 1 = ap length e ∙ length-append l' (u ∷ []) in
-      let more = all_left row ns (c, l') in
+      let more = all_left ns (c, l') in
       let same = ap (left g) is in
       omega (arith, shorter, more, same)
 
@@ -222,17 +232,17 @@ module _ (g : GraphView) where
       by None n = omega arith
       by (Some y) n = named y (is_waiting (jobs_of_unit m.0.pending y).start) n
 
-  pub all_waits : (row ns : List Neighbour) (m : Taking) → NoMoreWait (taken_all g row ns m).0.pending m.0.pending
-  all_waits row [] m n = omega arith
-  all_waits row (k ∷ ns) m n = let rest = all_waits row ns (taken_next g row k m) n in let here = by (needs_it k && goes_before row k.unit) in omega arith
+  pub all_waits : (ns : List Neighbour) (m : Taking) → NoMoreWait (taken_all g ns m).0.pending m.0.pending
+  all_waits [] m n = omega arith
+  all_waits (k ∷ ns) m n = let rest = all_waits ns (taken_next g k m) n in let here = by (needs_it k && is_later k) in omega arith
     where
       by : (b : Bool) → waits_in (jobs_of_unit (cond b (taken g k.unit m) m).0.pending n) ≤ waits_in (jobs_of_unit m.0.pending n)
       by true = taken_waits k.unit m n
       by false = omega arith
 
-  pub waits_on : (row ns : List Neighbour) (m after : Taking) (earliest : ByUnit UnitJobs) → after ≡ taken_all g row ns m → NoMoreWait m.0.pending earliest → NoMoreWait after.0.pending earliest
-  waits_on row ns m after earliest is none unit =
+  pub waits_on : (ns : List Neighbour) (m after : Taking) (earliest : ByUnit UnitJobs) → after ≡ taken_all g ns m → NoMoreWait m.0.pending earliest → NoMoreWait after.0.pending earliest
+  waits_on ns m after earliest is none unit =
       let e = ap (λ (x : Taking). waits_in (jobs_of_unit x.0.pending unit)) is in
-      let now = all_waits row ns m unit in
+      let now = all_waits ns m unit in
       let earlier = none unit in
       omega arith

@@ -20,7 +20,7 @@ use Rattle.um_model.proofs.TimersLaws.{same_name}
 use Rattle.um_model.proofs.UnitLaws.{state_apart, state_here}
 use Rattle.um_graph.specs.Graph.{GraphView, IsNumberOf, row_of}
 use Rattle.um_graph.specs.declared.row.Neighbour.{Neighbour}
-use Rattle.um_falling.specs.Along.{Taking, goes_before, needs_it, taken, taken_all, taken_by, taken_named, taken_next, without_start_of, with_result_dependency}
+use Rattle.um_falling.specs.Along.{Taking, is_later, needs_it, taken, taken_all, taken_by, taken_named, taken_next, without_start_of, with_result_dependency}
 use Rattle.um_falling.specs.Falling.{AddsFalling, KeepsSubs, StopsIf, StopsOne, falling, falling_from, goes, is_bound, sub_of}
 use Rattle.um_falling.proofs.AlongLaws.{known_by, sum_falls, cons_cases}
 
@@ -46,16 +46,16 @@ module _ (g : GraphView) where
       by None = refl
       by (Some y) = named_subs y u m x
 
-  all_subs : (row ns : List Neighbour) (m : Taking) → KeepsSubs m.0 (taken_all g row ns m).0
-  all_subs row [] m x = refl
-  all_subs row (n ∷ ns) m x = all_subs row ns (taken_next g row n m) x ∙ by (needs_it n && goes_before row n.unit)
+  all_subs : (ns : List Neighbour) (m : Taking) → KeepsSubs m.0 (taken_all g ns m).0
+  all_subs [] m x = refl
+  all_subs (n ∷ ns) m x = all_subs ns (taken_next g n m) x ∙ by (needs_it n && is_later n)
     where
       by : (b : Bool) → sub_of (cond b (taken g n.unit m) m).0 x ≡ sub_of m.0 x
       by true = taken_subs n.unit m x
       by false = refl
 
-  pub subs_on : (row ns : List Neighbour) (m after : Taking) (earliest : State) → after ≡ taken_all g row ns m → KeepsSubs earliest m.0 → KeepsSubs earliest after.0
-  subs_on row ns m after earliest is keeps x = ap (λ (t : Taking). sub_of t.0 x) is ∙ (all_subs row ns m x ∙ keeps x)
+  pub subs_on : (ns : List Neighbour) (m after : Taking) (earliest : State) → after ≡ taken_all g ns m → KeepsSubs earliest m.0 → KeepsSubs earliest after.0
+  subs_on ns m after earliest is keeps x = ap (λ (t : Taking). sub_of t.0 x) is ∙ (all_subs ns m x ∙ keeps x)
 
 -- ---- a stop at once
 

@@ -18,9 +18,9 @@ use Rattle.um_model.proofs.UnitLaws.{jobs_apart, jobs_here, state_apart, state_h
 use Rattle.um_graph.specs.Graph.{GraphView, IsGraphOf, IsNumberOf, Stands, row_of}
 use Rattle.um_graph.specs.Kinds.{has, before_bit, inverse_bit_of}
 use Rattle.um_graph.specs.declared.row.Neighbour.{Neighbour}
-use Rattle.um_falling.specs.Along.{Taking, goes_before, is_later, needs_it, taken, taken_all, taken_by, taken_next, without_start_of, with_result_dependency}
+use Rattle.um_falling.specs.Along.{Taking, is_later, needs_it, taken, taken_all, taken_by, taken_next, without_start_of, with_result_dependency}
 use Rattle.um_falling.specs.Over.{Serves}
-use Rattle.um_falling.proofs.AlongLaws.{StartWaits, all_quiet, and_both, any_in, cons_cases, in_any, known_by, number_by, or_both, pending_apart, units_apart, waiting_is}
+use Rattle.um_falling.proofs.AlongLaws.{StartWaits, all_quiet, and_both, cons_cases, known_by, number_by, once_there, or_both, pending_apart, units_apart, waiting_is}
 
 -- ---- what the graph tells of dependencies and the order, whatever else is known
 
@@ -230,63 +230,60 @@ module _ (g : GraphView) (s : State) (failed : List ℕ) where
         | inr h ↦ inr (needed_by g s serves BindsTo u n.unit x y number m (record { neighbour = n; listed = c; is = refl; kind = h }))
       ]
 
-      later_so : (n : ℕ) (y : List ℕ) → goes_before row n ≡ true → IsNumberOf g n y → IsBefore s.loaded x y
-      later_so n y t m =
-          let (k, c, h) = in_any (is_later n) row t in
-          let p = and_parts (k.unit == n) (has before_bit k.kinds) h in
-          before_by g s serves u n x y number m (record { neighbour = k; listed = c; is = (Decides-eqb k.unit n).0 p.0; kind = p.1 })
+      later_so : (n : Neighbour) (y : List ℕ) → Contains row n → is_later n ≡ true → IsNumberOf g n.unit y → IsBefore s.loaded x y
+      later_so n y c t m = before_by g s serves u n.unit x y number m (record { neighbour = n; listed = c; is = refl; kind = t })
 
-      go_next : (n : Neighbour) → Contains row n → (m : Taking) → IsUnderWay InHand m.0 m.1 → IsUnderWay InHand (taken_next g row n m).0 (taken_next g row n m).1
-      go_next n c m way = by_test (needs_it n && goes_before row n.unit) refl
+      go_next : (n : Neighbour) → Contains row n → (m : Taking) → IsUnderWay InHand m.0 m.1 → IsUnderWay InHand (taken_next g n m).0 (taken_next g n m).1
+      go_next n c m way = by_test (needs_it n && is_later n) refl
         where
-          by_waiting : (y : List ℕ) → IsNumberOf g n.unit y → (needs_it n && goes_before row n.unit) ≡ true → (b : Bool) → is_waiting (jobs_of_unit m.0.pending y).start ≡ b
+          by_waiting : (y : List ℕ) → IsNumberOf g n.unit y → (needs_it n && is_later n) ≡ true → (b : Bool) → is_waiting (jobs_of_unit m.0.pending y).start ≡ b
               → IsUnderWay InHand (cond b (without_start_of m.0 y, m.1 ++ n.unit ∷ []) m).0 (cond b (without_start_of m.0 y, m.1 ++ n.unit ∷ []) m).1
           by_waiting y is t true e =
-              let p = and_parts (needs_it n) (goes_before row n.unit) t in
+              let p = and_parts (needs_it n) (is_later n) t in
               one_more InHand m.0 m.1 way n.unit y is (waiting_is (jobs_of_unit m.0.pending y).start e)
-              (λ w. reaches y (record { needs = needs_so n y c p.0 is; later = later_so n.unit y p.1 is; waits = w }))
+              (λ w. reaches y (record { needs = needs_so n y c p.0 is; later = later_so n y c p.1 is; waits = w }))
           by_waiting y is t false e = way
 
-          by_name : (o : Option (List ℕ)) → slice_get g.names n.unit ≡ o → (needs_it n && goes_before row n.unit) ≡ true
+          by_name : (o : Option (List ℕ)) → slice_get g.names n.unit ≡ o → (needs_it n && is_later n) ≡ true
               → IsUnderWay InHand (taken_by o n.unit m).0 (taken_by o n.unit m).1
           by_name None e t = way
           by_name (Some y) e t = by_waiting y e t (is_waiting (jobs_of_unit m.0.pending y).start) refl
 
-          by_test : (b : Bool) → (needs_it n && goes_before row n.unit) ≡ b → IsUnderWay InHand (cond b (taken g n.unit m) m).0 (cond b (taken g n.unit m) m).1
+          by_test : (b : Bool) → (needs_it n && is_later n) ≡ b → IsUnderWay InHand (cond b (taken g n.unit m) m).0 (cond b (taken g n.unit m) m).1
           by_test true t = by_name (slice_get g.names n.unit) refl t
           by_test false t = way
 
       go_all : (ns : List Neighbour) → ((n : Neighbour) → Contains ns n → Contains row n) → (m : Taking) → IsUnderWay InHand m.0 m.1
-          → IsUnderWay InHand (taken_all g row ns m).0 (taken_all g row ns m).1
+          → IsUnderWay InHand (taken_all g ns m).0 (taken_all g ns m).1
       go_all [] sub m way = way
-      go_all (n ∷ ns) sub m way = go_all ns (λ k c. sub k (later n ns k c)) (taken_next g row n m) (go_next n (sub n (0, omega arith, refl)) m way)
+      go_all (n ∷ ns) sub m way = go_all ns (λ k c. sub k (later n ns k c)) (taken_next g n m) (go_next n (sub n (0, omega arith, refl)) m way)
         where
           later : (n : Neighbour) (ns : List Neighbour) (k : Neighbour) → Contains ns k → Contains (n ∷ ns) k
           later n ns k (i, h, e) = (suc i, omega arith, e)
 
       -- no start waits for that of the unit then
-      none_needs : (m : Taking) → IsUnderWay InHand (taken_all g row row m).0 (taken_all g row row m).1 → (y : List ℕ) → ¬ NeedsStart (taken_all g row row m).0 x y
+      none_needs : (m : Taking) → IsUnderWay InHand (taken_all g row m).0 (taken_all g row m).1 → (y : List ℕ) → ¬ NeedsStart (taken_all g row m).0 x y
       none_needs m way y needs =
-          let c = (taken_all g row row m).0 in
+          let c = (taken_all g row m).0 in
           let same : c.loaded ≡ s.loaded = ap (λ (z : State). z.loaded) way.rest in
           let (j, is) = number_by g y (way.held y (starts_held c y needs.waits)) in
           let before = subst (λ t. IsBefore t x y) same needs.later in
           let stands = stands_by g s serves u j x y number is before in
           by_kind c same j is stands needs
         where
-          quiet : (j : ℕ) → IsNumberOf g j y → Stands g.rows before_bit u j → (n : Neighbour) → Contains row n → n.unit ≡ j → needs_it n ≡ true → ¬ StartWaits (taken_all g row row m) y
+          quiet : (j : ℕ) → IsNumberOf g j y → Stands g.rows before_bit u j → (n : Neighbour) → Contains row n → n.unit ≡ j → needs_it n ≡ true → ¬ StartWaits (taken_all g row m) y
           quiet j is stands n c e t =
-              let later : goes_before row n.unit ≡ true = any_in (is_later n.unit) row stands.neighbour stands.listed
-              (and_both (stands.neighbour.unit == n.unit) (has before_bit stands.neighbour.kinds) ((Decides-eqb stands.neighbour.unit n.unit).1 (stands.is ∙ sym e)) stands.kind) in
-              all_quiet g row row m n c (and_both (needs_it n) (goes_before row n.unit) t later) y (subst (λ i. IsNumberOf g i y) (sym e) is)
+              let later : is_later n ≡ true =
+              subst (λ (k : Neighbour). is_later k ≡ true) (once_there row (serves.graph.once u) stands.neighbour n stands.listed c (stands.is ∙ sym e)) stands.kind in
+              all_quiet g row m n c (and_both (needs_it n) (is_later n) t later) y (subst (λ i. IsNumberOf g i y) (sym e) is)
 
-          by_kind : (c : State) → c.loaded ≡ s.loaded → (j : ℕ) → IsNumberOf g j y → Stands g.rows before_bit u j → NeedsStart (taken_all g row row m).0 x y → ⊥
+          by_kind : (c : State) → c.loaded ≡ s.loaded → (j : ℕ) → IsNumberOf g j y → Stands g.rows before_bit u j → NeedsStart (taken_all g row m).0 x y → ⊥
           by_kind c same j is stands needs = elim (there) as (λ _. ⊥) [
             | inl h ↦ quiet j is stands h.neighbour h.listed h.is (or_both (has (inverse_bit_of Requires) h.neighbour.kinds) (has (inverse_bit_of BindsTo) h.neighbour.kinds) (inl h.kind)) needs.waits
             | inr h ↦ quiet j is stands h.neighbour h.listed h.is (or_both (has (inverse_bit_of Requires) h.neighbour.kinds) (has (inverse_bit_of BindsTo) h.neighbour.kinds) (inr h.kind)) needs.waits
           ]
             where
-              loaded : (taken_all g row row m).0.loaded ≡ s.loaded
+              loaded : (taken_all g row m).0.loaded ≡ s.loaded
               loaded = ap (λ (z : State). z.loaded) way.rest
 
               there : Stands g.rows (inverse_bit_of Requires) u j ⊎ Stands g.rows (inverse_bit_of BindsTo) u j
@@ -300,11 +297,11 @@ module _ (g : GraphView) (s : State) (failed : List ℕ) where
     lost_source c x (inl is) = inl is
     lost_source c x (inr taken) = inr taken.along
 
-    pub goes_on : (c : State) (l l' : List ℕ) (u : ℕ) (m : Taking) → IsGoing c l → l ≡ l' ++ u ∷ [] → m ≡ taken_all g (row_of g.rows u) (row_of g.rows u) (c, l') → IsGoing m.0 m.1
+    pub goes_on : (c : State) (l l' : List ℕ) (u : ℕ) (m : Taking) → IsGoing c l → l ≡ l' ++ u ∷ [] → m ≡ taken_all g (row_of g.rows u) (c, l') → IsGoing m.0 m.1
     goes_on c l l' u m way e is =
         let (x, number, lost) = way.listed u (subst (λ k. Contains k u) (sym e) (Contains-push l' u)) in
         let source = lost_source c x lost in
-        let taken_now : Taking = taken_all g (row_of g.rows u) (row_of g.rows u) (c, l') in
+        let taken_now : Taking = taken_all g (row_of g.rows u) (c, l') in
         let after = go_all u x number source (row_of g.rows u) (λ n k. k) (c, l') (in_hand x number) in
         subst (λ (z : Taking). IsGoing z.0 z.1) (sym is) (put_down x taken_now after (none_needs u x number source (c, l') after))
       where

@@ -84,9 +84,9 @@ module _ (g : GraphView) (s : State) (serves : Serves g s) where
 -- ---- what a call says of work that goes on, over the graph with which it began
 
 module _ (u v : WorkView) (keeps : Keeps u v) where
-  pub taken_on : (unit : ℕ) (before after : Taking) → after ≡ taken_all v.graph (row_of v.graph.rows unit) (row_of v.graph.rows unit) before
-      → after ≡ taken_all u.graph (row_of u.graph.rows unit) (row_of u.graph.rows unit) before
-  taken_on unit before after is = subst (λ (g : GraphView). after ≡ taken_all g (row_of g.rows unit) (row_of g.rows unit) before) keeps.graph is
+  pub taken_on : (unit : ℕ) (before after : Taking) → after ≡ taken_all v.graph (row_of v.graph.rows unit) before
+      → after ≡ taken_all u.graph (row_of u.graph.rows unit) before
+  taken_on unit before after is = subst (λ (g : GraphView). after ≡ taken_all g (row_of g.rows unit) before) keeps.graph is
 
   pub carries_on : (w : WorkView) (unit : ℕ) → Keeps v w
       → ((name : List ℕ) → IsNumberOf v.graph unit name → Goes (machine.Carries v.moment name BoundStop (state_of v.now)) v w)
@@ -135,13 +135,13 @@ module _ (g : GraphView) (unit : ℕ) (name : List ℕ) (number : IsNumberOf g u
 
 -- one neighbour more is gone through
 pub next_taken : (g h : GraphView) (row : List Neighbour) (i : ℕ) (d : Neighbour) (before after whole : Taking) → i < length row → h ≡ g
-    → after ≡ taken_next h row (get_or row i d) before → taken_all g row (drop i row) before ≡ whole → taken_all g row (drop (i + 1) row) after ≡ whole
+    → after ≡ taken_next h (get_or row i d) before → taken_all g (drop i row) before ≡ whole → taken_all g (drop (i + 1) row) after ≡ whole
 next_taken g h row i d before after whole within same is all =
     let n = get_or row i d in
     let more : i + 1 ≡ suc i = omega arith in
-    ap (taken_all g row (drop (i + 1) row)) (is ∙ ap (λ x. taken_next x row n before) same)
-    ∙ (ap (λ k. taken_all g row (drop k row) (taken_next g row n before)) more
-    ∙ (sym (ap (λ ns. taken_all g row ns before) (drop-cons row i d within)) ∙ all))
+    ap (taken_all g (drop (i + 1) row)) (is ∙ ap (λ x. taken_next x n before) same)
+    ∙ (ap (λ k. taken_all g (drop k row) (taken_next g n before)) more
+    ∙ (sym (ap (λ ns. taken_all g ns before) (drop-cons row i d within)) ∙ all))
 
 -- ---- what the rows say, by the graph's numbers
 

@@ -1,8 +1,7 @@
 -- Which starts a failed start takes along, as the code goes from one unit to the next by the rows of the graph.
 -- Follows the definition of what a failed start takes along: it says it by numbers.
 -- The taking along stands on this file.
-use Rattle.std.specs.Prelude.{ℕ, ◌==◌, ◌&&◌, ◌||◌, ◌++◌, Bool, if◌then◌else◌, List, [], ◌∷◌, Option, Some, None, slice_get}
-use Rattle.std.specs.List.{list_any}
+use Rattle.std.specs.Prelude.{ℕ, ◌&&◌, ◌||◌, ◌++◌, Bool, if◌then◌else◌, List, [], ◌∷◌, Option, Some, None, slice_get}
 use Rattle.um_model.specs.Jobs.{jobs_of_unit, with_jobs, without_start}
 use Rattle.um_model.specs.Machine.{State, is_waiting}
 use Rattle.um_model.specs.Service.{state_of_unit, with_unit}
@@ -21,13 +20,9 @@ Taking = State × List ℕ
 abbrev pub needs_it : Neighbour → Bool
 needs_it n = has (inverse_bit_of Requires) n.kinds || has (inverse_bit_of BindsTo) n.kinds
 
--- this neighbour is the unit with the number, and comes after the one in whose row it stands
-abbrev pub is_later : ℕ → Neighbour → Bool
-is_later unit n = (n.unit == unit) && has before_bit n.kinds
-
--- the unit of the row comes before the unit with the number
-abbrev pub goes_before : List Neighbour → ℕ → Bool
-goes_before row unit = list_any (is_later unit) row
+-- the neighbour comes after the unit in whose row it stands
+abbrev pub is_later : Neighbour → Bool
+is_later n = has before_bit n.kinds
 
 -- the unit, whose start was taken along
 abbrev pub with_result_dependency : UnitState → UnitState
@@ -51,11 +46,11 @@ taken_by (Some name) unit m = taken_named name unit m
 abbrev pub taken : GraphView → ℕ → Taking → Taking
 taken g unit m = taken_by (slice_get g.names unit) unit m
 
--- the start of a neighbour in the row is gone where it needs that of the row's unit
-abbrev pub taken_next : GraphView → List Neighbour → Neighbour → Taking → Taking
-taken_next g row n m = if needs_it n && goes_before row n.unit then taken g n.unit m else m
+-- the start of a neighbour is gone where it needs that of the unit in whose row it stands
+abbrev pub taken_next : GraphView → Neighbour → Taking → Taking
+taken_next g n m = if needs_it n && is_later n then taken g n.unit m else m
 
 -- so are those of all these neighbours
-abbrev pub taken_all : GraphView → List Neighbour → List Neighbour → Taking → Taking
-taken_all g row [] m = m
-taken_all g row (n ∷ ns) m = taken_all g row ns (taken_next g row n m)
+abbrev pub taken_all : GraphView → List Neighbour → Taking → Taking
+taken_all g [] m = m
+taken_all g (n ∷ ns) m = taken_all g ns (taken_next g n m)

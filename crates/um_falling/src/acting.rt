@@ -2,7 +2,7 @@
 
 ghost use Rattle.std.specs.Prelude.{◌≡◌, ℕ, List, Some, option_copied, option_map};
 ghost use Rattle.um_graph.specs.Graph.{IsNumberOf};
-ghost use Rattle.um_model.specs.Dependencies.{loadable_in, loadable_of};
+ghost use Rattle.um_model.specs.Dependencies.{loadable_in};
 ghost use Rattle.um_falling.specs.Over.{Serves};
 ghost use Rattle.um_model.specs.Machine as model;
 ghost use Rattle.um_model.specs.Settings.{default_settings};
@@ -12,7 +12,7 @@ ghost use Rattle.um_unit.specs.ServiceView.{service_settings_of};
 ghost use Rattle.um_unit.specs.View.{loading_of, unit_of};
 
 use std::rc::Rc;
-use um_graph::Graph;
+use um_graph::{Graph, loadable};
 use um_model::UnitKind;
 use um_unit::{LoadedUnit, Loading, ServiceSettings};
 
@@ -31,16 +31,6 @@ fn loading(graph: &Graph, unit: usize) -> Option<&Loading>
         → option_map loading_of (option_copied result) ≡ Some (units.load s.loaded name) }
 {
     graph.loading(unit)
-}
-
-/// The unit, if it can be started: it is found and is no template.
-fn loadable(loading: &Loading) -> Option<&LoadedUnit>
-    ensures { option_map (λ unit. unit_of unit.now) result ≡ loadable_of (loading_of loading.now) }
-{
-    match loading {
-        Loading::Found(unit) if !unit.name.is_template() => Some(unit),
-        _ => None,
-    }
 }
 
 /// The unit of the graph with this number, if it can be started.

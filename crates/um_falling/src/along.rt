@@ -25,25 +25,6 @@ fn needs_it(neighbour: Neighbour) -> bool
         || neighbour.kinds.has_inverse(DependencyKind::BindsTo)
 }
 
-/// Whether this neighbour is the unit with the number, and comes after the one in whose row it stands.
-fn is_later(unit: usize, neighbour: Neighbour) -> bool
-    ensures { result ≡ taking.is_later unit neighbour }
-{
-    neighbour.unit == unit && neighbour.kinds.is_before()
-}
-
-/// Whether the unit of the row comes before the unit with the number.
-fn goes_before(row: &[Neighbour], unit: usize) -> bool
-    ensures { result ≡ taking.goes_before row.now unit }
-{
-    for neighbour in row {
-        if is_later(unit, *neighbour) {
-            return true;
-        }
-    }
-    false
-}
-
 /// The start of the unit with this number is gone, and its result tells so. It takes no memory.
 fn drop_start(work: &mut Work<'_>, unit: usize)
     ensures state { (name : List ℕ) → IsNumberOf work.old.graph unit name
@@ -75,20 +56,19 @@ fn take(work: &mut Work<'_>, list: &mut Vec<usize>, unit: usize) -> Result<(), A
     Ok(())
 }
 
-/// The start of a neighbour in the row is gone where it needs that of the row's unit.
+/// The start of a neighbour is gone where it needs that of the unit in whose row it stands.
 fn take_next(
     work: &mut Work<'_>,
     list: &mut Vec<usize>,
-    row: &[Neighbour],
     neighbour: Neighbour,
 ) -> Result<(), AllocError>
     requires { neighbour.unit < length work.old.graph.names }
     ensures taken { OnOk result ((state_of work.new.now, list.new.items)
-        ≡ taking.taken_next work.old.graph row.now neighbour (state_of work.old.now, list.old.items)) }
+        ≡ taking.taken_next work.old.graph neighbour (state_of work.old.now, list.old.items)) }
     ensures keeps { OnOk result (Keeps work.old work.new) }
     ensures actions { OnOk result (work.new.actions ≡ work.old.actions) }
 {
-    if !needs_it(neighbour) || !goes_before(row, neighbour.unit) {
+    if !needs_it(neighbour) || !neighbour.kinds.is_before() {
         return Ok(());
     }
     take(work, list, neighbour.unit)
@@ -97,13 +77,13 @@ fn take_next(
 /// The starts that need that of the unit with this number are gone.
 fn take_all(work: &mut Work<'_>, list: &mut Vec<usize>, unit: usize) -> Result<(), AllocError>
     ensures taken { OnOk result ((state_of work.new.now, list.new.items)
-        ≡ taking.taken_all work.old.graph (row_of work.old.graph.rows unit) (row_of work.old.graph.rows unit) (state_of work.old.now, list.old.items)) }
+        ≡ taking.taken_all work.old.graph (row_of work.old.graph.rows unit) (state_of work.old.now, list.old.items)) }
     ensures keeps { OnOk result (Keeps work.old work.new) }
     ensures actions { OnOk result (work.new.actions ≡ work.old.actions) }
 {
     let row = work.graph().neighbours(unit);
     for neighbour in row {
-        take_next(work, list, row, *neighbour)?;
+        take_next(work, list, *neighbour)?;
     }
     Ok(())
 }

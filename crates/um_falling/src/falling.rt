@@ -1,7 +1,7 @@
 //! What happens to a unit, with the units that fall with it: those that are bound to one that comes to rest are told to stop at once
 //! (systemd.unit(5), "BindsTo=").
 
-ghost use Rattle.std.specs.Prelude.{◌≡◌, ◌<◌, ◌++◌, ℕ, List, [], All, false, length, IfOk, OnOk, slice_get};
+ghost use Rattle.std.specs.Prelude.{◌≡◌, ◌<◌, ◌≤◌, ◌++◌, ℕ, List, [], All, false, length, IfOk, OnOk, slice_get};
 ghost use Rattle.um_falling.specs.Carrying.{KeepsOthers, OnlyEnds};
 ghost use Rattle.um_falling.specs.Falling as falls;
 ghost use Rattle.um_falling.specs.Falling.{AddsFalling, AreNamed, StopsIf, StopsOne, falling_from, goes, sub_of};
@@ -154,7 +154,8 @@ fn fall_all(work: &mut Work<'_>, list: &mut VecDeque<usize>) -> Result<(), Alloc
 }
 
 /// Carries out what happens to the unit with this number at the moment, with all units that fall with it; what is asked of processes
-/// comes behind the other actions. Told is whether other units may have changed too. Where memory is refused the work is of no use.
+/// comes behind the other actions; past the last one nothing happens. Told is whether other units may have changed too. Where memory is
+/// refused the work is of no use.
 pub fn happen(work: &mut Work<'_>, unit: usize, event: UnitEvent) -> Result<bool, AllocError>
     ensures happens { OnOk result ((name : List ℕ) → IsNumberOf work.old.graph unit name
         → Goes (model.Happens work.old.moment name event (state_of work.old.now)) work.old work.new) }
@@ -164,10 +165,13 @@ pub fn happen(work: &mut Work<'_>, unit: usize, event: UnitEvent) -> Result<bool
         → spreads ≡ false → KeepsOthers name (state_of work.old.now) (state_of work.new.now)) }
     ensures ends { IfOk result (λ spreads. (name : List ℕ) → IsNumberOf work.old.graph unit name
         → spreads ≡ false → OnlyEnds (jobs_of_unit (state_of work.old.now).pending name) (jobs_of_unit (state_of work.new.now).pending name)) }
+    ensures past { length work.old.graph.names ≤ unit → OnOk result (work.new ≡ work.old) }
     ensures keeps { OnOk result (Keeps work.old work.new) }
 {
-    // The proof reads here that the graph serves.
-    let _ = work.graph();
+    // The proof reads here that the graph serves, too.
+    let Some(_) = work.graph().name(unit) else {
+        return Ok(false);
+    };
     let mut list = VecDeque::new(work.alloc());
     let fails = carry_on(work, &mut list, unit, event)?;
     let spreads = fails || !list.is_empty();

@@ -1,19 +1,19 @@
 //! A step in work.
 
-ghost use Rattle.std.specs.Prelude.{◌≡◌, ◌↔◌, ◌++◌, ℕ, List, [], length, map, vec_len, Contains, IfOk, IfSome, IsTrue, MatchOption, OnOk};
+ghost use Rattle.std.specs.Prelude.{◌≡◌, ◌≤◌, ◌↔◌, ◌++◌, ℕ, List, [], length, map, vec_len, is_some, Contains, IfOk, IfSome, IsTrue, MatchOption, OnOk};
 ghost use Rattle.std.specs.Coded.{codes};
 ghost use Rattle.std.specs.FinMap as maps;
 ghost use Rattle.um_falling.specs.Over.{Serves};
 ghost use Rattle.um_falling.specs.Work.{Keeps, WorkView};
 ghost use Rattle.um_graph.specs.Graph.{IsNumberOf};
-ghost use Rattle.um_model.specs.Jobs.{AreTidyJobs, jobs_of_unit, with_jobs};
+ghost use Rattle.um_model.specs.Jobs.{AreTidyJobs, jobs_of_unit, no_jobs, with_jobs};
 ghost use Rattle.um_model.specs.Machine.{IsHeld};
-ghost use Rattle.um_model.specs.Service.{AreTidyUnits, state_of_unit, with_unit};
+ghost use Rattle.um_model.specs.Service.{AreTidyUnits, dead_unit, state_of_unit, with_unit};
 ghost use Rattle.um_state.specs.Deltas.{delta_after};
 ghost use Rattle.um_state.specs.Rows.{timed};
 ghost use Rattle.um_state.specs.Tables.{jobs_by};
 ghost use Rattle.um_state.specs.View.{state_of, action_of};
-ghost use Rattle.um_state.specs.Working.{CountsDiffering};
+ghost use Rattle.um_state.specs.Working.{CountsDiffering, jobs_set, unit_set};
 ghost use Rattle.um_tree.specs.Code.{tree_code};
 
 use std::alloc::{AllocError, Global};
@@ -56,7 +56,7 @@ impl<'g> Drop for Work<'g> {
 }
 
 impl<'g> Work<'g> {
-    /// The rows of the state, at the moment; nothing is asked yet. None where units and pending jobs have no common numbers.
+    /// The rows of the state, at the moment; nothing is asked yet. None exactly where units and pending jobs have no common numbers.
     pub fn of(
         alloc: Global,
         graph: &'g Graph,
@@ -65,6 +65,7 @@ impl<'g> Work<'g> {
     ) -> Result<Option<Work<'g>>, AllocError>
         requires serves { Serves graph.now (state_of base.now) }
         requires names { base.now.names ≡ graph.now.names }
+        ensures common { IfOk result (λ made. is_some made ≡ base.now.common) }
         ensures begins { IfOk result (λ made. IfSome made (λ w.
             w ≡ record { graph = graph.now; base = base.now; now = base.now; moment = moment; actions = [] })) }
     {
@@ -101,17 +102,19 @@ impl<'g> Work<'g> {
         self.moment
     }
 
-    /// How the unit with this number stands. It takes no memory.
+    /// How the unit with this number stands; past the last one it is dead. It takes no memory.
     pub fn unit(&self, unit: usize) -> UnitState
         ensures state { (name : List ℕ) → IsNumberOf self.now.graph unit name → result ≡ state_of_unit (state_of self.now.now).units name }
+        ensures past { length self.now.graph.names ≤ unit → result ≡ dead_unit }
         ensures tidy { AreTidyUnits (state_of self.now.now).units }
     {
         self.rows.unit(unit)
     }
 
-    /// The pending jobs of the unit with this number. It takes no memory.
+    /// The pending jobs of the unit with this number; past the last one there are none. It takes no memory.
     pub fn jobs(&self, unit: usize) -> UnitJobs
         ensures jobs { (name : List ℕ) → IsNumberOf self.now.graph unit name → result ≡ jobs_of_unit (state_of self.now.now).pending name }
+        ensures past { length self.now.graph.names ≤ unit → result ≡ no_jobs }
         ensures tidy { AreTidyJobs (state_of self.now.now).pending }
     {
         self.rows.jobs(unit)
@@ -150,6 +153,7 @@ impl<'g> Work<'g> {
     pub fn set_unit(&mut self, unit: usize, stands: UnitState)
         ensures state { (name : List ℕ) → IsNumberOf self.old.graph unit name
             → state_of self.new.now ≡ record (state_of self.old.now) { units = with_unit (state_of self.old.now).units name stands } }
+        ensures now { self.new.now ≡ unit_set self.old.now unit stands }
         ensures keeps { Keeps self.old self.new }
         ensures actions { self.new.actions ≡ self.old.actions }
     {
@@ -160,6 +164,7 @@ impl<'g> Work<'g> {
     pub fn set_jobs(&mut self, unit: usize, jobs: UnitJobs)
         ensures state { (name : List ℕ) → IsNumberOf self.old.graph unit name
             → state_of self.new.now ≡ record (state_of self.old.now) { pending = with_jobs (state_of self.old.now).pending name jobs } }
+        ensures now { self.new.now ≡ jobs_set self.old.now unit jobs }
         ensures keeps { Keeps self.old self.new }
         ensures actions { self.new.actions ≡ self.old.actions }
     {

@@ -4,11 +4,11 @@
 use Rattle.std.specs.Prelude.{◌≡◌, ◌++◌, ℕ, List, Bool, true, false, Option, Some, None, IsTrue}
 
 -- An accept, with which connections are open after it; a read of a connection, of so many bytes at most, with those that came, or that it is
--- closed; a write, with the bytes that were taken; a connection given up.
+-- closed; a write, with the bytes that were offered and those of them that were taken; a connection given up.
 pub data Event : Type 0 where
   accepted : (is_open : List Bool) → Event
   read : (number most : ℕ) (came : Option (List ℕ)) → Event
-  wrote : (number : ℕ) (taken : List ℕ) → Event
+  wrote : (number : ℕ) (offered taken : List ℕ) → Event
   dropped : (number : ℕ) → Event
 
 -- what a read tells: its bytes, or that the connection is closed

@@ -10,7 +10,7 @@ abbrev pub event_of : Note → Event
 event_of (note.Accepted which) = accepted which.is_open
 event_of (note.Came number most bytes) = read number most (Some bytes.items)
 event_of (note.Closed number most) = read number most None
-event_of (note.Wrote number bytes) = wrote number bytes.items
+event_of (note.Wrote number offered taken) = wrote number offered.items taken.items
 event_of (note.Dropped number) = dropped number
 
 abbrev pub events_of : List Note → List Event

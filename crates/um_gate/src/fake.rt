@@ -91,13 +91,24 @@ fn note_read(
 }
 
 /// Notes a write, where there is memory.
-fn note_write(alloc: Global, notes: &mut Vec<Note>, number: usize, bytes: &[u8]) -> bool
-    ensures { result ≡ true → events_of notes.new.items ≡ events_of notes.old.items ++ wrote number bytes.now ∷ [] }
+fn note_write(
+    alloc: Global,
+    notes: &mut Vec<Note>,
+    number: usize,
+    offered: &[u8],
+    taken: &[u8],
+) -> bool
+    ensures { result ≡ true → events_of notes.new.items ≡ events_of notes.old.items ++ wrote number offered.now taken.now ∷ [] }
 {
-    match copied(alloc, bytes) {
-        Some(copy) => notes.push(Note::Wrote(number, copy)).is_ok(),
-        None => false,
-    }
+    let (Some(offered), Some(taken)) = (copied(alloc, offered), copied(alloc, taken)) else {
+        return false;
+    };
+    let note = Note::Wrote {
+        number,
+        offered,
+        taken,
+    };
+    notes.push(note).is_ok()
 }
 
 /// The connections of those that are there.
@@ -363,7 +374,7 @@ impl Gate for FakeGate {
     }
 
     fn write(&mut self, number: usize, bytes: &[u8]) -> usize
-        ensures past { IsTrue true → IsTrue self.new.is_whole → self.new.past ≡ self.old.past ++ wrote number (take result bytes.now) ∷ [] }
+        ensures past { IsTrue true → IsTrue self.new.is_whole → self.new.past ≡ self.old.past ++ wrote number bytes.now (take result bytes.now) ∷ [] }
         ensures whole { IsTrue self.new.is_whole → IsTrue self.old.is_whole }
         ensures honest { true ≡ true }
         ensures clients { self.new.clients ≡ self.old.clients }
@@ -374,7 +385,7 @@ impl Gate for FakeGate {
             Some(place) => limit_of(place).min(bytes.len()),
             None => 0,
         };
-        if !note_write(self.alloc, &mut self.notes, number, &bytes[..count]) {
+        if !note_write(self.alloc, &mut self.notes, number, bytes, &bytes[..count]) {
             self.lost = true;
         }
         count

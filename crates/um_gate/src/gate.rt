@@ -45,10 +45,10 @@ pub trait Gate {
         ensures whole { IsTrue (whole self.new) → IsTrue (whole self.old) }
         ensures honest { honest self.new ≡ honest self.old };
 
-    /// Takes some of the bytes, from the first on, and tells how many.
+    /// Is offered these bytes, takes some of them, from the first on, and tells how many.
     fn write(&mut self, number: usize, bytes: &[u8]) -> usize
         ensures bound { result ≤ length bytes.now }
-        ensures past { Logs (honest self.old) (whole self.new) (past self.old) (past self.new) (wrote number (take result bytes.now) ∷ []) }
+        ensures past { Logs (honest self.old) (whole self.new) (past self.old) (past self.new) (wrote number bytes.now (take result bytes.now) ∷ []) }
         ensures whole { IsTrue (whole self.new) → IsTrue (whole self.old) }
         ensures honest { honest self.new ≡ honest self.old };
 

@@ -18,8 +18,14 @@ pub enum Note {
         /// So many bytes were to be read at most.
         most: usize,
     },
-    /// A write to a connection, with the bytes that it took.
-    Wrote(usize, Vec<u8>),
+    /// A write to a connection.
+    Wrote {
+        number: usize,
+        /// All that was offered.
+        offered: Vec<u8>,
+        /// What it took of that.
+        taken: Vec<u8>,
+    },
     /// A connection given up.
     Dropped(usize),
 }

@@ -6,12 +6,13 @@ ghost use Rattle.std.specs.List.{flat_map};
 ghost use Rattle.um_tree.specs.View.{entry_of};
 ghost use Rattle.um_graph.specs.Tells.{both_of, entry_names, entry_told, link_names, link_told, own_name, tell, told_between};
 ghost use Rattle.um_graph.specs.declared.told.Link.TheVariants.{Depends};
-ghost use Rattle.um_model.specs.Units.{unit_named};
+ghost use Rattle.um_model.specs.Units as units;
 
-use crate::told::{Link, Told, unit_of};
+use crate::told::{Link, Told};
 use std::alloc::{AllocError, Global};
 use um_model::DependencyKind;
 use um_name::UnitName;
+use um_resolve::unit_named;
 use um_tree::{Entry, Place, ServedPath, Tree};
 
 /// The names in the entries of a tree, and what its links tell.
@@ -29,12 +30,12 @@ fn dependence(
     unit: &UnitName,
     other: &UnitName,
 ) -> Result<Told, AllocError>
-    ensures { IfOk result (λ t. t ≡ tell (Depends kind) (unit_named tree.now unit.now) (unit_named tree.now other.now)) }
+    ensures { IfOk result (λ t. t ≡ tell (Depends kind) (units.unit_named tree.now unit.now) (units.unit_named tree.now other.now)) }
 {
     Ok(Told {
         link: Link::Depends(kind),
-        from: unit_of(alloc, tree, unit)?,
-        to: unit_of(alloc, tree, other)?,
+        from: unit_named(alloc, tree, unit)?,
+        to: unit_named(alloc, tree, other)?,
     })
 }
 

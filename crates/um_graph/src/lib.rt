@@ -18,3 +18,4 @@ pub use count::{count_of, known_units};
 pub use graph::Graph;
 pub use kinds::{Kinds, inverse_of, kinds_of};
 pub use row::Neighbour;
+pub use told::loadable;

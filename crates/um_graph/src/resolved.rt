@@ -2,15 +2,15 @@
 
 ghost use Rattle.std.specs.Prelude.{◌≡◌, IfOk};
 ghost use Rattle.um_model.specs.Tree as model;
-ghost use Rattle.um_model.specs.Units.{unit_named};
+ghost use Rattle.um_model.specs.Units as units;
 ghost use Rattle.um_graph.specs.Resolved.{LeadSo};
 ghost use Rattle.um_tree.specs.Code.{tree_code};
 
-use crate::told::unit_of;
 use indexmap::IndexMap;
 use std::alloc::{AllocError, Global};
 use std::marker::Model;
 use um_name::UnitName;
+use um_resolve::unit_named;
 use um_tree::Tree;
 
 /// The units to which the names lead in a tree that were asked for. A name is looked for once, however often it is asked for.
@@ -50,13 +50,13 @@ impl<'t> Resolved<'t> {
 
     /// The unit to which the name leads, or where it leads nowhere the name itself.
     pub(crate) fn unit(&mut self, alloc: Global, name: UnitName) -> Result<UnitName, AllocError>
-        ensures unit { IfOk result (λ unit. unit ≡ unit_named self.old name) }
+        ensures unit { IfOk result (λ unit. unit ≡ units.unit_named self.old name) }
         ensures tree { self.new ≡ self.old }
     {
         if let Some(unit) = self.units.get(&name) {
             return unit.copy();
         }
-        let unit = unit_of(alloc, self.tree, &name)?;
+        let unit = unit_named(alloc, self.tree, &name)?;
         self.units.insert(name, unit.copy()?)?;
         Ok(unit)
     }

@@ -5,7 +5,6 @@ ghost use Rattle.std.specs.List.{flat_map};
 ghost use Rattle.um_model.specs.Dependencies as model;
 ghost use Rattle.um_model.specs.Names.{named};
 ghost use Rattle.um_model.specs.Resolution.{shutdown_target};
-ghost use Rattle.um_model.specs.Units.{unit_named};
 ghost use Rattle.um_unit.specs.View.{loading_of, unit_of as loaded_of};
 ghost use Rattle.um_graph.specs.Tells.{defaults_told, follows_by, names_given, needs_told, shutdown_told, tell, told_of};
 
@@ -13,8 +12,6 @@ use crate::resolved::Resolved;
 use std::alloc::{AllocError, Global};
 use um_model::DependencyKind;
 use um_name::UnitName;
-use um_resolve::{Resolution, resolve};
-use um_tree::Tree;
 use um_unit::{LoadedUnit, Loading};
 
 /// In which way one unit is told to stand to another.
@@ -36,20 +33,8 @@ pub(crate) struct Told {
     pub(crate) to: UnitName,
 }
 
-/// The unit to which a name leads, or where it leads nowhere the name itself. No file is read.
-pub(crate) fn unit_of(alloc: Global, tree: &Tree, name: &UnitName) -> Result<UnitName, AllocError>
-    ensures { IfOk result (λ unit. unit ≡ unit_named tree.now name.now) }
-{
-    match resolve(alloc, tree, name)? {
-        Resolution::File { unit, .. } => Ok(unit),
-        Resolution::NoFile { unit } => Ok(unit),
-        Resolution::Mask { unit } => Ok(unit),
-        Resolution::Nowhere => name.copy(),
-    }
-}
-
 /// The unit, if it can be loaded: it is found and is no template.
-pub(crate) fn loadable(loading: &Loading) -> Option<&LoadedUnit>
+pub fn loadable(loading: &Loading) -> Option<&LoadedUnit>
     ensures { option_map (λ unit. loaded_of unit.now) result ≡ model.loadable_of (loading_of loading.now) }
 {
     match loading {

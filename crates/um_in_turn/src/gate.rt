@@ -116,9 +116,14 @@ fn manager(alloc: Global) -> Result<Box<Serving>, Wrong> {
 fn taken(alloc: Global, notes: &[Note], number: usize) -> Result<Vec<u8>, Wrong> {
     let mut bytes = Vec::new(alloc);
     for note in notes {
-        if let Note::Wrote(to, part) = note {
+        if let Note::Wrote {
+            number: to,
+            taken,
+            ..
+        } = note
+        {
             if *to == number {
-                bytes.extend_from_slice(part.as_slice())?;
+                bytes.extend_from_slice(taken.as_slice())?;
             }
         }
     }

@@ -17,6 +17,7 @@ mod gate;
 mod hoard;
 mod limited;
 mod lives;
+mod lost_reads;
 mod managers;
 mod rows;
 mod scarce;
@@ -98,6 +99,7 @@ fn scarce_life(alloc: Global, number: &str) -> Result<u64, Wrong> {
         "3" => scarce::rows_taken(alloc, lives::RESTARTS),
         "4" => scarce::rows_taken(alloc, lives::ENABLED),
         "5" => scarce::two_clients(alloc),
+        "6" => scarce::lost_reads(alloc),
         _ => Err(found("no such life")),
     }
 }
@@ -142,10 +144,10 @@ fn short(alloc: Global) -> Result<(), Wrong> {
     lives::wanting_is_noticed(alloc)
 }
 
-/// The same, and two lives whose calls find little memory.
+/// The same, and three lives whose calls find little memory.
 fn some(rt: &HostRuntime, program: &str) -> Result<u64, Wrong> {
     short(rt.alloc())?;
-    scarce_parts(rt, program, &["1", "5"])?;
+    scarce_parts(rt, program, &["1", "5", "6"])?;
     Ok(0)
 }
 

@@ -4,6 +4,7 @@ use crate::alone::{Course, course_of};
 use crate::clients::two;
 use crate::hoard::Hoard;
 use crate::lives::{Taken, Taker, heard, is_answer, is_closed, is_untouched, stand_for};
+use crate::lost_reads::is_lost;
 use crate::rows::{Row, input_of};
 use crate::stores::{blank, bytes_of, create_on, open};
 use crate::wrong::{Wrong, found};
@@ -197,6 +198,18 @@ fn turned(alloc: Global, first: Grains) -> Result<usize, Wrong> {
     Err(found("a turn is refused always"))
 }
 
+/// A client's round, until nothing is lost of what it reads; tells how many rounds lost that.
+fn kept(alloc: Global, first: Grains) -> Result<usize, Wrong> {
+    let mut grains = first;
+    for tries in 0..MOST {
+        if !is_lost(alloc, grains)? {
+            return Ok(tries);
+        }
+        grains = more(grains);
+    }
+    Err(found("what is read is lost always"))
+}
+
 /// Asserts that something was refused.
 fn some(refusals: usize) -> Result<u64, Wrong> {
     if refusals == 0 {
@@ -216,4 +229,10 @@ pub fn rows_taken(alloc: Global, rows: &[Row]) -> Result<u64, Wrong> {
 pub fn two_clients(alloc: Global) -> Result<u64, Wrong> {
     turned(alloc, None)?;
     some(turned(alloc, Some(0))?)
+}
+
+/// A client whose round finds scarce memory; tells how many rounds lost what they read.
+pub fn lost_reads(alloc: Global) -> Result<u64, Wrong> {
+    kept(alloc, None)?;
+    some(kept(alloc, Some(0))?)
 }

@@ -4,7 +4,6 @@ ghost use Rattle.std.specs.Prelude.{◌≡◌, ◌++◌, IfOk, OnOk, map as each
 ghost use Rattle.std.specs.FinMap as map;
 ghost use Rattle.std.specs.List.{flat_map};
 ghost use Rattle.um_model.specs.Names.{named};
-ghost use Rattle.um_model.specs.Units as model;
 ghost use Rattle.um_unit.specs.View.{loading_of};
 ghost use Rattle.um_install.specs.View.{units_of};
 ghost use Rattle.um_install.specs.Walk.{AreWalked, also_in, listed, name_in, name_taken, units_with, waiting_with};
@@ -12,7 +11,7 @@ ghost use Rattle.um_install.specs.Walk.{AreWalked, also_in, listed, name_in, nam
 use std::alloc::{AllocError, Global};
 use std::collections::BTreeMap;
 use um_name::UnitName;
-use um_resolve::{Resolution, resolve};
+use um_resolve::unit_named;
 use um_tree::Tree;
 use um_unit::{Loading, load};
 
@@ -26,18 +25,6 @@ pub(crate) enum Naming {
     AsResolved,
     /// The name as it is written.
     AsWritten,
-}
-
-/// The unit to which the name leads, or the name itself where it leads nowhere.
-fn unit_named(alloc: Global, tree: &Tree, name: &UnitName) -> Result<UnitName, AllocError>
-    ensures { IfOk result (λ unit. unit ≡ model.unit_named tree.now name.now) }
-{
-    match resolve(alloc, tree, name)? {
-        Resolution::File { unit, .. } => Ok(unit),
-        Resolution::NoFile { unit } => Ok(unit),
-        Resolution::Mask { unit } => Ok(unit),
-        Resolution::Nowhere => name.copy(),
-    }
 }
 
 /// The name that is taken for this one.

@@ -3,13 +3,14 @@
 -- The search for the next job stands on this file, and what is proved of the counts.
 use Rattle.std.specs.Prelude.{◌≡◌, ◌<◌, ℕ, Bool, true, false, not, ◌&&◌, ◌||◌, if◌then◌else◌, List, Option, Some, None, is_none, is_some}
 use Rattle.std.specs.List.{list_any}
+use Rattle.std.specs.Option.{option_map_or}
 use Rattle.um_model.specs.Machine.{is_waiting}
 use Rattle.um_model.specs.declared.jobs.JobKind.{JobKind}
 use Rattle.um_model.specs.declared.jobs.JobKind.TheVariants.{Stop, Start}
 use Rattle.um_model.specs.declared.jobs.JobState.{JobState}
 use Rattle.um_model.specs.declared.jobs.JobState.TheVariants.{Running, Waiting}
 use Rattle.um_model.specs.declared.jobs.UnitJobs.{UnitJobs}
-use Rattle.um_graph.specs.Graph.{GraphView, row_of}
+use Rattle.um_graph.specs.Graph.{GraphView, first_after, row_of}
 use Rattle.um_graph.specs.Kinds.{has, after_bit, before_bit}
 use Rattle.um_graph.specs.declared.row.Neighbour.{Neighbour}
 use Rattle.um_jobs.specs.Jobs.{JobsView, held_at}
@@ -24,6 +25,10 @@ abbrev pub holds_start : List UnitJobs → Neighbour → Bool
 holds_start jobs n =
     (has after_bit n.kinds && is_some (jobs_at jobs n.unit).start)
     || ((has before_bit n.kinds || has after_bit n.kinds) && is_some (jobs_at jobs n.unit).stop)
+
+-- the start of the first neighbour that the unit comes after is pending
+abbrev pub awaits_first : GraphView → List UnitJobs → ℕ → Bool
+awaits_first g units u = option_map_or (λ first. is_some (jobs_at units first).start) (first_after (row_of g.rows u)) false
 
 -- the stop of the unit waits, and for no other job
 abbrev pub is_stop_ready : GraphView → List UnitJobs → ℕ → Bool

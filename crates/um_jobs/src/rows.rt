@@ -53,7 +53,8 @@ fn is_start_held(units: &[UnitJobs], row: &[Neighbour]) -> bool
 /// Whether the first neighbour that the unit with this number comes after has a pending start. As a rule that is what a start waits for, and the row
 /// needn't be looked at then.
 fn awaits_first(graph: &Graph, units: &[UnitJobs], unit: usize) -> bool
-    ensures { result ≡ true → list_any (told.holds_start units.now) (row_of graph.now.rows unit) ≡ true }
+    ensures first { result ≡ told.awaits_first graph.now units.now unit }
+    ensures holds { result ≡ true → list_any (told.holds_start units.now) (row_of graph.now.rows unit) ≡ true }
 {
     match graph.first_after(unit) {
         Some(first) => jobs_of(units, first).start.is_some(),

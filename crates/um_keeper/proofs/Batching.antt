@@ -17,7 +17,7 @@ use Rattle.um_model.specs.Store.{body_limit}
 use Rattle.um_model.specs.declared.layout.Layout.{Layout}
 use Rattle.um_laws.proofs.DiskLaws.{weaker}
 use Rattle.um_laws.proofs.NumbersLaws.{run_numbers_rise}
-use Rattle.um_keeper.specs.Answering.{Answer, is_turned_away, Answered, accepted, refused, turned_away, AreAnswered, all_answered, and_next, Recorded, all_recorded, without_record, with_record, FailsAt, at_sync, at_record, FellBack, FellThere, StopsAt, HasFault, denied, where_step, taken, all_asked, IsIdle, IsRefusal, NeedNoRecord, HasNoRecord, HaveNoRecord, sectors_for, all_sectors, state_before_all}
+use Rattle.um_keeper.specs.Answering.{Answer, is_turned_away, Answered, accepted, refused, turned_away, AreAnswered, all_answered, and_next, Recorded, all_recorded, without_record, with_record, FailsAt, at_sync, at_record, FellBack, FellThere, StopsAt, HasFault, denied, where_step, taken, all_asked, IsIdle, IsRefusal, NeedNoRecord, HasNoRecord, HaveNoRecord, record_sectors, state_before_all}
 use Rattle.um_keeper.specs.Keeping.{IsBegun}
 use Rattle.um_engine.specs.OfStore.{is_of_store}
 use Rattle.um_sector.specs.Refused.{IsLost}
@@ -110,10 +110,6 @@ no_record_front s [] answers rest all same = tt
 no_record_front s (input ∷ inputs) [] rest all same = absurd (omega (arith, same))
 no_record_front s (input ∷ inputs) (answer ∷ answers) rest all same = (all.0, no_record_front s inputs answers rest all.1 (omega (arith, same)))
 
--- the sectors of those that are left
-pub sectors_left : {left more : List Input} {input : Input} (answer : Answer) (rest : List Answer) → left ≡ input ∷ more → all_sectors left (answer ∷ rest) ≡ sectors_for answer input + all_sectors more rest
-sectors_left answer rest is = ap (λ l. all_sectors l (answer ∷ rest)) is
-
 -- one more of which there is no record, and one more with its own
 pub recorded_without : {size : ℕ} {s t : State} {inputs : List Input} {answers : List Answer} {sectors : ℕ} (input : Input) (answer : Answer) → Recorded size s inputs answers sectors t
     → HasNoRecord t input answer → Recorded size s (inputs ++ input ∷ []) (answers ++ answer ∷ []) sectors t
@@ -122,7 +118,7 @@ recorded_without input answer (without_record first more) none = without_record 
 recorded_without input answer (with_record first some more) none = with_record first some (recorded_without input answer more none)
 
 pub recorded_with : {size : ℕ} {s t u : State} {inputs : List Input} {answers : List Answer} {sectors : ℕ} {input : Input} {answer : Answer} → Recorded size s inputs answers sectors t
-    → Answered size t input answer u → ¬ HasNoRecord t input answer → Recorded size s (inputs ++ input ∷ []) (answers ++ answer ∷ []) (sectors + sectors_for answer input) u
+    → Answered size t input answer u → ¬ HasNoRecord t input answer → Recorded size s (inputs ++ input ∷ []) (answers ++ answer ∷ []) (sectors + record_sectors input) u
 recorded_with {size} {u = u} {input = input} {answer} (all_recorded {s}) one some =
     subst (λ n. Recorded size s (input ∷ []) (answer ∷ []) n u) (omega arith) (with_record one some all_recorded)
 recorded_with (without_record first more) one some = without_record first (recorded_with more one some)

@@ -26,7 +26,10 @@ use Rattle.um_laws.proofs.ServableLaws.{step_servable}
 use Rattle.um_laws.proofs.StandsLaws.{contents, ComesTo, HasContents, has_contents, contents_are, newest_told, records_told, store_of, comes_further, comes_anew, run_to, only_end, state_back, anew}
 use Rattle.um_keeper.proofs.Meanwhile.{either_state}
 use Rattle.um_laws.proofs.WholeLaws.{step_fits, spelled_room, accepted_room}
+use Rattle.um_keeper.specs.Answering.{most_snapshot_calls}
 use Rattle.um_keeper.specs.Keeping.{MayHold, Keeps, IsBegun, snapshot_calls}
+use Rattle.um_keeper.specs.Underway.{MayRise}
+use Rattle.um_log.specs.declared.write.Log.{Log}
 
 -- ---- answers
 
@@ -255,6 +258,12 @@ at_most a b now old more least most = omega (arith, least, most)
 pub calls_at_most : {layout : Layout} {size : ℕ} {s : State} → MayHold layout size s → (now old more : ℕ) → now ≤ old + snapshot_calls s + more
     → now ≤ old + (sector_count (body_limit layout) + 3) + more
 calls_at_most {layout} {s = s} held now old more = at_most (snapshot_calls s) (sector_count (body_limit layout) + 3) now old more (most_of_snapshot held)
+
+-- the same of a log that rose
+pub rises_at_most : {layout : Layout} {size : ℕ} {s : State} (old new : Log) {most now : ℕ} → MayHold layout size s → MayRise old new (snapshot_calls s) most now
+    → MayRise old new (most_snapshot_calls layout) most now
+rises_at_most old new held (inl kept) = inl kept
+rises_at_most old new {most} {now} held (inr (one, few)) = let small = most_of_snapshot held in inr (one, omega (arith, few, small))
 
 module _ {past : Past} {sectors : ℕ} {layout : Layout} {slot : Slot} {generation number next size : ℕ} {s : State} (held : MayHold layout size s)
     (k : Keeps past sectors layout slot generation number next s) (fits : FitState s) where

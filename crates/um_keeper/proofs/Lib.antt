@@ -5,7 +5,9 @@ mod Reopening
 pub mod Repeating
 mod Replaying
 mod Results
+mod Telling
 mod Spent
+mod Taking
 mod Wiping
 mod Meanwhile
 mod Underway

@@ -1,5 +1,5 @@
 -- What a summary makes of what was taken up.
-use Rattle.std.proofs.Common.{◌≡◌, ◌∙◌, ℕ, List, [], ◌∷◌, length, Some, sym, ap, arith}
+use Rattle.std.proofs.Common.{◌≡◌, ◌∙◌, ℕ, List, [], ◌∷◌, length, Some, sym, ap, subst, arith}
 use Rattle.std.proofs.lemmas.Option.{same_Some}
 use Rattle.um_model.specs.Bytes.{◌>>=◌, nothing_left}
 use Rattle.um_model.specs.Disk.{Image}
@@ -9,11 +9,13 @@ use Rattle.um_model.specs.Stands.{inputs_of}
 use Rattle.um_model.specs.Store as sectors
 use Rattle.um_model.specs.declared.layout.Layout.{Layout}
 use Rattle.um_model.specs.declared.layout.Slot.{Slot}
+use Rattle.um_laws.proofs.ImageLaws.{newest_some}
 use Rattle.um_laws.proofs.StandsLaws.{bound, has_contents}
 use Rattle.um_laws.proofs.StoreLaws.{same_newest}
 use Rattle.um_keeper.specs.Inspecting.{IsSummed}
-use Rattle.um_keeper.specs.Opening.{IsTakenUp, IsBehind}
+use Rattle.um_keeper.specs.Opening.{IsTakenUp, IsRead, TellsCutOff, TellsDamaged}
 use Rattle.um_keeper.specs.declared.inspecting.Summary.{Summary}
+use Rattle.um_keeper.specs.declared.keeper.OpenedStore.{OpenedStore}
 use Rattle.um_keeper.proofs.Reopening.{taken_stands}
 
 -- records spell as many inputs
@@ -27,20 +29,26 @@ same_count (bytes ∷ records) inputs is =
     omega (arith, fewer, all)
 
 -- what was taken up is told
-pub summed : {count : ℕ} {image : Image} {layout : Layout} {slot : Slot} {generation number next : ℕ} {s : State} (m : Summary)
-    → IsTakenUp count image layout slot generation s → IsBehind layout generation image number next
-    → m.generation ≡ generation → m.records ≡ number → m.clock ≡ s.clock → m.next ≡ s.next → IsSummed count image m s
-summed {image = image} {layout = layout} {generation = generation} m taken behind of_generation of_number of_clock of_next =
+pub summed : {count : ℕ} {image : Image} {layout : Layout} {slot : Slot} {generation : ℕ} {s : State} (m : Summary) (opened : OpenedStore)
+    → IsTakenUp count image layout slot generation s → IsRead layout image opened
+    → m.generation ≡ opened.generation → m.records ≡ opened.records → m.cut_off ≡ opened.cut_off → m.damaged ≡ opened.damaged
+    → m.clock ≡ s.clock → m.next ≡ s.next → IsSummed count image m s
+summed {image = image} {layout = layout} m opened taken read of_generation of_records of_cut_off of_damaged of_clock of_next =
     let stands = taken_stands taken in
     let holds = has_contents layout image stands.contents stands.holds in
-    let same : stands.contents.generation ≡ generation = (same_newest holds.newest taken.newest).1 in
+    let newest = same_newest holds.newest ((newest_some layout image read.newest).0 read.is_newest) in
+    let generation : m.generation ≡ read.newest.generation = of_generation ∙ read.generation_is in
     record {
       layout = layout;
       room = taken.has.room;
       stands = stands;
-      generation_is = of_generation ∙ sym same;
-      records_are = of_number ∙ behind.count ∙ ap (λ (g : ℕ). length (sectors.records_of layout g image)) (sym same)
+      generation_is = generation ∙ sym newest.1;
+      records_are = of_records ∙ read.records_are ∙ ap (λ (g : ℕ). length (sectors.records_of layout g image)) (sym newest.1)
           ∙ same_count (sectors.records_of layout stands.contents.generation image) stands.contents.inputs holds.inputs_are;
       clock_is = of_clock;
       next_is = of_next;
+      cut_off_is = subst (λ g. TellsCutOff layout g image m.cut_off) (sym generation) (subst (TellsCutOff layout read.newest.generation image) (sym of_cut_off) read.cut_off_is);
+      damaged_is = subst (λ t. TellsDamaged layout t m.generation image m.damaged) (sym newest.0)
+          (subst (λ g. TellsDamaged layout read.newest.slot g image m.damaged) (sym generation)
+          (subst (TellsDamaged layout read.newest.slot read.newest.generation image) (sym of_damaged) read.damaged_is));
     }

@@ -365,14 +365,6 @@ a_taken_read count layout image slot generation greatest s e t top early (spent 
     let last = store_spent count layout image t.has.room slot generation t.body t.start s inputs t.has.first t.newest comes greatest top is in
     omega (arith, last, early)
 
--- the greatest generation of a disk that reads left as it was
-pub greatest_of : (layout l : Layout) (generation n number next greatest : ℕ) (new old : Past) → l ≡ layout → n ≡ generation → new ≡ old → IsBehind layout generation (seen old) number next
-    → (IsBehind l n (seen new) number next → IsGreatest l (seen new) n greatest) → IsGreatest layout (seen new) generation greatest
-greatest_of layout l generation n number next greatest new old on of same behind top =
-    subst (λ (z : Layout). IsGreatest z (seen new) generation greatest) on (subst (λ m. IsGreatest l (seen new) m greatest) of
-    (top (subst (λ (z : Layout). IsBehind z n (seen new) number next) (sym on) (subst (λ m. IsBehind layout m (seen new) number next) (sym of)
-    (subst (λ p. IsBehind layout generation (seen p) number next) (sym same) behind)))))
-
 -- the state that was taken up, one generation behind the greatest
 pub next_of : (count : ℕ) (image : Image) (from layout : Layout) (before slot : Slot) (earlier greatest generation : ℕ) (s t : State) → t ≡ s → layout ≡ from → slot ≡ other before
     → generation ≡ greatest + 1 → IsGreatest from image earlier greatest → IsTakenUp count image from before earlier s → IsNextOf count image layout slot generation t

@@ -1,7 +1,7 @@
 -- The records of a log are taken again one behind the other, as they are read.
 use Rattle.std.proofs.Common.{◌≡◌, ℕ, suc, ◌+◌, List, [], ◌∷◌, length, Some, None, sym, ap, subst, arith}
 use Rattle.um_model.specs.Bytes.{nothing_left}
-use Rattle.um_model.specs.Disk.{Image}
+use Rattle.um_model.specs.Disk.{Image, Past, seen}
 use Rattle.um_model.specs.InputSpellings.{input_at}
 use Rattle.um_model.specs.Machine.{State, Input}
 use Rattle.um_model.specs.Store.{log_start, part_count, placed, records_of, sectors_of, IsRecord, AreRecords, stops, goes_on}
@@ -80,3 +80,10 @@ module _ (layout : Layout) (generation : ℕ) (image : Image) (size : ℕ) (firs
       count = omega (arith, r.count, ap (λ (l : List (List ℕ)). length l) none_left);
       place = omega (arith, r.place, ap sectors_of none_left);
     }
+
+-- the same of a log and a disk that are the same
+pub behind_same : (layout l : Layout) (generation n : ℕ) (old new : Past) → l ≡ layout → n ≡ generation → new ≡ old → (number next : ℕ) → IsBehind layout generation (seen old) number next
+    → IsBehind l n (seen new) number next
+behind_same layout l generation n old new on of same number next behind =
+    subst (λ (p : Past). IsBehind l n (seen p) number next) (sym same)
+    (subst (λ m. IsBehind l m (seen old) number next) (sym of) (subst (λ (z : Layout). IsBehind z generation (seen old) number next) (sym on) behind))

@@ -33,6 +33,12 @@ pub if_ok_from : {T E : Type 0} (result : Result T E) (P Q : T → Type 0) → (
 if_ok_from (Ok x) P Q f p = f x p
 if_ok_from (Err e) P Q f p = tt
 
+-- what follows of four facts of it
+pub if_ok_all_four : {T E : Type 0} (result : Result T E) (P Q R S U : T → Type 0) → ((x : T) → P x → Q x → R x → S x → U x)
+    → IfOk result P → IfOk result Q → IfOk result R → IfOk result S → IfOk result U
+if_ok_all_four (Ok x) P Q R S U f p q r s = f x p q r s
+if_ok_all_four (Err e) P Q R S U f p q r s = tt
+
 -- what holds of each refusal
 pub if_err_all : {T E : Type 0} (result : Result T E) (P : E → Type 0) → ((e : E) → P e) → IfErr result P
 if_err_all (Ok x) P f = tt

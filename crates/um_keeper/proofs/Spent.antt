@@ -1,17 +1,17 @@
 -- Of the log of the last generation: from where on it is free, and which inputs have no room there.
-use Rattle.std.proofs.Common.{◌≡◌, ◌∙◌, ℕ, zero, suc, ◌+◌, ◌-◌, ◌^◌, ◌≤◌, arith, List, [], ◌∷◌, ◌++◌, length, map, replicate, sym, ap, subst}
-use Rattle.std.specs.Prelude.{Ok, Err}
+use Rattle.std.proofs.Common.{◌≡◌, ◌∙◌, ℕ, ◌+◌, ◌-◌, ◌^◌, ◌≤◌, arith, length, sym, ap}
+use Rattle.std.specs.Prelude.{Err}
 use Rattle.um_log.specs.Reading.{Fits}
 use Rattle.um_model.specs.InputSpellings.{input_spelling}
 use Rattle.um_model.specs.Machine.{Input}
 use Rattle.um_model.specs.Store.{log_start, log_end}
 use Rattle.um_model.specs.declared.layout.Layout.{Layout}
-use Rattle.um_keeper.specs.Answering.{Answer, denied, sectors_for, IsSpentAt, AreSpentAt}
+use Rattle.um_keeper.specs.Answering.{Answer, IsSpentAt}
 use Rattle.um_keeper.specs.Keepers.{layout_in, log_generation_in, next_in, IsFreeFrom}
 use Rattle.um_keeper.specs.Underway.{LacksRoom, IsFreeAt}
 use Rattle.um_log.specs.declared.write.Log.{Log}
 use Rattle.um_keeper.specs.declared.keeper.Keeper.{Keeper}
-use Rattle.um_wire.specs.declared.refusal.Refusal.TheVariants.{Device, GenerationsSpent}
+use Rattle.um_wire.specs.declared.refusal.Refusal.TheVariants.{GenerationsSpent}
 
 -- ---- where the log is free
 
@@ -53,22 +53,3 @@ pub spent_at : {log : Log} {layout : Layout} {from generation : ℕ} (input : In
 spent_at input answer free same high told is =
     let none = told is in
     (omega (arith, none.last, high), no_room same none.last (free.behind none.last) none.no_room)
-
-pub spent_left : (layout : Layout) (generation from : ℕ) {left more : List Input} {input : Input} (answer : Answer) (rest : List Answer) → left ≡ input ∷ more → IsSpentAt layout generation from input answer
-    → AreSpentAt layout generation (from + sectors_for answer input) more rest → AreSpentAt layout generation from left (answer ∷ rest)
-spent_left layout generation from answer rest is one others = subst (λ l. AreSpentAt layout generation from l (answer ∷ rest)) (sym is) (one, others)
-
--- E16 tells of no generation
-pub faults_spent : (layout : Layout) (generation from : ℕ) (inputs : List Input) (count : ℕ) → AreSpentAt layout generation from inputs (replicate count (Err Device))
-faults_spent layout generation from [] count = tt
-faults_spent layout generation from (input ∷ inputs) zero = tt
-faults_spent layout generation from (input ∷ inputs) (suc count) = ((λ is. cc), faults_spent layout generation (from + sectors_for (Err Device) input) inputs count)
-
-pub spent_denied : (layout : Layout) (generation from : ℕ) (inputs : List Input) (meant rest : List Answer) → AreSpentAt layout generation from inputs (meant ++ rest)
-    → AreSpentAt layout generation from inputs (map denied meant ++ rest)
-spent_denied layout generation from inputs [] rest spent = spent
-spent_denied layout generation from [] (answer ∷ meant) rest spent = tt
-spent_denied layout generation from (input ∷ inputs) (Ok given ∷ meant) rest spent =
-    ((λ is. cc), spent_denied layout generation (from + sectors_for (Ok given) input) inputs meant rest spent.1)
-spent_denied layout generation from (input ∷ inputs) (Err e ∷ meant) rest spent =
-    (spent.0, spent_denied layout generation (from + sectors_for (Err e) input) inputs meant rest spent.1)

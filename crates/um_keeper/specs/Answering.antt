@@ -1,7 +1,7 @@
 -- What a list of inputs is answered that are taken one behind the other, and what a crash leaves of them.
 -- No manual page has it: it is the project's own (docs/CRASH.md tells it in plain words).
 -- `Keeper::submit_all` and the running manager stand on this file.
-use Rattle.std.specs.Prelude.{◌≡◌, ◌≢◌, ◌⊎◌, ◌+◌, ◌-◌, ◌^◌, ◌≤◌, ◌++◌, ℕ, Bool, true, false, if◌then◌else◌, List, [], ◌∷◌, length, map, replicate, Contains, Result, Ok, Err}
+use Rattle.std.specs.Prelude.{◌≡◌, ◌≢◌, ◌⊎◌, ◌+◌, ◌-◌, ◌*◌, ◌^◌, ◌≤◌, ◌++◌, ℕ, Bool, true, false, if◌then◌else◌, List, [], ◌∷◌, length, map, replicate, Contains, Result, Ok, Err}
 use Rattle.um_engine.specs.Engine.{state_before}
 use Rattle.um_engine.specs.OfStore.{is_of_store}
 use Rattle.um_engine.specs.declared.engine.Back.{Back}
@@ -14,7 +14,7 @@ use Rattle.um_engine.specs.Engine.{LacksEffect}
 use Rattle.um_model.specs.Refusals.{Refused}
 use Rattle.um_model.specs.Service.{Action}
 use Rattle.um_model.specs.Standing.{Standing}
-use Rattle.um_model.specs.Store.{body_limit, sector_count, part_count}
+use Rattle.um_model.specs.Store.{body_limit, sector_count, part_count, log_end}
 use Rattle.um_model.specs.declared.layout.Layout.{Layout}
 use Rattle.um_wire.specs.Refusal.{refused_of}
 use Rattle.um_wire.specs.declared.refusal.Refusal as declared
@@ -100,16 +100,9 @@ abbrev pub HaveNoRecord : State → List Input → List Answer → Type 0
 HaveNoRecord s (input ∷ inputs) (answer ∷ answers) = HasNoRecord s input answer × HaveNoRecord s inputs answers
 HaveNoRecord s inputs answers = Unit {0}
 
--- so many sectors the record of an input may take: none where it was refused for another cause than the disk
-abbrev pub sectors_for : Answer → Input → ℕ
-sectors_for (Ok given) input = part_count (length (input_spelling input))
-sectors_for (Err Device) input = part_count (length (input_spelling input))
-sectors_for (Err e) input = 0
-
--- so many sectors the records of these may take
-abbrev pub all_sectors : List Input → List Answer → ℕ
-all_sectors (input ∷ inputs) (answer ∷ answers) = sectors_for answer input + all_sectors inputs answers
-all_sectors inputs answers = 0
+-- the sectors of the record of an input
+abbrev pub record_sectors : Input → ℕ
+record_sectors input = part_count (length (input_spelling input))
 
 -- Inputs are judged one behind the other from a state on, and so many sectors their records take: none that of an input which has no effect in its state, or
 -- isn't accepted.
@@ -119,7 +112,7 @@ pub data Recorded (size : ℕ) : State → List Input → List Answer → (secto
       → Recorded size s inputs answers sectors u → Recorded size s (input ∷ inputs) (answer ∷ answers) sectors u
   with_record : {s t u : State} {input : Input} {inputs : List Input} {answer : Answer} {answers : List Answer} {sectors : ℕ}
       → Answered size s input answer t → ¬ HasNoRecord s input answer → Recorded size t inputs answers sectors u
-      → Recorded size s (input ∷ inputs) (answer ∷ answers) (sectors_for answer input + sectors) u
+      → Recorded size s (input ∷ inputs) (answer ∷ answers) (record_sectors input + sectors) u
 
 -- The input is accepted in the state, and has an effect in it: so its record is to be written.
 pub record NeedsRecord (size : ℕ) (s : State) (input : Input) : Type 0 where
@@ -139,12 +132,12 @@ pub data FailsAt (size : ℕ) (s : State) (judged : List Input) (meant : List An
 -- the sectors of the record at which it failed
 abbrev pub sectors_there : List Input → ℕ
 sectors_there [] = 0
-sectors_there (input ∷ behind) = part_count (length (input_spelling input))
+sectors_there (input ∷ behind) = record_sectors input
 
 -- the calls that are made there at most: one for each of these sectors, or the sync
 abbrev pub calls_there : List Input → ℕ
 calls_there [] = 1
-calls_there (input ∷ behind) = part_count (length (input_spelling input))
+calls_there (input ∷ behind) = record_sectors input
 
 -- The answers to a list in which a call on the disk failed: those of the inputs before it are denied, and from it on each is E16. The state
 -- is that from before.
@@ -184,11 +177,38 @@ abbrev pub IsSpentAt : Layout → (generation from : ℕ) → Input → Answer �
 IsSpentAt layout generation from input answer =
     answer ≡ Err GenerationsSpent → (2 ^ 64 - 1 ≤ generation) × (¬ Fits layout (2 ^ 64 - 1) from (length (input_spelling input)))
 
--- so it is of each of these, behind the records of those before it
-abbrev pub AreSpentAt : Layout → (generation from : ℕ) → List Input → List Answer → Type 0
-AreSpentAt layout generation from (input ∷ inputs) (answer ∷ answers) =
-    IsSpentAt layout generation from input answer × AreSpentAt layout generation (from + sectors_for answer input) inputs answers
-AreSpentAt layout generation from inputs answers = Unit {0}
+-- So it is of each of these, which are judged one behind the other from a state on: behind the records of those before it, where none is written of an
+-- input that has no effect in its state, or isn't accepted.
+pub data AreSpentAt (layout : Layout) (generation size : ℕ) : (from : ℕ) → State → List Input → List Answer → Type 0 where
+  none_spent : {from : ℕ} {s : State} → AreSpentAt layout generation size from s [] []
+  spent_without : {from : ℕ} {s : State} {input : Input} {inputs : List Input} {answer : Answer} {answers : List Answer}
+      → IsSpentAt layout generation from input answer → HasNoRecord s input answer → AreSpentAt layout generation size from s inputs answers
+      → AreSpentAt layout generation size from s (input ∷ inputs) (answer ∷ answers)
+  spent_with : {from : ℕ} {s t : State} {input : Input} {inputs : List Input} {answer : Answer} {answers : List Answer}
+      → Answered size s input answer t → ¬ HasNoRecord s input answer → AreSpentAt layout generation size (from + record_sectors input) t inputs answers
+      → AreSpentAt layout generation size from s (input ∷ inputs) (answer ∷ answers)
+
+-- The same of what a list is answered, and where a call on the disk failed of what those before it were meant to be answered.
+pub data AreSpentAsMeant (layout : Layout) (generation size from : ℕ) (s : State) (inputs : List Input) (answers : List Answer) : Type 0 where
+  as_told : AreSpentAt layout generation size from s inputs answers → AreSpentAsMeant layout generation size from s inputs answers
+  as_meant : {judged : List Input} {meant : List Answer} (rest : List Input) → inputs ≡ judged ++ rest
+      → answers ≡ map denied meant ++ replicate (length rest) (Err Device)
+      → AreSpentAt layout generation size from s judged meant → AreSpentAsMeant layout generation size from s inputs answers
+
+-- the most calls that a snapshot takes, whatever state it is of
+abbrev pub most_snapshot_calls : Layout → ℕ
+most_snapshot_calls layout = sector_count (body_limit layout) + 3
+
+-- What a list takes of the disk that was answered without a fault: the sectors of its records, a sync, and a snapshot for each generation by which the log
+-- rose, from a generation to another one. It doesn't rise where the records have room in it from this sector on.
+pub record TakesCalls (layout : Layout) (next generation risen before now : ℕ) (size : ℕ) (s : State) (inputs : List Input) (answers : List Answer) (t : State)
+    : Type 0 where
+  pub sectors : ℕ
+  pub recorded : Recorded size s inputs answers sectors t
+  pub rises : ℕ
+  pub risen_by : risen ≡ generation + rises
+  pub stays : next + sectors ≤ log_end layout generation → rises ≡ 0
+  pub few : now ≤ before + sectors + 1 + rises * most_snapshot_calls layout
 
 -- the standing before the steps that these ways lead back from, the last one first
 abbrev pub state_before_all : List Back → Standing → Standing
@@ -198,4 +218,4 @@ state_before_all (back ∷ backs) s = state_before back (state_before_all backs 
 -- The most calls on the disk that inputs take: of each its record, and a snapshot before it.
 abbrev pub most_calls : Layout → List Input → ℕ
 most_calls layout [] = 0
-most_calls layout (input ∷ inputs) = (sector_count (body_limit layout) + 3) + record_calls input + most_calls layout inputs
+most_calls layout (input ∷ inputs) = most_snapshot_calls layout + record_calls input + most_calls layout inputs

@@ -10,6 +10,7 @@ use Rattle.um_model.specs.declared.layout.Layout.{Layout}
 use Rattle.um_model.specs.declared.layout.Slot.{Slot}
 use Rattle.um_model.specs.declared.layout.Slot.TheVariants.{A}
 use Rattle.um_sector.specs.Unsynced.{sync_count}
+use Rattle.um_keeper.specs.Keeping.{snapshot_calls}
 
 -- a sector of zeros
 abbrev pub blank : Sector
@@ -39,6 +40,11 @@ pub data WhileCreated (layout : Layout) (old new : Past) : Type 0 where
   -- the first is done: from then on nothing of before
   synced : (first : Past) → sync_count first ≡ sync_count old + 1 → During old first (WasOrIsNone old) → During first new (NoneOrEmpty layout)
       → WhileCreated layout old new
+
+-- So many calls on the disk make a store: a write and a sync of sector 0, a write of each header and of each sector of the log, the snapshot of the empty
+-- state, and a write and a sync of sector 0.
+abbrev pub create_calls : Layout → ℕ
+create_calls layout = 2 + (layout.log_sectors + 2) + snapshot_calls empty_state + 2
 
 -- sector 0, both headers and the log are zeros
 pub record IsWiped (layout : Layout) (image : Image) : Type 0 where

@@ -7,6 +7,7 @@ use Rattle.um_model.specs.Machine.{State}
 use Rattle.um_model.specs.Stands.{StandsFor}
 use Rattle.um_model.specs.Store.{store_sectors}
 use Rattle.um_model.specs.declared.layout.Layout.{Layout}
+use Rattle.um_keeper.specs.Opening.{TellsCutOff, TellsDamaged}
 use Rattle.um_keeper.specs.declared.inspecting.Summary.{Summary}
 
 -- The summary tells of a store, for which a disk of so many sectors has room, and of the state for which the store stands.
@@ -18,6 +19,8 @@ pub record IsSummed (count : ℕ) (image : Image) (m : Summary) (s : State) : Ty
   pub records_are : m.records ≡ length stands.contents.inputs
   pub clock_is : m.clock ≡ s.clock
   pub next_is : m.next ≡ s.next
+  pub cut_off_is : TellsCutOff layout m.generation image m.cut_off
+  pub damaged_is : TellsDamaged layout stands.contents.slot m.generation image m.damaged
 
 -- it tells so of some state
 pub record IsSomeSummed (count : ℕ) (image : Image) (m : Summary) : Type 0 where

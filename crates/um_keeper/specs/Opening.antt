@@ -1,7 +1,7 @@
 -- What opening reads of a disk, and why it isn't taken up.
 -- No manual page has it: it is the project's own format (docs/FORMATS.md, "The store on its disk").
 -- `Keeper::open` stands on this file.
-use Rattle.std.specs.Prelude.{◌≡◌, ◌⊎◌, ◌+◌, ◌-◌, ◌^◌, ◌<◌, ◌≤◌, ℕ, List, [], ◌∷◌, length, take, Some, None}
+use Rattle.std.specs.Prelude.{◌≡◌, ◌⊎◌, ◌+◌, ◌-◌, ◌^◌, ◌<◌, ◌≤◌, ℕ, List, [], ◌∷◌, length, take, Option, Some, None}
 use Rattle.um_model.specs.Bytes.{nothing_left}
 use Rattle.um_model.specs.Disk.{Image, Past, IsImage, During, seen, after, synced}
 use Rattle.um_model.specs.InputSpellings.{input_at}
@@ -10,14 +10,18 @@ use Rattle.um_model.specs.Servable.{IsServable}
 use Rattle.um_model.specs.Service.{Action}
 use Rattle.um_model.specs.Stands.{StandsFor, IsStoreOf}
 use Rattle.um_model.specs.StateSpellings.{state_at}
-use Rattle.um_model.specs.Store.{store_name, store_format, superblock, slot_start, body_limit, log_start, store_sectors, Newest, newest_of, records_of, sectors_of, placed}
+use Rattle.um_model.specs.Store.{store_name, store_format, superblock, slot_start, body_limit, log_start, log_end, store_sectors, Newest, newest_of, records_of, sectors_of, placed}
 use Rattle.um_model.specs.Store as sectors
 use Rattle.um_model.specs.declared.layout.Layout.{Layout}
 use Rattle.um_model.specs.declared.layout.Slot.{Slot}
 use Rattle.um_wire.specs.declared.refusal.Refusal.{Refusal}
 use Rattle.um_wire.specs.declared.refusal.Refusal.TheVariants.{Damaged, NotFormatted, GenerationsSpent, OtherLayout}
 use Rattle.um_log.specs.Greatest.{IsGreatest}
+use Rattle.um_log.specs.Uncounted.{Counts, EndsUncounted, EndsLater, StopsAt}
+use Rattle.um_log.specs.declared.remains.Remains.{Remains}
+use Rattle.um_slot.specs.Reading.{IsDamaged}
 use Rattle.um_keeper.specs.declared.keeper.OpenedStore.{OpenedStore}
+use Rattle.um_keeper.specs.declared.keeper.Uncounted.{Uncounted}
 
 -- sector 0 tells a layout for which a disk of so many sectors has room
 pub record HasLayout (count : ℕ) (image : Image) (layout : Layout) : Type 0 where
@@ -97,12 +101,58 @@ pub record IsNextOf (count : ℕ) (image : Image) (layout : Layout) (slot : Slot
   pub next : generation ≡ greatest + 1
   pub taken : IsTakenUp count image layout before earlier s
 
--- What was read of an image: the generation of its newest header, and the count of the records of that generation, which are replayed.
+-- how many records of a generation count, and the first sector behind them
+abbrev pub count_in : Layout → ℕ → Image → ℕ
+count_in layout generation image = length (records_of layout generation image)
+
+abbrev pub end_in : Layout → ℕ → Image → ℕ
+end_in layout generation image = log_start layout generation + sectors_of (records_of layout generation image)
+
+-- behind the records of a generation that count stand so many whole ones of it with a greater number
+abbrev pub HasUncounted : Layout → ℕ → Image → ℕ → Type 0
+HasUncounted layout generation image =
+    Counts (EndsUncounted layout image (end_in layout generation image) generation (count_in layout generation image))
+    (end_in layout generation image) (log_end layout generation)
+
+-- and so many of later generations
+abbrev pub HasLater : Layout → ℕ → Image → ℕ → Type 0
+HasLater layout generation image =
+    Counts (EndsLater layout image (end_in layout generation image) generation) (end_in layout generation image) (log_end layout generation)
+
+-- the reading of the records of a generation ends with that sector
+abbrev pub EndsAt : Layout → ℕ → Image → ℕ → Type 0
+EndsAt layout generation image = StopsAt layout generation image (count_in layout generation image) (end_in layout generation image)
+
+-- what is told of whole records of the generation that don't count: how many there are, and the sector with which the reading ends; or there are none
+abbrev pub TellsCutOff : Layout → ℕ → Image → Option Uncounted → Type 0
+TellsCutOff layout generation image None = HasUncounted layout generation image 0
+TellsCutOff layout generation image (Some cut) =
+    (0 < cut.records) × HasUncounted layout generation image cut.records × EndsAt layout generation image cut.sector
+
+-- what is told of the other slot, beside the newest one: its first sector is damaged, and so many whole records of later generations stand in the log;
+-- or it isn't damaged
+abbrev pub TellsDamaged : Layout → Slot → ℕ → Image → Option Uncounted → Type 0
+TellsDamaged layout slot generation image None = ¬ IsDamaged layout (image (slot_start layout (sectors.other slot)))
+TellsDamaged layout slot generation image (Some damaged) =
+    IsDamaged layout (image (slot_start layout (sectors.other slot))) × (damaged.sector ≡ slot_start layout (sectors.other slot))
+    × HasLater layout generation image damaged.records
+
+-- What was read of an image: the generation of its newest header, the count of the records of that generation, which are replayed, and what doesn't
+-- count.
 pub record IsRead (layout : Layout) (image : Image) (opened : OpenedStore) : Type 0 where
   pub newest : Newest
   pub is_newest : newest_of layout image ≡ Some newest
   pub generation_is : opened.generation ≡ newest.generation
-  pub records_are : opened.records ≡ length (records_of layout newest.generation image)
+  pub records_are : opened.records ≡ count_in layout newest.generation image
+  pub cut_off_is : TellsCutOff layout newest.generation image opened.cut_off
+  pub damaged_is : TellsDamaged layout newest.slot newest.generation image opened.damaged
+
+-- what remains in the log behind the records of a generation
+pub record Remain (layout : Layout) (generation : ℕ) (image : Image) (remains : Remains) : Type 0 where
+  pub greatest : IsGreatest layout image generation remains.greatest
+  pub uncounted : HasUncounted layout generation image remains.uncounted
+  pub later : HasLater layout generation image remains.later
+  pub stop : end_in layout generation image < log_end layout generation → EndsAt layout generation image remains.stop
 
 -- what a store of this layout may hold
 pub record IsKept (layout : Layout) (size : ℕ) (s : State) : Type 0 where

@@ -1,7 +1,7 @@
 -- What stands on a keeper's disk while a list of inputs is taken: its records may be written ahead of the last sync.
 -- No manual page has it: it is the project's own.
 -- The taking of lists stands on this file.
-use Rattle.std.specs.Prelude.{◌≡◌, ◌+◌, ◌-◌, ◌^◌, ◌≤◌, ◌≢◌, ℕ, Bool, false, if◌then◌else◌, List, [], ◌++◌, length, take, Some}
+use Rattle.std.specs.Prelude.{◌≡◌, ◌⊎◌, ◌+◌, ◌-◌, ◌*◌, ◌^◌, ◌≤◌, ◌≢◌, ℕ, Bool, false, IsTrue, if◌then◌else◌, List, [], ◌++◌, length, take, Some}
 use Rattle.um_model.specs.Bytes.{nothing_left}
 use Rattle.um_model.specs.Disk.{Past}
 use Rattle.um_model.specs.InputSpellings.{input_spelling}
@@ -21,6 +21,7 @@ use Rattle.um_log.specs.Reading.{Fits}
 use Rattle.um_log.specs.declared.write.Log.{Log}
 use Rattle.um_state.specs.View as view
 use Rattle.um_state.specs.declared.input.Input as declared
+use Rattle.um_keeper.specs.Answering.{Answer, Recorded, AreSpentAt, most_snapshot_calls}
 use Rattle.um_keeper.specs.Keeping.{Keeps}
 use Rattle.um_keeper.specs.declared.ahead.Ahead.{Ahead}
 
@@ -84,3 +85,26 @@ pub record IsFreeAt (log : Log) (from : ℕ) : Type 0 where
 pub record IsPlannedBy (engine : Engine) (input : declared.Input) (next : Next) : Type 0 where
   pub step : Step (size_in engine) (state_in engine) (view.input_of input) (reply_in next) (actions_in next) (state_after next (standing_in engine)).state
   pub accepted : (r : Refused) → reply_in next ≢ Refusal r
+
+-- The log stays in its generation, and there were so many calls at most; or it rose by one, and there were those of a snapshot beside them.
+abbrev pub MayRise : (old new : Log) (snapshot most now : ℕ) → Type 0
+MayRise old new snapshot most now = ((new.generation ≡ old.generation) × (now ≤ most)) ⊎ ((new.generation ≡ old.generation + 1) × (now ≤ most + snapshot))
+
+-- What inputs take that are judged from a state on, of a log and of the disk, as far as they were taken: the sectors of their records, and a snapshot for
+-- each generation by which the log rose.
+pub record Takes (size : ℕ) (old new : Log) (before now : ℕ) (s : State) (inputs : List Input) (answers : List Answer) (t : State) : Type 0 where
+  pub sectors : ℕ
+  pub recorded : Recorded size s inputs answers sectors t
+  pub rises : ℕ
+  pub risen_by : new.generation ≡ old.generation + rises
+  pub few : now ≤ before + sectors + rises * most_snapshot_calls old.layout
+  pub fits : old.next + sectors ≤ log_end old.layout old.generation → (rises ≡ 0) × (new.next ≤ old.next + sectors) × (now ≤ before + sectors)
+  pub free : (from : ℕ) → IsFreeAt old from → IsFreeAt new (from + sectors)
+  pub spent : (generation from : ℕ) → new.generation ≤ generation → IsFreeAt old from → (more : List Input) (rest : List Answer)
+      → AreSpentAt old.layout generation size (from + sectors) t more rest → AreSpentAt old.layout generation size from s (inputs ++ more) (answers ++ rest)
+
+-- the same, and where the records have room the disk isn't synced, by a count of syncs
+pub record TakesUnsynced (trusted : Bool) (first last : ℕ) (size : ℕ) (old new : Log) (before now : ℕ) (s : State) (inputs : List Input)
+    (answers : List Answer) (t : State) : Type 0 where
+  pub takes : Takes size old new before now s inputs answers t
+  pub unsynced : IsTrue trusted → old.next + takes.sectors ≤ log_end old.layout old.generation → last ≡ first

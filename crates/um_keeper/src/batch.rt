@@ -2,10 +2,10 @@
 ghost use Rattle.std.specs.Prelude.{◌≡◌, ◌≢◌, ◌⊎◌, ◌↔◌, ◌+◌, ◌-◌, ◌<◌, ◌≤◌, ◌∷◌, ◌++◌, [], ℕ, false, true, List, length, map, replicate, vec_len, vec_capacity, Ok, Err, IfOk, IfErr, OnOk, OnErr, IsTrue};
 ghost use Rattle.std.specs.List.{AllByRecursion};
 ghost use Rattle.um_engine.specs.Engine as machine;
-ghost use Rattle.um_keeper.specs.Answering.{Answered, AreAnswered, Recorded, NeedsRecord, FellBack, FellThere, StopsAt, HasFault, CountsFault, denied, all_asked, IsIdle, NeedNoRecord, HasNoRecord, HaveNoRecord, sectors_for, all_sectors, where_step, taken, AreSpentAt, most_calls, state_before_all};
+ghost use Rattle.um_keeper.specs.Answering.{Answered, AreAnswered, Recorded, NeedsRecord, FellBack, FellThere, StopsAt, HasFault, CountsFault, denied, all_asked, IsIdle, NeedNoRecord, HasNoRecord, HaveNoRecord, record_sectors, where_step, taken, AreSpentAt, AreSpentAsMeant, TakesCalls, most_calls, most_snapshot_calls, state_before_all};
 ghost use Rattle.um_keeper.specs.Keepers.{disk_in, state_in, size_in, layout_in, log_generation_in, next_in, has_failed, IsSamePlace, IsFreeFrom};
 ghost use Rattle.um_keeper.specs.Keeping.{MayHold, IsBegun, record_calls};
-ghost use Rattle.um_keeper.specs.Underway.{UnderwayIn, KeptIn, owed, LacksRoom, HasRoomFor, IsFreeAt};
+ghost use Rattle.um_keeper.specs.Underway.{UnderwayIn, KeptIn, owed, LacksRoom, HasRoomFor, IsFreeAt, MayRise, TakesUnsynced};
 ghost use Rattle.um_keeper.specs.Answering.{Answer};
 ghost use Rattle.um_keeper.specs.Keeping.{snapshot_calls};
 ghost use Rattle.um_engine.specs.OfStore.{is_of_store};
@@ -18,7 +18,7 @@ ghost use Rattle.um_keeper.specs.Offers.{HasCome, GoesOn};
 ghost use Rattle.um_model.specs.Lives.{Offer};
 ghost use Rattle.um_model.specs.Numbers.{AreNew, started_numbers};
 ghost use Rattle.um_model.specs.Stands.{IsStoreOf};
-ghost use Rattle.um_model.specs.Store.{body_limit, log_end, part_count, sector_count, store_sectors};
+ghost use Rattle.um_model.specs.Store.{log_end, part_count, store_sectors};
 ghost use Rattle.um_sector.specs.Refused.{CountsDevice, IsLost};
 ghost use Rattle.um_sector.specs.Unsynced.{sync_count};
 ghost use Rattle.um_wire.specs.Refusal.{refused_of};
@@ -147,7 +147,10 @@ fn take_step<D: Disk>(
     ensures fitted { OnOk result (ahead.old.log.next + part_count (length (input_spelling (input_of input.now))) ≤ log_end ahead.old.log.layout ahead.old.log.generation
         → (IsTrue (D.honest disk.old) → sync_count (D.past disk.new) ≡ sync_count (D.past disk.old))
         × (ahead.new.log.next ≤ ahead.old.log.next + part_count (length (input_spelling (input_of input.now))))
-        × (D.calls disk.new ≤ D.calls disk.old + part_count (length (input_spelling (input_of input.now))))) }
+        × (D.calls disk.new ≤ D.calls disk.old + part_count (length (input_spelling (input_of input.now))))
+        × (ahead.new.log.generation ≡ ahead.old.log.generation)) }
+    ensures rises { OnOk result (MayRise ahead.old.log ahead.new.log (snapshot_calls (machine.state_in engine.old))
+        (D.calls disk.old + part_count (length (input_spelling (input_of input.now)))) (D.calls disk.new)) }
     ensures few { HasRoomFor ahead.old.log (input_of input.now) → D.calls disk.new ≤ D.calls disk.old + part_count (length (input_spelling (input_of input.now))) }
     ensures calls { D.calls disk.new + owed ahead.new.unsynced ≤ D.calls disk.old + owed ahead.old.unsynced + snapshot_calls (machine.state_in engine.old) + record_calls (input_of input.now) }
     ensures device { CountsDevice result (D.failures disk.old) (D.failures disk.new) }
@@ -187,7 +190,7 @@ fn take_one<D: Disk>(
     ensures sized { machine.size_in engine.new ≡ machine.size_in engine.old }
     ensures layout { ahead.new.log.layout ≡ ahead.old.log.layout }
     ensures grows { ahead.old.log.generation ≤ ahead.new.log.generation }
-    ensures free { IfOk result (λ answer. (from : ℕ) → IsFreeAt ahead.old.log from → IsFreeAt ahead.new.log (from + sectors_for answer (input_of input.now))) }
+    ensures free { OnOk result ((from : ℕ) → IsFreeAt ahead.old.log from → IsFreeAt ahead.new.log (from + record_sectors (input_of input.now))) }
     ensures refused { IfErr result (λ e. e ≡ Refusal.Device) }
     ensures fault { OnErr result (NeedsRecord (machine.size_in engine.old) (machine.state_in engine.old) (input_of input.now)) }
     ensures idle { IsIdle (machine.state_in engine.old) (input_of input.now) → (disk.new ≡ disk.old) × (ahead.new ≡ ahead.old) × (machine.state_in engine.new ≡ machine.state_in engine.old) }
@@ -195,13 +198,16 @@ fn take_one<D: Disk>(
         → (disk.new ≡ disk.old) × (ahead.new ≡ ahead.old) × (machine.state_in engine.new ≡ machine.state_in engine.old)) }
     ensures either { IfOk result (λ answer. HasNoRecord (machine.state_in engine.old) (input_of input.now) answer ⊎ (¬ HasNoRecord (machine.state_in engine.old) (input_of input.now) answer)) }
     ensures clean { IfOk result (λ answer. ahead.new.unsynced ≡ false → (ahead.old.unsynced ≡ false) × HasNoRecord (machine.state_in engine.old) (input_of input.now) answer) }
-    ensures fitted { IfOk result (λ answer. ahead.old.log.next + sectors_for answer (input_of input.now) ≤ log_end ahead.old.log.layout ahead.old.log.generation
+    ensures fitted { OnOk result (ahead.old.log.next + record_sectors (input_of input.now) ≤ log_end ahead.old.log.layout ahead.old.log.generation
         → (IsTrue (D.honest disk.old) → sync_count (D.past disk.new) ≡ sync_count (D.past disk.old))
-        × (ahead.new.log.next ≤ ahead.old.log.next + sectors_for answer (input_of input.now))
-        × (D.calls disk.new ≤ D.calls disk.old + sectors_for answer (input_of input.now))) }
+        × (ahead.new.log.next ≤ ahead.old.log.next + record_sectors (input_of input.now))
+        × (D.calls disk.new ≤ D.calls disk.old + record_sectors (input_of input.now))
+        × (ahead.new.log.generation ≡ ahead.old.log.generation)) }
+    ensures rises { OnOk result (MayRise ahead.old.log ahead.new.log (most_snapshot_calls ahead.old.log.layout)
+        (D.calls disk.old + record_sectors (input_of input.now)) (D.calls disk.new)) }
     ensures few { OnErr result (HasRoomFor ahead.old.log (input_of input.now) → D.calls disk.new ≤ D.calls disk.old + part_count (length (input_spelling (input_of input.now)))) }
     ensures spent { IfOk result (λ answer. answer ≡ Err Refusal.GenerationsSpent → LacksRoom ahead.old.log (length (input_spelling (input_of input.now)))) }
-    ensures calls { D.calls disk.new + owed ahead.new.unsynced ≤ D.calls disk.old + owed ahead.old.unsynced + (sector_count (body_limit ahead.old.log.layout) + 3) + record_calls (input_of input.now) }
+    ensures calls { D.calls disk.new + owed ahead.new.unsynced ≤ D.calls disk.old + owed ahead.old.unsynced + most_snapshot_calls ahead.old.log.layout + record_calls (input_of input.now) }
     ensures device { CountsDevice result (D.failures disk.old) (D.failures disk.new) }
     ensures size { D.size disk.new ≡ D.size disk.old }
     ensures honest { D.honest disk.new ≡ D.honest disk.old }
@@ -260,15 +266,12 @@ fn take_all<D: Disk>(
         → disk.new ≡ disk.old) }
     ensures left { OnErr result (length answers.new.items < length inputs.now) }
     ensures clean { OnOk result (ahead.new.unsynced ≡ false → HaveNoRecord (machine.state_in engine.old) (map input_of inputs.now) answers.new.items) }
-    ensures fitted { OnOk result (ahead.old.log.next + all_sectors (map input_of inputs.now) answers.new.items ≤ log_end ahead.old.log.layout ahead.old.log.generation
-        → (IsTrue (D.honest disk.old) → sync_count (D.past disk.new) ≡ sync_count (D.past disk.old))
-        × (D.calls disk.new ≤ D.calls disk.old + all_sectors (map input_of inputs.now) answers.new.items)) }
-    ensures recorded { OnOk result ((sectors : ℕ)
-        × Recorded (machine.size_in engine.old) (machine.state_in engine.old) (map input_of inputs.now) answers.new.items sectors (machine.state_in engine.new)
-        × (ahead.old.log.next + sectors ≤ log_end ahead.old.log.layout ahead.old.log.generation → D.calls disk.new ≤ D.calls disk.old + sectors)) }
+    ensures takes { OnOk result (TakesUnsynced (D.honest disk.old) (sync_count (D.past disk.old)) (sync_count (D.past disk.new)) (machine.size_in engine.old) ahead.old.log ahead.new.log
+        (D.calls disk.old) (D.calls disk.new) (machine.state_in engine.old) (map input_of inputs.now) answers.new.items (machine.state_in engine.new)) }
     ensures capacity { length inputs.now ≤ vec_capacity answers.new }
-    ensures spent { (count from : ℕ) → IsFreeAt ahead.old.log from
-        → AreSpentAt ahead.old.log.layout ahead.new.log.generation from (map input_of inputs.now) (answers.new.items ++ replicate count (Err Refusal.Device)) }
+    ensures spent { OnErr result ((from : ℕ) → IsFreeAt ahead.old.log from
+        → AreSpentAsMeant ahead.old.log.layout ahead.new.log.generation (machine.size_in engine.old) from (machine.state_in engine.old) (map input_of inputs.now)
+        (map denied answers.new.items ++ replicate (length inputs.now - length answers.new.items) (Err Refusal.Device))) }
     ensures calls { D.calls disk.new + owed ahead.new.unsynced ≤ D.calls disk.old + most_calls ahead.old.log.layout (map input_of inputs.now) }
     ensures device { CountsDevice result (D.failures disk.old) (D.failures disk.new) }
     ensures size { D.size disk.new ≡ D.size disk.old }
@@ -336,13 +339,19 @@ fn record_all<D: Disk>(
     ensures unrecorded { OnOk result (HaveNoRecord (machine.state_in engine.old) (map input_of inputs.now) answers.new.items → disk.new ≡ disk.old) }
     ensures unwritten { OnErr result ((rest : ℕ) → length inputs.now ≤ length answers.new.items + rest
         → NeedNoRecord (machine.state_in engine.old) (map input_of inputs.now) (map denied answers.new.items ++ replicate rest (Err Refusal.Device)) → disk.new ≡ disk.old) }
-    ensures one_sync { OnOk result (IsTrue (D.honest disk.old) → ahead.old.log.next + all_sectors (map input_of inputs.now) answers.new.items ≤ log_end ahead.old.log.layout ahead.old.log.generation
-        → ¬ HaveNoRecord (machine.state_in engine.old) (map input_of inputs.now) answers.new.items → sync_count (D.past disk.new) ≡ sync_count (D.past disk.old) + 1) }
-    ensures few_calls { OnOk result (ahead.old.log.next + all_sectors (map input_of inputs.now) answers.new.items ≤ log_end ahead.old.log.layout ahead.old.log.generation
-        → D.calls disk.new ≤ D.calls disk.old + all_sectors (map input_of inputs.now) answers.new.items + 1) }
+    ensures one_sync { OnOk result (IsTrue (D.honest disk.old) → (sectors : ℕ)
+        × Recorded (machine.size_in engine.old) (machine.state_in engine.old) (map input_of inputs.now) answers.new.items sectors (machine.state_in engine.new)
+        × (ahead.old.log.next + sectors ≤ log_end ahead.old.log.layout ahead.old.log.generation
+        → ¬ HaveNoRecord (machine.state_in engine.old) (map input_of inputs.now) answers.new.items → sync_count (D.past disk.new) ≡ sync_count (D.past disk.old) + 1)) }
+    ensures few_calls { OnOk result (TakesCalls ahead.old.log.layout ahead.old.log.next ahead.old.log.generation ahead.new.log.generation (D.calls disk.old) (D.calls disk.new)
+        (machine.size_in engine.old) (machine.state_in engine.old) (map input_of inputs.now) answers.new.items (machine.state_in engine.new)) }
     ensures capacity { length inputs.now ≤ vec_capacity answers.new }
-    ensures spent { (count from : ℕ) → IsFreeAt ahead.old.log from
-        → AreSpentAt ahead.old.log.layout ahead.new.log.generation from (map input_of inputs.now) (answers.new.items ++ replicate count (Err Refusal.Device)) }
+    ensures spent { OnOk result ((from : ℕ) → IsFreeAt ahead.old.log from
+        → AreSpentAt ahead.old.log.layout ahead.new.log.generation (machine.size_in engine.old) from (machine.state_in engine.old) (map input_of inputs.now)
+        answers.new.items) }
+    ensures spent_meant { OnErr result ((from : ℕ) → IsFreeAt ahead.old.log from
+        → AreSpentAsMeant ahead.old.log.layout ahead.new.log.generation (machine.size_in engine.old) from (machine.state_in engine.old) (map input_of inputs.now)
+        (map denied answers.new.items ++ replicate (length inputs.now - length answers.new.items) (Err Refusal.Device))) }
     ensures calls { D.calls disk.new ≤ D.calls disk.old + most_calls ahead.old.log.layout (map input_of inputs.now) }
     ensures device { CountsDevice result (D.failures disk.old) (D.failures disk.new) }
     ensures size { D.size disk.new ≡ D.size disk.old }
@@ -393,6 +402,7 @@ impl<D: Disk> Keeper<D> {
         ensures place { IsSamePlace self.old self.new }
         ensures refused { IfErr result (λ e. (e ≡ Refusal.NoMemory) ⊎ (e ≡ Refusal.Reopen)) }
         ensures unwritten { OnErr result (disk_in self.new ≡ disk_in self.old) }
+        ensures still { OnErr result ((log_generation_in self.new ≡ log_generation_in self.old) × (next_in self.new ≡ next_in self.old)) }
         ensures idle { AllByRecursion (IsIdle (state_in self.old)) (map input_of inputs.items) → disk_in self.new ≡ disk_in self.old }
         ensures unrecorded { IfOk result (λ answers. NeedNoRecord (state_in self.old) (map input_of inputs.items) answers.items
             → disk_in self.new ≡ disk_in self.old) }
@@ -400,17 +410,19 @@ impl<D: Disk> Keeper<D> {
         ensures failed { OnErr result (has_failed self.new ≡ has_failed self.old) }
         ensures reopen { (result ≡ Err Refusal.Reopen) ↔ (has_failed self.old ≡ true) }
         ensures spent { IfOk result (λ answers. (from : ℕ) → IsFreeFrom self.old from
-            → AreSpentAt (layout_in self.old) (log_generation_in self.new) from (map input_of inputs.items) answers.items) }
+            → AreSpentAsMeant (layout_in self.old) (log_generation_in self.new) (size_in self.old) from (state_in self.old) (map input_of inputs.items)
+            answers.items) }
         ensures calls { D.calls (disk_in self.new) ≤ D.calls (disk_in self.old) + most_calls (layout_in self.old) (map input_of inputs.items) }
-        ensures one_sync { IfOk result (λ answers. has_failed self.new ≡ false → IsTrue (D.honest (disk_in self.old))
-            → next_in self.old + all_sectors (map input_of inputs.items) answers.items ≤ log_end (layout_in self.old) (log_generation_in self.old)
+        ensures one_sync { IfOk result (λ answers. has_failed self.new ≡ false → IsTrue (D.honest (disk_in self.old)) → (sectors : ℕ)
+            × Recorded (size_in self.old) (state_in self.old) (map input_of inputs.items) answers.items sectors (state_in self.new)
+            × (next_in self.old + sectors ≤ log_end (layout_in self.old) (log_generation_in self.old)
             → (HaveNoRecord (state_in self.old) (map input_of inputs.items) answers.items → sync_count (D.past (disk_in self.new)) ≡ sync_count (D.past (disk_in self.old)))
-            × (¬ HaveNoRecord (state_in self.old) (map input_of inputs.items) answers.items → sync_count (D.past (disk_in self.new)) ≡ sync_count (D.past (disk_in self.old)) + 1)) }
+            × (¬ HaveNoRecord (state_in self.old) (map input_of inputs.items) answers.items → sync_count (D.past (disk_in self.new)) ≡ sync_count (D.past (disk_in self.old)) + 1))) }
         ensures no_call { IfOk result (λ answers. has_failed self.new ≡ false → HaveNoRecord (state_in self.old) (map input_of inputs.items) answers.items
             → disk_in self.new ≡ disk_in self.old) }
         ensures few_calls { IfOk result (λ answers. has_failed self.new ≡ false
-            → next_in self.old + all_sectors (map input_of inputs.items) answers.items ≤ log_end (layout_in self.old) (log_generation_in self.old)
-            → D.calls (disk_in self.new) ≤ D.calls (disk_in self.old) + all_sectors (map input_of inputs.items) answers.items + 1) }
+            → TakesCalls (layout_in self.old) (next_in self.old) (log_generation_in self.old) (log_generation_in self.new) (D.calls (disk_in self.old)) (D.calls (disk_in self.new))
+            (size_in self.old) (state_in self.old) (map input_of inputs.items) answers.items (state_in self.new)) }
         ensures size { D.size (disk_in self.new) ≡ D.size (disk_in self.old) }
         ensures honest { D.honest (disk_in self.new) ≡ D.honest (disk_in self.old) }
     {

@@ -1,13 +1,13 @@
 ghost use Rattle.std.specs.Prelude.{◌≡◌, ◌⊎◌, ◌≤◌, ◌+◌, [], IsTrue, IfErr, OnOk, OnErr};
 ghost use Rattle.um_model.specs.Disk.{seen, Images, During};
-ghost use Rattle.um_sector.specs.Runs.{CountsFailure};
+ghost use Rattle.um_sector.specs.Runs.{CountsFailure, more};
 ghost use Rattle.um_model.specs.Lives.{MayLeave};
 ghost use Rattle.um_model.specs.Machine.{empty_state};
 ghost use Rattle.um_model.specs.StateSpellings.{state_spelling};
 ghost use Rattle.um_model.specs.Store as store;
 ghost use Rattle.um_sector.specs.Unsynced.{sync_count};
 ghost use Rattle.um_sector.specs.Refused.{CountsDevice, IsLost};
-ghost use Rattle.um_keeper.specs.Creating.{blank, WasOrIsNone, IsEmptyStore, WhileCreated, IsWiped};
+ghost use Rattle.um_keeper.specs.Creating.{blank, WasOrIsNone, IsEmptyStore, WhileCreated, IsWiped, create_calls};
 
 use std::alloc::Global;
 use um_model::{Layout, SECTOR_BYTES, Slot};
@@ -22,6 +22,7 @@ fn unformat<D: Disk>(disk: &mut D) -> Result<(), Fault>
     ensures ok { OnOk result (IsTrue (D.honest disk.old) → Images (D.past disk.new) (λ image. image 0 ≡ blank)) }
     ensures first { OnOk result (IsTrue (D.honest disk.old) → sync_count (D.past disk.new) ≡ sync_count (D.past disk.old) + 1) }
     ensures unsynced { OnErr result (IsTrue (D.honest disk.old) → sync_count (D.past disk.new) ≡ sync_count (D.past disk.old)) }
+    ensures all_calls { OnOk result (D.calls disk.new ≡ more (D.calls disk.old) 2) }
     ensures failures { CountsFailure result (D.failures disk.old) (D.failures disk.new) }
     ensures size { D.size disk.new ≡ D.size disk.old }
     ensures honest { D.honest disk.new ≡ D.honest disk.old }
@@ -36,6 +37,7 @@ fn wipe<D: Disk>(disk: &mut D, layout: Layout) -> Result<(), Fault>
     ensures during { IsTrue (D.honest disk.old) → Images (D.past disk.old) (λ image. image 0 ≡ blank)
         → During (D.past disk.old) (D.past disk.new) (λ image. image 0 ≡ blank) }
     ensures ok { OnOk result (IsTrue (D.honest disk.old) → seen (D.past disk.old) 0 ≡ blank → IsWiped layout (seen (D.past disk.new))) }
+    ensures all_calls { OnOk result (D.calls disk.new ≡ more (D.calls disk.old) (layout.log_sectors + 2)) }
     ensures failures { CountsFailure result (D.failures disk.old) (D.failures disk.new) }
     ensures size { D.size disk.new ≡ D.size disk.old }
     ensures honest { D.honest disk.new ≡ D.honest disk.old }
@@ -50,6 +52,7 @@ fn lay<D: Disk>(disk: &mut D, layout: Layout, body: &[u8]) -> Result<(), Refusal
     requires empty { body.now ≡ state_spelling empty_state }
     ensures during { IsTrue (D.honest disk.old) → WhileCreated layout (D.past disk.old) (D.past disk.new) }
     ensures ok { OnOk result (IsTrue (D.honest disk.old) → Images (D.past disk.new) (IsEmptyStore layout)) }
+    ensures all_calls { OnOk result (D.calls disk.new ≡ more (D.calls disk.old) (create_calls layout)) }
     ensures failures { CountsDevice result (D.failures disk.old) (D.failures disk.new) }
     ensures err { IfErr result (λ e. e ≡ Refusal.Device) }
     ensures size { D.size disk.new ≡ D.size disk.old }
@@ -69,11 +72,12 @@ fn lay<D: Disk>(disk: &mut D, layout: Layout, body: &[u8]) -> Result<(), Refusal
 /// writes the empty state as generation 1 into slot A, and at last sector 0. The disk has room for the layout.
 ///
 /// E15, with nothing written; E16 where a disk call fails. Until the first sync each image is one of before, or of no store; from
-/// then on it is of no store, or of the empty state's.
+/// then on it is of no store, or of the empty state's. At Ok just so many disk calls were made as it takes (`create_calls`).
 pub fn create<D: Disk>(alloc: Global, disk: &mut D, layout: Layout) -> Result<(), Refusal>
     requires room { store.store_sectors layout ≤ D.size disk.old }
     ensures during { IsTrue (D.honest disk.old) → WhileCreated layout (D.past disk.old) (D.past disk.new) }
     ensures ok { OnOk result (IsTrue (D.honest disk.old) → Images (D.past disk.new) (IsEmptyStore layout)) }
+    ensures all_calls { OnOk result (D.calls disk.new ≡ more (D.calls disk.old) (create_calls layout)) }
     ensures life { OnOk result (IsTrue (D.honest disk.old) → Images (D.past disk.new) (MayLeave layout empty_state [])) }
     ensures kept { IfErr result (λ e. (e ≡ Refusal.Device) ⊎ (disk.new ≡ disk.old)) }
     ensures failures { CountsDevice result (D.failures disk.old) (D.failures disk.new) }

@@ -8,6 +8,7 @@ ghost use Rattle.um_model.specs.Disk.{seen};
 ghost use Rattle.um_sector.specs.Refused.{CountsDevice, IsLost};
 ghost use Rattle.um_state.specs.View.{state_of};
 
+use crate::keeper::Uncounted;
 use crate::opening::{Found, take_up};
 use std::alloc::Global;
 use um_model::{Moment, NextNumber};
@@ -26,21 +27,30 @@ pub struct Summary {
     pub clock: Moment,
     /// The number of the next process.
     pub next: NextNumber,
+    /// Where whole records of that generation don't count: the sector with which the reading of the records ends, which is damaged, or a crash
+    /// cut it off.
+    pub cut_off: Option<Uncounted>,
+    /// Where the first sector of the other slot is neither a header nor all zeros: that sector, and the whole records of later generations.
+    pub damaged: Option<Uncounted>,
 }
 
 /// What was taken up, in short.
 fn summary_of(found: Found) -> Summary
-    ensures generation { result.generation ≡ found.home.generation }
-    ensures records { result.records ≡ found.log.number }
+    ensures generation { result.generation ≡ found.opened.generation }
+    ensures records { result.records ≡ found.opened.records }
+    ensures cut_off { result.cut_off ≡ found.opened.cut_off }
+    ensures damaged { result.damaged ≡ found.opened.damaged }
     ensures clock { result.clock ≡ (state_in found.engine).clock }
     ensures next { result.next ≡ (state_in found.engine).next }
 {
     let state = found.engine.state();
     let summary = Summary {
-        generation: found.home.generation,
-        records: found.log.number as usize,
+        generation: found.opened.generation,
+        records: found.opened.records,
         clock: state.clock(),
         next: state.next(),
+        cut_off: found.opened.cut_off,
+        damaged: found.opened.damaged,
     };
     drop(found.engine);
     summary

@@ -32,6 +32,13 @@ use um_slot::{Home, write_other};
 use um_state::{Input, Query, Reply, State};
 use um_wire::{Refusal, spell};
 
+/// Whole records in the log that don't count, and the sector that shows why.
+#[derive(Clone, Copy, Debug, PartialEq, Eq)]
+pub struct Uncounted {
+    pub sector: u64,
+    pub records: usize,
+}
+
 /// What was read of a store when it was opened.
 #[derive(Clone, Copy, Debug, PartialEq, Eq)]
 pub struct OpenedStore {
@@ -39,6 +46,11 @@ pub struct OpenedStore {
     pub generation: u64,
     /// So many records of that generation were replayed.
     pub records: usize,
+    /// Where whole records of that generation don't count: the sector with which the reading of the records ends, which is damaged, or a crash
+    /// cut it off.
+    pub cut_off: Option<Uncounted>,
+    /// Where the first sector of the other slot is neither a header nor all zeros: that sector, and the whole records of later generations.
+    pub damaged: Option<Uncounted>,
 }
 
 /// The engine over its store on a disk. Whichever image a crash leaves of the disk, it is a store of the engine's state, as long as
@@ -232,8 +244,7 @@ impl<D: Disk> Keeper<D> {
         ensures filled { OnOk result ((from : ℕ) → IsFreeFrom self.old from
             → IsFreeFrom self.new (from + part_count (length (input_spelling (input_of input.now))))) }
         ensures free { OnErr result ((from : ℕ) → IsFreeFrom self.old from → IsFreeFrom self.new from) }
-        ensures refused { IfErr result IsLost }
-        ensures unwritten { IfErr result (λ e. (e ≡ Refusal.Device) ⊎ (disk_in self.new ≡ disk_in self.old)) }
+        ensures refused { IfErr result (λ e. e ≡ Refusal.Device) }
         ensures device { CountsDevice result (D.failures (disk_in self.old)) (D.failures (disk_in self.new)) }
         ensures failed { (has_failed self.new ≡ true) ↔ (result ≡ Err Refusal.Device) }
         ensures calls { D.calls (disk_in self.new) ≤ D.calls (disk_in self.old) + record_calls (input_of input.now) }
@@ -271,9 +282,10 @@ impl<D: Disk> Keeper<D> {
             → IsFreeFrom self.new (from + part_count (length (input_spelling (input_of input.now))))) }
         ensures free { OnErr result ((from : ℕ) → IsFreeFrom self.old from → IsFreeFrom self.new from) }
         ensures refused { IfErr result (λ e. IsLost e ⊎ (e ≡ Refusal.GenerationsSpent)) }
+        ensures unwritten { IfErr result (λ e. (e ≡ Refusal.Device) ⊎ (disk_in self.new ≡ disk_in self.old)) }
         ensures device { CountsDevice result (D.failures (disk_in self.old)) (D.failures (disk_in self.new)) }
         ensures failed { (has_failed self.new ≡ true) ↔ (result ≡ Err Refusal.Device) }
-        ensures spent { result ≡ Err Refusal.GenerationsSpent → HasNoRoom self.old (length (input_spelling (input_of input.now))) × (disk_in self.new ≡ disk_in self.old) }
+        ensures spent { result ≡ Err Refusal.GenerationsSpent → HasNoRoom self.old (length (input_spelling (input_of input.now))) }
         ensures calls { Fits (layout_in self.old) (log_generation_in self.old) (next_in self.old) (length (input_spelling (input_of input.now)))
             → D.calls (disk_in self.new) ≤ D.calls (disk_in self.old) + record_calls (input_of input.now) }
         ensures most_calls { D.calls (disk_in self.new) ≤ D.calls (disk_in self.old) + snapshot_calls (state_in self.old) + record_calls (input_of input.now) }
@@ -317,7 +329,7 @@ impl<D: Disk> Keeper<D> {
         ensures free { OnErr result ((from : ℕ) → IsFreeFrom self.old from → IsFreeFrom self.new from) }
         ensures refused { IfErr result (λ e. IsLost e ⊎ (e ≡ Refusal.GenerationsSpent) ⊎ ((is_of_store e ≡ false)
             × Step (size_in self.old) (state_in self.old) (input_of input.now) (model.Refusal (refused_of e)) [] (state_in self.old))) }
-        ensures unwritten { IfErr result (λ e. IsLost e ⊎ (disk_in self.new ≡ disk_in self.old)) }
+        ensures unwritten { IfErr result (λ e. (e ≡ Refusal.Device) ⊎ (disk_in self.new ≡ disk_in self.old)) }
         ensures idle { LacksEffect (moment_of (state_in self.old) (input_of input.now).moment) (state_in self.old) (input_of input.now).event
             → disk_in self.new ≡ disk_in self.old }
         ensures still { LacksEffect (moment_of (state_in self.old) (input_of input.now).moment) (state_in self.old) (input_of input.now).event
@@ -342,10 +354,9 @@ impl<D: Disk> Keeper<D> {
 
     /// Takes a step: plans it, records it and syncs, and only then answers.
     ///
-    /// Each image of each moment meanwhile is a store of the state before, or of that with the input. The step's refusals (E4 to E14, E21),
-    /// with nothing written; E17 where an earlier call answered E16; E20 where the record has no room and the generation is the last,
-    /// with nothing written; E15 and E16, after which the state is that from before. But for E16 and E17 each image meanwhile is of
-    /// the state before.
+    /// Each image of each moment meanwhile is a store of the state before, or of that with the input. The step's refusals (E4 to E14, E21);
+    /// E15; E17 where an earlier call answered E16; E20 where the record has no room and the generation is the last: each with nothing
+    /// written. E16, after which the state is that from before. But for E16 and E17 each image meanwhile is of the state before.
     pub fn submit(&mut self, input: Input) -> Result<Receipt, Refusal>
         ensures during { has_failed self.old ≡ false → IsTrue (D.honest (disk_in self.old))
             → During (D.past (disk_in self.old)) (D.past (disk_in self.new)) (IsBegun (layout_in self.old) (state_in self.old) (input_of input ∷ [])) }
@@ -362,7 +373,7 @@ impl<D: Disk> Keeper<D> {
         ensures log_grows { log_generation_in self.old ≤ log_generation_in self.new }
         ensures refused { IfErr result (λ e. IsLost e ⊎ (e ≡ Refusal.Reopen) ⊎ (e ≡ Refusal.GenerationsSpent) ⊎ ((is_of_store e ≡ false)
             × Step (size_in self.old) (state_in self.old) (input_of input) (model.Refusal (refused_of e)) [] (state_in self.old))) }
-        ensures unwritten { IfErr result (λ e. IsLost e ⊎ (disk_in self.new ≡ disk_in self.old)) }
+        ensures unwritten { IfErr result (λ e. (e ≡ Refusal.Device) ⊎ (disk_in self.new ≡ disk_in self.old)) }
         ensures idle { LacksEffect (moment_of (state_in self.old) (input_of input).moment) (state_in self.old) (input_of input).event
             → disk_in self.new ≡ disk_in self.old }
         ensures device { CountsDevice result (D.failures (disk_in self.old)) (D.failures (disk_in self.new)) }

@@ -16,5 +16,5 @@ mod recording;
 
 pub use creating::create;
 pub use inspecting::{Summary, inspect, look};
-pub use keeper::{Keeper, OpenedStore};
+pub use keeper::{Keeper, OpenedStore, Uncounted};
 pub use receipt::{Handed, Receipt, SpawnOrder};

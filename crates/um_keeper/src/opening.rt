@@ -1,7 +1,7 @@
 ghost use Rattle.std.specs.Prelude.{◌≡◌, ◌⊎◌, ◌↔◌, ◌+◌, ◌-◌, ◌^◌, ◌<◌, ◌≤◌, Ok, None, false, List, IfOk, IfErr, IfSome, OnOk, IsTrue};
 ghost use Rattle.um_engine.specs.Engine.{state_in, size_in};
 ghost use Rattle.um_keeper.specs.Keeping.{Keeps, MayHold};
-ghost use Rattle.um_keeper.specs.Opening.{HasLayout, IsStart, Leads, Replays, IsNoInput, IsUnread, IsUntaken, IsTakenUp, IsNextOf, IsRead, IsKept, IsSomeStore, IsAsBefore};
+ghost use Rattle.um_keeper.specs.Opening.{HasLayout, IsStart, Leads, Replays, IsNoInput, IsUnread, IsUntaken, IsTakenUp, IsNextOf, IsRead, Remain, IsKept, IsSomeStore, IsAsBefore};
 ghost use Rattle.um_keeper.specs.Opening.{IsBehind, IsStill, StaysFor, StaysForOne, IsUnwritten};
 ghost use Rattle.um_log.specs.Greatest.{IsGreatest};
 ghost use Rattle.um_model.specs.Disk.{seen, Images, IsSettled, During};
@@ -9,31 +9,34 @@ ghost use Rattle.um_model.specs.Disk.{one_more};
 ghost use Rattle.um_model.specs.Lives.{Offer, MayLeave};
 ghost use Rattle.um_model.specs.Machine as model;
 ghost use Rattle.um_model.specs.Servable.{IsServable};
-ghost use Rattle.um_model.specs.Store.{body_limit, store_sectors, other, log_start, placed, records_of};
+ghost use Rattle.um_model.specs.Store.{body_limit, store_sectors, slot_start, other, log_start, placed, records_of};
 ghost use Rattle.um_model.specs.Stands.{StandsFor, IsStoreOf};
 ghost use Rattle.um_model.specs.declared.layout.Layout as declared;
 ghost use Rattle.um_sector.specs.Refused.{CountsDevice, IsLost};
 ghost use Rattle.um_state.specs.View.{input_of};
 
-use crate::keeper::{Keeper, OpenedStore};
+use crate::keeper::{Keeper, OpenedStore, Uncounted};
 use crate::receipt::Receipt;
 use std::alloc::{AllocError, Global};
 use um_engine::Engine;
-use um_log::Log;
-use um_model::Layout;
+use um_log::{Log, Remains};
+use um_model::{Layout, Slot};
 use um_sector::{Disk, SECTOR_BYTES, Sector};
 use um_slot::{Home, newest, read_superblock, write_other};
 use um_state::Input;
 use um_wire::{Refusal, read_whole, spell};
 
 /// What was taken up of a disk: the layout of its store, where the newest snapshot stands, the engine in the state that the store stands for,
-/// and the log behind the records that were replayed to it.
+/// the log behind the records that were replayed to it, and what was read.
 #[derive(Drop)]
 pub(crate) struct Found {
     layout: Layout,
     pub(crate) home: Home,
     pub(crate) engine: Engine,
     pub(crate) log: Log,
+    /// The greatest generation that stands on the disk.
+    greatest: u64,
+    pub(crate) opened: OpenedStore,
 }
 
 /// What a keeper needs beside its disk.
@@ -146,12 +149,70 @@ fn replay<D: Disk>(
     Ok(())
 }
 
+/// Takes the steps of the inputs that the records of a log spell, and tells what remains in the log behind them.
+///
+/// E18 with the first sector of the first record that spells none; E15; E16 where a read fails.
+fn replay_all<D: Disk>(
+    alloc: Global,
+    disk: &mut D,
+    engine: &mut Engine,
+    log: &mut Log,
+) -> Result<Remains, Refusal>
+    requires kept { IsServable (size_in engine.old) (state_in engine.old) }
+    requires anew { (log.old.number ≡ 0) × (log.old.next ≡ log_start log.old.layout log.old.generation) }
+    ensures ok { OnOk result (IsTrue (D.honest disk.old) → Replays (size_in engine.old) (records_of log.old.layout log.old.generation (seen (D.past disk.old)))
+        (state_in engine.old) (state_in engine.new)) }
+    ensures all { OnOk result (IsTrue (D.honest disk.old) → IsBehind log.old.layout log.old.generation (seen (D.past disk.old)) log.new.number log.new.next) }
+    ensures kept { OnOk result (IsServable (size_in engine.new) (state_in engine.new)) }
+    ensures remains { IfOk result (λ remains. IsTrue (D.honest disk.old) → Remain log.old.layout log.old.generation (seen (D.past disk.old)) remains) }
+    ensures err { IfErr result (λ e. IsLost e ⊎ (IsTrue (D.honest disk.old)
+        → IsNoInput (placed (log_start log.old.layout log.old.generation) (records_of log.old.layout log.old.generation (seen (D.past disk.old)))) e)) }
+    ensures size { size_in engine.new ≡ size_in engine.old }
+    ensures of { (log.new.layout ≡ log.old.layout) × (log.new.generation ≡ log.old.generation) }
+    ensures past { IsTrue (D.honest disk.old) → D.past disk.new ≡ D.past disk.old }
+    ensures failures { CountsDevice result (D.failures disk.old) (D.failures disk.new) }
+    ensures disk_size { D.size disk.new ≡ D.size disk.old }
+    ensures honest { D.honest disk.new ≡ D.honest disk.old }
+{
+    replay(alloc, disk, engine, log)?;
+    log.remains(disk)
+}
+
+/// The sector with which the reading of the records ends, where whole records of their generation don't count.
+fn cut_off_of(remains: Remains) -> Option<Uncounted>
+    ensures some { IfSome result (λ cut. (0 < remains.uncounted) × (cut.sector ≡ remains.stop) × (cut.records ≡ remains.uncounted)) }
+    ensures none { result ≡ None → remains.uncounted ≡ 0 }
+{
+    if remains.uncounted == 0 {
+        return None;
+    }
+    Some(Uncounted {
+        sector: remains.stop as u64,
+        records: remains.uncounted,
+    })
+}
+
+/// The first sector of the slot beside this one, where it is damaged.
+fn damaged_of(layout: Layout, slot: Slot, is_damaged: bool, remains: Remains) -> Option<Uncounted>
+    ensures some { IfSome result (λ damaged. IsTrue is_damaged × (damaged.sector ≡ slot_start layout (other slot)) × (damaged.records ≡ remains.later)) }
+    ensures none { result ≡ None → ¬ IsTrue is_damaged }
+{
+    if !is_damaged {
+        return None;
+    }
+    Some(Uncounted {
+        sector: layout.slot_start(slot.other()) as u64,
+        records: remains.later,
+    })
+}
+
 /// Takes up the store that a disk holds, and writes nothing.
 pub(crate) fn take_up<D: Disk>(alloc: Global, disk: &mut D) -> Result<Found, Refusal>
     ensures found { IfOk result (λ f. IsTrue (D.honest disk.old)
         → IsTakenUp (D.size disk.old) (seen (D.past disk.old)) f.layout f.home.slot f.home.generation (state_in f.engine)) }
     ensures read { IfOk result (λ f. IsTrue (D.honest disk.old)
-        → IsRead f.layout (seen (D.past disk.old)) (record { generation = f.home.generation; records = f.log.number })) }
+        → IsRead f.layout (seen (D.past disk.old)) f.opened) }
+    ensures greatest { IfOk result (λ f. IsTrue (D.honest disk.old) → IsGreatest f.layout (seen (D.past disk.old)) f.home.generation f.greatest) }
     ensures kept { IfOk result (λ f. IsKept f.layout (size_in f.engine) (state_in f.engine)) }
     ensures room { IfOk result (λ f. store_sectors f.layout ≤ D.size disk.old) }
     ensures of { IfOk result (λ f. (f.log.layout ≡ f.layout) × (f.log.generation ≡ f.home.generation)) }
@@ -170,12 +231,19 @@ pub(crate) fn take_up<D: Disk>(alloc: Global, disk: &mut D) -> Result<Found, Ref
         return Err(Refusal::Damaged { sector });
     };
     let mut log = Log::new(layout, home.generation);
-    match replay(alloc, disk, &mut engine, &mut log) {
-        Ok(()) => Ok(Found {
+    match replay_all(alloc, disk, &mut engine, &mut log) {
+        Ok(remains) => Ok(Found {
             layout,
             home,
             engine,
             log,
+            greatest: remains.greatest,
+            opened: OpenedStore {
+                generation: home.generation,
+                records: log.number as usize,
+                cut_off: cut_off_of(remains),
+                damaged: damaged_of(layout, home.slot, snapshot.is_other_damaged, remains),
+            },
         }),
         Err(refusal) => {
             drop(engine);
@@ -184,42 +252,22 @@ pub(crate) fn take_up<D: Disk>(alloc: Global, disk: &mut D) -> Result<Found, Ref
     }
 }
 
-/// The greatest generation that stands on the disk of a store, which isn't the last there is: E20 where it is.
-fn greatest_but_last<D: Disk>(disk: &mut D, log: &Log) -> Result<u64, Refusal>
-    ensures greatest { IfOk result (λ n. IsTrue (D.honest disk.old) → IsBehind log.now.layout log.now.generation (seen (D.past disk.old)) log.now.number log.now.next
-        → IsGreatest log.now.layout (seen (D.past disk.old)) log.now.generation n) }
-    ensures early { IfOk result (λ n. n < 2 ^ 64 - 1) }
-    ensures err { IfErr result (λ e. (e ≡ Refusal.Device) ⊎ ((e ≡ Refusal.GenerationsSpent)
-        × (IsTrue (D.honest disk.old) → IsBehind log.now.layout log.now.generation (seen (D.past disk.old)) log.now.number log.now.next
-        → IsGreatest log.now.layout (seen (D.past disk.old)) log.now.generation (2 ^ 64 - 1)))) }
-    ensures past { IsTrue (D.honest disk.old) → D.past disk.new ≡ D.past disk.old }
-    ensures failures { CountsDevice result (D.failures disk.old) (D.failures disk.new) }
-    ensures size { D.size disk.new ≡ D.size disk.old }
-    ensures honest { D.honest disk.new ≡ D.honest disk.old }
-{
-    let greatest = log.greatest_generation(disk)?;
-    if greatest == u64::MAX {
-        return Err(Refusal::GenerationsSpent);
-    }
-    Ok(greatest)
-}
-
 /// Writes the state into the other slot, as the generation behind the greatest that stands on the disk.
-fn renew<D: Disk>(alloc: Global, disk: &mut D, found: Found, greatest: u64) -> Result<Held, Refusal>
+fn renew<D: Disk>(alloc: Global, disk: &mut D, found: Found) -> Result<Held, Refusal>
     requires kept { IsKept found.layout (size_in found.engine) (state_in found.engine) }
-    requires early { greatest < 2 ^ 64 - 1 }
+    requires early { found.greatest < 2 ^ 64 - 1 }
     requires room { store_sectors found.layout ≤ D.size disk.old }
     ensures during { IsTrue (D.honest disk.old) → IsSettled (D.past disk.old)
         → IsTakenUp (D.size disk.old) (seen (D.past disk.old)) found.layout found.home.slot found.home.generation (state_in found.engine)
-        → IsGreatest found.layout (seen (D.past disk.old)) found.home.generation greatest
+        → IsGreatest found.layout (seen (D.past disk.old)) found.home.generation found.greatest
         → During (D.past disk.old) (D.past disk.new) (IsStill found.layout (seen (D.past disk.old)) (state_in found.engine)) }
     ensures ok { IfOk result (λ held. IsTrue (D.honest disk.old) → IsSettled (D.past disk.old)
         → IsTakenUp (D.size disk.old) (seen (D.past disk.old)) found.layout found.home.slot found.home.generation (state_in found.engine)
-        → IsGreatest found.layout (seen (D.past disk.old)) found.home.generation greatest
+        → IsGreatest found.layout (seen (D.past disk.old)) found.home.generation found.greatest
         → Keeps (D.past disk.new) (D.size disk.new) held.log.layout held.home.slot held.home.generation held.log.number held.log.next (state_in held.engine)) }
     ensures held { IfOk result (λ held. (state_in held.engine ≡ state_in found.engine) × (size_in held.engine ≡ size_in found.engine)
-        × (held.log.layout ≡ found.layout) × (held.home.slot ≡ other found.home.slot) × (held.home.generation ≡ greatest + 1) × (held.log.generation ≡ held.home.generation) × (held.log.number ≡ 0)
-        × (held.opened ≡ record { generation = found.home.generation; records = found.log.number })) }
+        × (held.log.layout ≡ found.layout) × (held.home.slot ≡ other found.home.slot) × (held.home.generation ≡ found.greatest + 1) × (held.log.generation ≡ held.home.generation) × (held.log.number ≡ 0)
+        × (held.opened ≡ found.opened)) }
     ensures kept { IfOk result (λ held. MayHold held.log.layout (size_in held.engine) (state_in held.engine)) }
     ensures failures { CountsDevice result (D.failures disk.old) (D.failures disk.new) }
     ensures err { IfErr result IsLost }
@@ -235,17 +283,14 @@ fn renew<D: Disk>(alloc: Global, disk: &mut D, found: Found, greatest: u64) -> R
     };
     let last = Home {
         slot: found.home.slot,
-        generation: greatest,
+        generation: found.greatest,
     };
     match write_other(disk, found.layout, last, &body) {
         Ok(Some(home)) => Ok(Held {
             engine: found.engine,
             home,
             log: Log::new(found.layout, home.generation),
-            opened: OpenedStore {
-                generation: found.home.generation,
-                records: found.log.number as usize,
-            },
+            opened: found.opened,
         }),
         Ok(None) => unreachable!(),
         Err(refusal) => {
@@ -274,13 +319,11 @@ pub(crate) fn recover<D: Disk>(alloc: Global, disk: &mut D) -> Result<Held, Refu
 {
     disk.sync()?;
     let found = take_up(alloc, disk)?;
-    match greatest_but_last(disk, &found.log) {
-        Ok(greatest) => renew(alloc, disk, found, greatest),
-        Err(refusal) => {
-            drop(found.engine);
-            Err(refusal)
-        }
+    if found.greatest == u64::MAX {
+        drop(found.engine);
+        return Err(Refusal::GenerationsSpent);
     }
+    renew(alloc, disk, found)
 }
 
 impl<D: Disk> Keeper<D> {

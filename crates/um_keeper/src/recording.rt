@@ -2,7 +2,7 @@
 ghost use Rattle.std.specs.Prelude.{◌≡◌, ◌⊎◌, ◌+◌, ◌-◌, ◌^◌, ◌<◌, ◌≤◌, ◌∷◌, ◌++◌, [], ℕ, List, true, false, length, Err, IfOk, IfErr, OnOk, OnErr, IsTrue};
 ghost use Rattle.um_engine.specs.Engine.{reply_in, actions_in, standing_in, state_in, size_in, state_after, state_before};
 ghost use Rattle.um_keeper.specs.Keeping.{MayHold, IsBegun, snapshot_calls};
-ghost use Rattle.um_keeper.specs.Underway.{UnderwayIn, LacksRoom, HasRoomFor, IsFreeAt, IsPlannedBy};
+ghost use Rattle.um_keeper.specs.Underway.{UnderwayIn, LacksRoom, HasRoomFor, IsFreeAt, IsPlannedBy, MayRise};
 ghost use Rattle.um_log.specs.Reading.{Fits};
 ghost use Rattle.um_model.specs.Disk.{During};
 ghost use Rattle.um_model.specs.InputSpellings.{FitInput, input_limit, input_spelling};
@@ -82,6 +82,7 @@ fn make_room<D: Disk>(
     ensures fits { OnOk result (Fits ahead.new.log.layout ahead.new.log.generation ahead.new.log.next bytes) }
     ensures free { (from : ℕ) → IsFreeAt ahead.old.log from → IsFreeAt ahead.new.log from }
     ensures untouched { Fits ahead.old.log.layout ahead.old.log.generation ahead.old.log.next bytes → (disk.new ≡ disk.old) × (ahead.new ≡ ahead.old) }
+    ensures rises { OnOk result (MayRise ahead.old.log ahead.new.log (snapshot_calls (state_in engine.now)) (D.calls disk.old) (D.calls disk.new)) }
     ensures layout { ahead.new.log.layout ≡ ahead.old.log.layout }
     ensures grows { ahead.old.log.generation ≤ ahead.new.log.generation }
     ensures kept { IfErr result (λ e. (e ≡ Refusal.Device) ⊎ (disk.new ≡ disk.old)) }
@@ -127,6 +128,10 @@ fn write<D: Disk>(
         → ahead.new.log.next ≡ ahead.old.log.next + part_count (length (input_spelling (input_of input.now)))) }
     ensures fits_calls { ahead.old.log.next + part_count (length (input_spelling (input_of input.now))) ≤ log_end ahead.old.log.layout ahead.old.log.generation
         → D.calls disk.new ≤ D.calls disk.old + part_count (length (input_spelling (input_of input.now))) }
+    ensures fits_generation { OnOk result (ahead.old.log.next + part_count (length (input_spelling (input_of input.now))) ≤ log_end ahead.old.log.layout ahead.old.log.generation
+        → ahead.new.log.generation ≡ ahead.old.log.generation) }
+    ensures rises { OnOk result (MayRise ahead.old.log ahead.new.log (snapshot_calls (state_in engine.now))
+        (D.calls disk.old + part_count (length (input_spelling (input_of input.now)))) (D.calls disk.new)) }
     ensures calls { D.calls disk.new ≤ D.calls disk.old + snapshot_calls (state_in engine.now) + part_count (length (input_spelling (input_of input.now))) }
     ensures device { CountsDevice result (D.failures disk.old) (D.failures disk.new) }
     ensures size { D.size disk.new ≡ D.size disk.old }
@@ -175,7 +180,10 @@ pub(crate) fn record<D: Disk>(
     ensures fitted { OnOk result (ahead.old.log.next + part_count (length (input_spelling (input_of input.now))) ≤ log_end ahead.old.log.layout ahead.old.log.generation
         → (IsTrue (D.honest disk.old) → sync_count (D.past disk.new) ≡ sync_count (D.past disk.old))
         × (ahead.new.log.next ≡ ahead.old.log.next + part_count (length (input_spelling (input_of input.now))))
-        × (D.calls disk.new ≤ D.calls disk.old + part_count (length (input_spelling (input_of input.now))))) }
+        × (D.calls disk.new ≤ D.calls disk.old + part_count (length (input_spelling (input_of input.now))))
+        × (ahead.new.log.generation ≡ ahead.old.log.generation)) }
+    ensures rises { OnOk result (MayRise ahead.old.log ahead.new.log (snapshot_calls (state_in engine.old))
+        (D.calls disk.old + part_count (length (input_spelling (input_of input.now)))) (D.calls disk.new)) }
     ensures few { HasRoomFor ahead.old.log (input_of input.now) → D.calls disk.new ≤ D.calls disk.old + part_count (length (input_spelling (input_of input.now))) }
     ensures calls { D.calls disk.new ≤ D.calls disk.old + snapshot_calls (state_in engine.old) + part_count (length (input_spelling (input_of input.now))) }
     ensures device { CountsDevice result (D.failures disk.old) (D.failures disk.new) }

@@ -1,7 +1,7 @@
 -- What the words of a command line ask for: the words as clap reads them, and what each of its mistakes becomes.
 -- No manual page has this: it is the program's own (docs/FORMATS.md, "The program").
 -- The program stands on this file.
-use Rattle.std.specs.Prelude.{⊤, ◌≡◌, ◌≢◌, ◌⊎◌, ◌↔◌, ◌<◌, ◌≤◌, ◌^◌, ℕ, List, [], ◌∷◌, true, Option, Some, None, map, option_map, slice_get, bytes_eq, codes, decimal, drop, length, if◌then◌else◌}
+use Rattle.std.specs.Prelude.{⊤, ◌≡◌, ◌≢◌, ◌⊎◌, ◌↔◌, ◌<◌, ◌≤◌, ◌^◌, ℕ, List, [], ◌∷◌, Bool, true, Option, Some, None, map, option_map, slice_get, bytes_eq, codes, decimal, drop, length, if◌then◌else◌}
 use Rattle.clap.specs.Words.{App, Kinds, Row, Rule, IsAmong, all_of, fault_of, first_of, matches_of, new_app, new_rule, with_rule}
 use Rattle.clap.specs.Simple.{on_top}
 use Rattle.clap.specs.declared.builder.action.ArgAction.TheVariants.{SetTrue, Append}
@@ -16,7 +16,7 @@ use Rattle.um_line.specs.declared.line.Line.TheVariants.{Memory, Run, Create, Ch
 use Rattle.um_line.specs.declared.line.Subcommand.{Subcommand}
 use Rattle.um_line.specs.declared.line.Subcommand.TheVariants as sub
 use Rattle.um_runner.specs.Jobs.{entries_of, words_of}
-use Rattle.um_runner.specs.RunnerLines.{IsRunnerLine}
+use Rattle.um_runner.specs.RunnerLines.{TellsRunner}
 
 -- ---- what the words may be
 
@@ -57,16 +57,17 @@ create_words =
 abbrev pub check_words : App
 check_words = with_rule (with_rule (new_app (codes "umd check")) (flag_rule (codes "units"))) (word_rule (codes "file"))
 
--- the words of `umd serve`
+-- the words of `umd serve`: what is started behind a new boot may be left out
 abbrev pub serve_words : App
 serve_words =
-    with_rule (with_rule (with_rule (with_rule (with_rule (new_app (codes "umd serve")) (option_rule (codes "boot"))) (option_rule (codes "socket")))
-    (option_rule (codes "dir"))) (option_rule (codes "runner"))) (word_rule (codes "file"))
+    with_rule (with_rule (with_rule (with_rule (with_rule (with_rule (new_app (codes "umd serve")) (option_rule (codes "boot"))) (option_rule (codes "socket")))
+    (option_rule (codes "dir"))) (option_rule (codes "runner"))) (optional_rule (codes "start"))) (word_rule (codes "file"))
 
--- the words of `umd ctl`: the socket, a mode that may be left out, and a verb with its arguments
+-- the words of `umd ctl`: the socket, two times and a mode that may be left out, and a verb with its arguments
 abbrev pub ctl_words : App
 ctl_words =
-    with_rule (with_rule (with_rule (new_app (codes "umd ctl")) (option_rule (codes "socket"))) (optional_rule (codes "mode"))) (words_rule (codes "word"))
+    with_rule (with_rule (with_rule (with_rule (with_rule (new_app (codes "umd ctl")) (option_rule (codes "socket"))) (optional_rule (codes "retry")))
+    (optional_rule (codes "timeout"))) (optional_rule (codes "mode"))) (words_rule (codes "word"))
 
 -- ---- mistakes
 
@@ -118,6 +119,19 @@ least_log = 512
 abbrev pub most_sectors : ℕ
 most_sectors = 2 ^ 20
 
+-- the longest time that is waited, in seconds: a day
+abbrev pub most_seconds : ℕ
+most_seconds = 86400
+
+-- a time that may be left out: it was, or it is this number within its limits
+abbrev pub IsTime : Option (List ℕ) → Option ℕ → Type 0
+IsTime text None = text ≡ None
+IsTime text (Some seconds) = IsNumber 1 most_seconds seconds text
+
+-- a time was told, and is no number within its limits
+abbrev pub IsNoTime : Option (List ℕ) → Type 0
+IsNoTime text = (text ≢ None) × IsNoNumber 1 most_seconds text
+
 -- the longest id of a boot, in bytes
 abbrev pub boot_limit : ℕ
 boot_limit = 64
@@ -138,17 +152,18 @@ IsTopLine words = IsReadLine (mistakes_of words) IsMemory
 
 -- the words are no runner's, whatever folder, number, entries and command are looked for in them
 abbrev pub IsNoRunner : List (List ℕ) → Type 0
-IsNoRunner words = (folder : List ℕ) (number : ℕ) (entries command : List (List ℕ)) → IsRunnerLine folder number entries command words → ⊥
+IsNoRunner words =
+    (has_file : Bool) (folder : List ℕ) (number : ℕ) (entries command : List (List ℕ)) → TellsRunner has_file folder number entries command words → ⊥
 
--- the line is to run this command with these entries, as the process of this number
-abbrev pub IsToRun : (folder : List ℕ) (number : ℕ) (entries command : List (List ℕ)) → Line → Type 0
-IsToRun folder number entries command (Run line) =
-    (line.folder.now ≡ folder) × (line.number ≡ number) × (entries_of line.job ≡ entries) × (words_of line.job ≡ command)
-IsToRun folder number entries command other = ⊥
+-- the line is to run this command with these entries, or with those of the number's file, as the process of this number
+abbrev pub IsToRun : (has_file : Bool) (folder : List ℕ) (number : ℕ) (entries command : List (List ℕ)) → Line → Type 0
+IsToRun has_file folder number entries command (Run line) =
+    (line.has_file ≡ has_file) × (line.folder.now ≡ folder) × (line.number ≡ number) × (entries_of line.job ≡ entries) × (words_of line.job ≡ command)
+IsToRun has_file folder number entries command other = ⊥
 
 -- what the words behind `run` ask for: a runner's are run, and others told wrong, but for `--help` in front
 abbrev pub IsRunLine : List (List ℕ) → Line → Type 0
-IsRunLine words (Run line) = IsRunnerLine line.folder.now line.number (entries_of line.job) (words_of line.job) words
+IsRunLine words (Run line) = TellsRunner line.has_file line.folder.now line.number (entries_of line.job) (words_of line.job) words
 IsRunLine words (Told text) = slice_get words 0 ≡ Some (codes "--help")
 IsRunLine words (Wrong text) = (slice_get words 0 ≢ Some (codes "--help")) × IsNoRunner words
 IsRunLine words other = ⊥
@@ -195,7 +210,7 @@ abbrev pub IsServe : List Row → ServeLine → Type 0
 IsServe rows line =
     (first_of (codes "boot") rows ≡ Some line.boot.now) × (first_of (codes "socket") rows ≡ Some line.socket.now)
     × (first_of (codes "dir") rows ≡ Some line.dir.now) × (first_of (codes "runner") rows ≡ Some line.runner.now)
-    × (first_of (codes "file") rows ≡ Some line.file.now)
+    × (first_of (codes "start") rows ≡ option_map (λ unit. unit.now) line.start) × (first_of (codes "file") rows ≡ Some line.file.now)
 
 -- a word is missing
 abbrev pub IsNoServe : List Row → Type 0
@@ -214,16 +229,17 @@ TakesServe rows other = ⊥
 abbrev pub IsServeLine : List (List ℕ) → Line → Type 0
 IsServeLine words = IsReadLine (fault_of serve_words words) (TakesServe (matches_of serve_words words))
 
--- a verb with its arguments, for the manager at a socket
+-- a verb with its arguments, for the manager at a socket, and how long is waited
 abbrev pub IsCtl : List Row → CtlLine → Type 0
 IsCtl rows line =
-    (first_of (codes "socket") rows ≡ Some line.socket.now) × (first_of (codes "mode") rows ≡ option_map (λ mode. mode.now) line.mode)
+    (first_of (codes "socket") rows ≡ Some line.socket.now) × IsTime (first_of (codes "retry") rows) line.retry
+    × IsTime (first_of (codes "timeout") rows) line.timeout × (first_of (codes "mode") rows ≡ option_map (λ mode. mode.now) line.mode)
     × (all_of (codes "word") rows ≡ Some (line.verb.now ∷ map (λ word. word.now) line.arguments.items))
 
--- a word is missing
+-- a word is missing, or a time isn't within its limits
 abbrev pub IsNoCtl : List Row → Type 0
 IsNoCtl rows =
-    (first_of (codes "socket") rows ≡ None) ⊎ (all_of (codes "word") rows ≡ None) ⊎ (all_of (codes "word") rows ≡ Some [])
+    (first_of (codes "socket") rows ≡ None) ⊎ IsNoTime (first_of (codes "retry") rows) ⊎ IsNoTime (first_of (codes "timeout") rows) ⊎ (all_of (codes "word") rows ≡ None) ⊎ (all_of (codes "word") rows ≡ Some [])
 
 -- what they ask for by these values
 abbrev pub TakesCtl : List Row → Line → Type 0

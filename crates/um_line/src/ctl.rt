@@ -6,7 +6,8 @@ ghost use Rattle.um_line.specs.Line.{ctl_words, IsCtlLine, IsToldAs, TakesCtl};
 
 use crate::line::Line;
 use crate::mistake::line_of_mistake;
-use crate::values::{described, optional, value, values, with_option, words};
+use crate::numbers::time;
+use crate::values::{described, value, values, with_option, with_optional, with_words};
 use clap::error::ErrorKind;
 use clap::{ArgMatches, Command, Error};
 use std::alloc::{AllocError, Global};
@@ -17,6 +18,10 @@ use um_ctl::verb_lines;
 pub struct CtlLine<'a> {
     /// The path of the socket.
     pub socket: &'a str,
+    /// For so many seconds it connects again where nobody reads the request: what `--retry` told.
+    pub retry: Option<u32>,
+    /// For so many seconds it waits for the reply: what `--timeout` told.
+    pub timeout: Option<u32>,
     pub verb: &'a str,
     pub arguments: Vec<&'a str>,
     /// What `--mode` told.
@@ -26,12 +31,26 @@ pub struct CtlLine<'a> {
 /// What is told where a word is missing.
 const USAGE: &str = "error: a word is missing
 
-Usage: umd ctl --socket <PATH> [--mode <MODE>] <VERB> [ARG]..
+Usage: umd ctl --socket <PATH> [--retry <SECONDS>] [--timeout <SECONDS>] [--mode <MODE>] <VERB> [ARG]..
+
+For more information, try '--help'.
+";
+
+/// What is told where a time isn't within its limits.
+const NO_TIME: &str = "error: --retry and --timeout are 1 to 86400 seconds
+
+Usage: umd ctl --socket <PATH> [--retry <SECONDS>] [--timeout <SECONDS>] [--mode <MODE>] <VERB> [ARG]..
 
 For more information, try '--help'.
 ";
 
 const SOCKET_HELP: &str = "The socket that the manager serves";
+
+const RETRY_HELP: &str =
+    "Where nothing stands at the socket, nobody answers there or the connection is closed unread: connects again for so long, 1 to 86400 seconds";
+
+const TIMEOUT_HELP: &str =
+    "Waits for the reply for so long, retries included, 1 to 86400 seconds, and then ends with 6; the request may have been taken all the same. Left out: for ever";
 
 const WORD_HELP: &str = "A verb, and its fields in their order";
 
@@ -41,12 +60,16 @@ const MODE_HELP: &str =
 const AFTER_HELP: &str =
     "Words after -- may begin with a -. A refusal prints one line, as E4 NotFound a.service; umd help E4 says what it means and what to do.
 
-Exit statuses: 0 done; 1 refused; 2 wrong words; 3 not active, not failed, not enabled; 4 no connection; 5 a fault.
+Exit statuses: 0 done; 1 refused; 2 wrong words; 3 not active, not failed, not enabled; 4 no connection, or it was closed unread and the request not taken; 5 a fault; 6 no reply in time.
 
 For example:
   umd ctl --socket /run/umd/socket put-file lib/a.service < a.service
   umd ctl --socket /run/umd/socket daemon-reload
   umd ctl --socket /run/umd/socket start --mode fail a
+  umd ctl --socket /run/umd/socket --retry 10 --timeout 60 list-units
+  umd ctl --socket /run/umd/socket start shutdown.target
+
+The last one stops everything but units with DefaultDependencies=no.
 
 Verbs, with their arguments in their order:";
 
@@ -57,13 +80,15 @@ fn command<'a>(alloc: Global) -> Result<Command<'a>, AllocError>
     let command = described(
         alloc,
         "umd ctl",
-        "umd ctl --socket <PATH> [--mode <MODE>] <VERB> [ARG]..",
+        "umd ctl --socket <PATH> [--retry <SECONDS>] [--timeout <SECONDS>] [--mode <MODE>] <VERB> [ARG]..",
         "Asks the manager at a socket, and prints the value of its reply as JSON",
         AFTER_HELP,
     );
-    with_option(command, alloc, "socket", "PATH", SOCKET_HELP)?
-        .arg(optional(alloc, "mode", "MODE", MODE_HELP))?
-        .arg(words(alloc, "word", "WORD", WORD_HELP))
+    let command = with_option(command, alloc, "socket", "PATH", SOCKET_HELP)?;
+    let command = with_optional(command, alloc, "retry", "SECONDS", RETRY_HELP)?;
+    let command = with_optional(command, alloc, "timeout", "SECONDS", TIMEOUT_HELP)?;
+    let command = with_optional(command, alloc, "mode", "MODE", MODE_HELP)?;
+    with_words(command, alloc, "word", "WORD", WORD_HELP)
 }
 
 /// The texts again.
@@ -86,6 +111,12 @@ fn ctl_line<'a>(alloc: Global, matches: &ArgMatches<'a>) -> Result<Line<'a>, All
     let Some(socket) = value(matches, "socket") else {
         return Ok(Line::Wrong(usage(alloc)?));
     };
+    let Some(retry) = time(value(matches, "retry")) else {
+        return Ok(Line::Wrong(String::from_str(alloc, NO_TIME)?));
+    };
+    let Some(timeout) = time(value(matches, "timeout")) else {
+        return Ok(Line::Wrong(String::from_str(alloc, NO_TIME)?));
+    };
     let Some(told) = values(matches, "word") else {
         return Ok(Line::Wrong(usage(alloc)?));
     };
@@ -95,6 +126,8 @@ fn ctl_line<'a>(alloc: Global, matches: &ArgMatches<'a>) -> Result<Line<'a>, All
     let arguments = copied(alloc, arguments)?;
     Ok(Line::Ctl(CtlLine {
         socket,
+        retry,
+        timeout,
         verb: *verb,
         arguments,
         mode: value(matches, "mode"),

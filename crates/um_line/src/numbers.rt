@@ -1,7 +1,7 @@
 //! Numbers among the words.
 
 ghost use Rattle.std.specs.Prelude.{◌≡◌, MatchOption, option_map};
-ghost use Rattle.um_line.specs.Line.{IsNumber, IsNoNumber};
+ghost use Rattle.um_line.specs.Line.{IsNumber, IsNoNumber, IsTime, IsNoTime};
 
 use um_runner::number_in;
 
@@ -17,4 +17,18 @@ pub fn limited(text: Option<&str>, low: u32, high: u32) -> Option<u32>
         return None;
     }
     Some(number as u32)
+}
+
+/// The longest time that is waited, in seconds: a day.
+const MOST_SECONDS: u32 = 86_400;
+
+/// A time in seconds, 1 to 86,400, or that none was told. None for another text.
+pub fn time(text: Option<&str>) -> Option<Option<u32>>
+    ensures { MatchOption result (IsNoTime (option_map (λ s. s.now) text.entry)) (IsTime (option_map (λ s. s.now) text.entry)) }
+{
+    if text.is_none() {
+        return Some(None);
+    }
+    let seconds = limited(text, 1, MOST_SECONDS)?;
+    Some(Some(seconds))
 }

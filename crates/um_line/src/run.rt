@@ -12,10 +12,12 @@ const HELP: &str =
     "Runs a command as a process of the manager, and tells it by files in the manager's folder
 
 Usage: umd run --dir DIR --number N --env COUNT -- WORDS..
+       umd run --dir DIR --number N --env-file -- WORDS..
 
-The first COUNT words are NAME=value and are set over the environment; the others are the command. DIR/N.claim says
-that the number is taken, DIR/N.pid the pid, DIR/N.status how the command ended. Where DIR/N.claim stands, nothing
-is run.
+The first COUNT words are NAME=value and are set over the environment; the others are the command. With --env-file all
+words are the command, and the manager has written what is set over the environment to DIR/N.env, which goes once it
+was read; where it isn't there, nothing is run, and the end is code 203. DIR/N.claim says that the number is taken,
+DIR/N.pid the pid, DIR/N.status how the command ended. Where DIR/N.claim stands, nothing is run.
 
 For example:
   umd run --dir /run/umd --number 7 --env 1 -- LANG=C /bin/sleep 9
@@ -25,6 +27,7 @@ For example:
 const USAGE: &str = "error: these are no words of a runner
 
 Usage: umd run --dir DIR --number N --env COUNT -- WORDS..
+       umd run --dir DIR --number N --env-file -- WORDS..
 
 For more information, try '--help'.
 ";

@@ -6,7 +6,7 @@ ghost use Rattle.um_line.specs.Line.{serve_words, IsServeLine, TakesServe};
 
 use crate::line::Line;
 use crate::mistake::line_of_mistake;
-use crate::values::{described, value, with_option, with_word};
+use crate::values::{described, value, with_option, with_optional, with_word};
 use clap::{ArgMatches, Command};
 use std::alloc::{AllocError, Global};
 
@@ -21,6 +21,8 @@ pub struct ServeLine<'a> {
     pub dir: &'a str,
     /// The program that runs them: this one.
     pub runner: &'a str,
+    /// The unit that is started where nothing ran yet since the boot: what `--start` told.
+    pub start: Option<&'a str>,
     /// The path of the store.
     pub file: &'a str,
 }
@@ -31,7 +33,7 @@ const BOOT_LIMIT: usize = 64;
 /// What is told where a word is missing.
 const USAGE: &str = "error: a word is missing
 
-Usage: umd serve --boot <ID> --socket <PATH> --dir <DIR> --runner <PATH> <FILE>
+Usage: umd serve --boot <ID> --socket <PATH> --dir <DIR> --runner <PATH> [--start <UNIT>] <FILE>
 
 For more information, try '--help'.
 ";
@@ -46,15 +48,20 @@ const RUNNER_HELP: &str = "The program that runs processes: the path of umd itse
 const DIR_HELP: &str =
     "The folder of the files of processes, made where it isn't there; nothing may clean it while the machine is up";
 
+const START_HELP: &str =
+    "The unit to start where nothing ran yet since the boot: no unit has an entry in the state, and no job is pending. So it is started behind a new boot, and again where the manager was killed before the start was recorded, and never once anything ran. What it wants and can't have is left out, as with start; a refusal is told, and the store is served all the same";
+
 const AFTER_HELP: &str =
     "It serves until TERM, or another signal, ends it. The processes of its services run on; served again with the same id of the boot, the store has them again.
+
+Everything but units with DefaultDependencies=no is stopped by umd ctl start shutdown.target.
 
 Services run as the user of umd serve. Their standard input and output and their standard error are /dev/null.
 
 What fails is told on standard error. Exit statuses: 1 refused, with a line of what the refusal means; 2 wrong words; 5 a file, the folder, the socket or the disk failed.
 
 For example:
-  umd serve --boot \"$(cat /proc/sys/kernel/random/boot_id)\" --socket /run/umd/socket --dir /run/umd --runner /usr/bin/umd /var/lib/umd/store";
+  umd serve --boot \"$(cat /proc/sys/kernel/random/boot_id)\" --socket /run/umd/socket --dir /run/umd --runner /usr/bin/umd --start default.target /var/lib/umd/store";
 
 /// The words that it takes.
 fn command<'a>(alloc: Global) -> Result<Command<'a>, AllocError>
@@ -63,7 +70,7 @@ fn command<'a>(alloc: Global) -> Result<Command<'a>, AllocError>
     let command = described(
         alloc,
         "umd serve",
-        "umd serve --boot <ID> --socket <PATH> --dir <DIR> --runner <PATH> <FILE>",
+        "umd serve --boot <ID> --socket <PATH> --dir <DIR> --runner <PATH> [--start <UNIT>] <FILE>",
         "Serves a store over a socket",
         AFTER_HELP,
     );
@@ -71,6 +78,7 @@ fn command<'a>(alloc: Global) -> Result<Command<'a>, AllocError>
     let command = with_option(command, alloc, "socket", "PATH", SOCKET_HELP)?;
     let command = with_option(command, alloc, "dir", "DIR", DIR_HELP)?;
     let command = with_option(command, alloc, "runner", "PATH", RUNNER_HELP)?;
+    let command = with_optional(command, alloc, "start", "UNIT", START_HELP)?;
     with_word(command, alloc, "file", "FILE", "The store")
 }
 
@@ -105,6 +113,7 @@ fn serve_line<'a>(alloc: Global, matches: &ArgMatches<'a>) -> Result<Line<'a>, A
         socket,
         dir,
         runner,
+        start: value(matches, "start"),
         file,
     }))
 }

@@ -83,6 +83,19 @@ pub fn optional<'a>(alloc: Global, name: &'a str, value: &'a str, help: &'a str)
         .help(help)
 }
 
+/// The command with an option more that may be left out.
+pub fn with_optional<'a>(
+    command: Command<'a>,
+    alloc: Global,
+    name: &'a str,
+    value: &'a str,
+    help: &'a str,
+) -> Result<Command<'a>, AllocError>
+    ensures { IfOk result (λ c. app_of c ≡ with_rule (app_of command.entry) (optional_rule name.entry.now)) }
+{
+    command.arg(optional(alloc, name, value, help))
+}
+
 /// A flag, which may be left out.
 pub fn flag<'a>(alloc: Global, name: &'a str, help: &'a str) -> Arg<'a>
     ensures rule { rule_of result ≡ flag_rule name.entry.now }
@@ -104,6 +117,19 @@ pub fn words<'a>(alloc: Global, name: &'a str, value: &'a str, help: &'a str) ->
         .help(help)
         .required(true)
         .action(ArgAction::Append)
+}
+
+/// The command with words more of which one has to be given at least.
+pub fn with_words<'a>(
+    command: Command<'a>,
+    alloc: Global,
+    name: &'a str,
+    value: &'a str,
+    help: &'a str,
+) -> Result<Command<'a>, AllocError>
+    ensures { IfOk result (λ c. app_of c ≡ with_rule (app_of command.entry) (words_rule name.entry.now)) }
+{
+    command.arg(words(alloc, name, value, help))
 }
 
 /// The value of an option or a word.

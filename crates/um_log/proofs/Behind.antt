@@ -1,5 +1,5 @@
 -- Records behind others that weren't synced: each image has a beginning of them, and a sync makes them all stand.
-use Rattle.std.specs.Prelude.{◌≡◌, ◌⊎◌, ◌+◌, ◌^◌, ◌<◌, ◌≤◌, ℕ, List, [], ◌∷◌, ◌++◌, length, take, slice_index_or, Result}
+use Rattle.std.specs.Prelude.{◌≡◌, ◌+◌, ◌^◌, ◌<◌, ◌≤◌, ℕ, List, [], ◌∷◌, ◌++◌, length, take, slice_index_or, Result}
 use Rattle.std.proofs.Common.{sym, ◌∙◌, ap, subst, inl, inr, ⊎_elim, arith, append_assoc, refl}
 use Rattle.std.proofs.lemmas.List.{length-append, append-nil, take-append-le, take_all}
 use Rattle.um_model.specs.Disk.{Image, Past, seen, IsImage, During, Synced, after, synced}

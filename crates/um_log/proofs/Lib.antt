@@ -1,3 +1,5 @@
 mod Scanning
+mod Parts
+mod Following
 pub mod Appending
 pub mod Behind

@@ -3,9 +3,12 @@
 #![tactic(auto)]
 
 mod ahead;
+mod chain;
 mod greatest;
 mod laws;
+mod part;
 mod read;
+mod remains;
 mod sectors;
 mod write;
 
@@ -13,5 +16,6 @@ pub use laws::{
     records_are_told, records_have_one_reading, unread_sectors_of_the_log_do_not_count,
 };
 pub use read::{Record, scan};
+pub use remains::Remains;
 pub use um_model::Layout;
 pub use write::Log;

@@ -11,6 +11,9 @@ use um_sector::{Disk, Fault, Fields, Sector, next_chunk};
 /// The first bytes of a sector of the log.
 pub const FORMAT: &[u8] = b"UMLG";
 
+/// The byte of a sector of the log at which its generation begins, in eight bytes.
+pub const GENERATION_AT: usize = 4;
+
 /// The byte of a sector of the log at which the length of its record begins, in four bytes.
 pub const SIZE_AT: usize = 28;
 

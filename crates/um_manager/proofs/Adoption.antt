@@ -27,7 +27,7 @@ use Rattle.um_manager.specs.Opening.{Signalled, Adopted, CallsOf, Ends}
 use Rattle.um_manager.specs.Orders.{Grew, signals}
 use Rattle.um_manager.specs.Places.{Place, LogEnd}
 use Rattle.um_manager.specs.Stores.{Submits}
-use Rattle.um_manager.specs.Turns.{now, Answers, each, fell, reopen, Tells, AreSpent, Leaves}
+use Rattle.um_manager.specs.Turns.{now, Answers, each, fell, reopen, Tells, AreSpent, MakesFewCalls, Leaves}
 
 joined : (units : ByUnit UnitState) (sub : SubState) (ms ks ns ls : List ℕ) → AreIn units sub ms ks → AreIn units sub ns ls → AreIn units sub (ms ++ ns) (ks ++ ls)
 joined units sub ms ks ns ls none q = q
@@ -115,7 +115,7 @@ ok_isnt_err : {e : Refusal} → (◌≡◌ {A = Result Unit Refusal} (Ok tt) (Er
 ok_isnt_err is = cc
 
 pub adopted : (place : Place) (moment : ℕ) (s t : State) (old heard grown new : List Call) (live marks marked : List ℕ) (d e : Past) (p q : LogEnd) (inputs : List Input) (replies : List Reply)
-    (h k l w v m : Bool) → AreLive s.units live → HasFewLive t.units → ((n : ℕ) → has n marks ≡ has n live) → Heard lost moment (λ n. true) h m (old ++ ForgotOthers live ∷ []) heard live [] inputs
+    (h k l w v m : Bool) → AreLive s.units live → HasFewLive t.units → ((n : ℕ) → has n marks ≡ has n live) → Heard lost moment (λ n. true) h m (old ++ ForgotOthers live s.next ∷ []) heard live [] inputs
     → Submits place (Ok tt) inputs replies k v (now s heard marks [] d p) (now t grown marked [] e q)
     → (IsTrue l → IsTrue w → Ends t.units live grown new)
     → (IsTrue h → IsTrue k) → (IsTrue h → IsTrue l) → (IsTrue w → IsTrue v) → (IsTrue v → IsTrue m)
@@ -131,7 +131,8 @@ adopted place moment s t old heard grown new live marks marked d e p q inputs re
       answered = subst (λ l. Answers place s l sub.answers t) told.inputs_are sub.answered;
       tells = subst (λ l. Tells (Ok tt) place.size s l sub.answers t) told.inputs_are sub.tells;
       order = sub.order;
-      spent = subst (λ l. AreSpent place l sub.answers p q) told.inputs_are sub.spent;
+      spent = subst (λ l. AreSpent place s l sub.answers p q) told.inputs_are sub.spent;
+      few = λ ok. subst (λ l. MakesFewCalls place s l sub.answers t p q) told.inputs_are (sub.few ok);
       left = λ x. subst (λ l. Leaves place s l sub.answers d e) told.inputs_are (sub.left x);
       stored = sub.stored;
       called = λ honest whole.
@@ -144,7 +145,7 @@ adopted place moment s t old heard grown new live marks marked d e p q inputs re
             are_termed = term.are;
             killed = kill.chosen;
             are_killed = kill.are;
-            called = called t.units (Ok tt) told.told (all_asked sub.answers ++ (signals Term term.chosen ++ signals Kill kill.chosen)) (old ++ ForgotOthers live ∷ []) heard end.killed new live
+            called = called t.units (Ok tt) told.told (all_asked sub.answers ++ (signals Term term.chosen ++ signals Kill kill.chosen)) (old ++ ForgotOthers live s.next ∷ []) heard end.killed new live
                 marked few (told.past_is honest (vm (wv whole)))
                 (grew_more t.units heard grown end.killed live marked marked (all_asked sub.answers) (signals Term term.chosen ++ signals Kill kill.chosen) grew
                 (grew_more t.units grown end.termed end.killed marked marked marked (signals Term term.chosen) (signals Kill kill.chosen)
@@ -181,7 +182,7 @@ asks_none place size s t inputs answers (reopen untrusted are same) fault = ap a
 
 -- where the store failed all but the live numbers were let go, the fates were asked, and nothing else
 pub unadopted_calls : (place : Place) (store : Result Unit Refusal) (moment : ℕ) (s t : State) (old heard new : List Call) (live marks marked : List ℕ) (d e : Past) (p q : LogEnd) (inputs : List Input)
-    (replies : List Reply) (h k w v m : Bool) → AreLive s.units live → Heard lost moment (λ n. true) h m (old ++ ForgotOthers live ∷ []) heard live [] inputs
+    (replies : List Reply) (h k w v m : Bool) → AreLive s.units live → Heard lost moment (λ n. true) h m (old ++ ForgotOthers live s.next ∷ []) heard live [] inputs
     → Submits place store inputs replies k v (now s heard marks [] d p) (now t new marked [] e q) → store ≡ Err Device
     → (IsTrue h → IsTrue k) → (IsTrue w → IsTrue v) → (IsTrue v → IsTrue m)
     → Adopted place h w store moment (now s old marks [] d p) (now t new marked [] e q)
@@ -196,13 +197,14 @@ unadopted_calls place store moment s t old heard new live marks marked d e p q i
       answered = subst (λ l. Answers place s l sub.answers t) told.inputs_are sub.answered;
       tells = subst (λ l. Tells store place.size s l sub.answers t) told.inputs_are sub.tells;
       order = sub.order;
-      spent = subst (λ l. AreSpent place l sub.answers p q) told.inputs_are sub.spent;
+      spent = subst (λ l. AreSpent place s l sub.answers p q) told.inputs_are sub.spent;
+      few = λ ok. subst (λ l. MakesFewCalls place s l sub.answers t p q) told.inputs_are (sub.few ok);
       left = λ x. subst (λ l. Leaves place s l sub.answers d e) told.inputs_are (sub.left x);
       stored = sub.stored;
       called = λ honest whole.
           let grew = sub.grew (hk honest) (wv whole) in
           let none = none_given grew.given (grew.orders_are ∙ asks_none place place.size s t inputs sub.answers sub.answered (sub.tells.device.0 device)) grew.no_tale grew.kept in
-          subst (λ r. CallsOf r t.units live told.told (all_asked sub.answers) old new marked) (sym device)
+          subst (λ r. CallsOf r t.units live s.next told.told (all_asked sub.answers) old new marked) (sym device)
           (grew.past_is ∙ ap (λ l. heard ++ l) none ∙ append-nil heard ∙ told.past_is honest (vm (wv whole))
-          ∙ append_assoc old (ForgotOthers live ∷ []) (map asks_for told.told));
+          ∙ append_assoc old (ForgotOthers live s.next ∷ []) (map asks_for told.told));
     }

@@ -108,7 +108,7 @@ asks_alone {moment = moment} {boot = boot} {a = a} on began honest whole = recor
   boots = subst (λ n. Step n a.state (boot_at moment boot) began.reply [] began.mid.state) on began.booted;
   live = began.adopted.live;
   are_live = began.adopted.are_live;
-  past_is = began.adopted.called honest whole ∙ ap (λ l. l ++ (ForgotOthers began.adopted.live ∷ map asks_for began.adopted.told)) began.asked_none;
+  past_is = began.adopted.called honest whole ∙ ap (λ l. l ++ (ForgotOthers began.adopted.live began.mid.state.next ∷ map asks_for began.adopted.told)) began.asked_none;
 }
 
 -- what a crash leaves of an opening that is refused once the store is taken up

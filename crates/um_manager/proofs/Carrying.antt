@@ -54,7 +54,7 @@ none_given (Spawned s is_taken starts ∷ calls) no_order no_tale kept = absurd 
 none_given (Signalled n signal ∷ calls) no_order no_tale kept = absurd (cons≢nil no_order)
 none_given (Asked n claim told ∷ calls) no_order no_tale kept = absurd (cons≢nil no_tale)
 none_given (Forgot n ∷ calls) no_order no_tale kept = absurd (true≢false kept)
-none_given (ForgotOthers live ∷ calls) no_order no_tale kept = absurd (true≢false kept)
+none_given (ForgotOthers live next ∷ calls) no_order no_tale kept = absurd (true≢false kept)
 
 pub nil_of : {X : Type 0} (xs : List X) → length xs ≡ 0 → xs ≡ []
 nil_of [] e = refl

@@ -133,7 +133,7 @@ refused_calls layout on honest whole {past = past} (untaken none stays) = ([], r
 refused_calls layout on honest whole {past = past} (taken_up a b found unasked stays (unbooted same quiet during) disk_is calls_is) =
     ([], refl, calls_is ∙ quiet ∙ unasked ∙ sym (append-nil past))
 refused_calls layout on honest whole {past = past} (taken_up a b found unasked stays (unadopted device began) disk_is calls_is) =
-    let more = ForgotOthers began.adopted.live ∷ map asks_for began.adopted.told in
+    let more = ForgotOthers began.adopted.live began.mid.state.next ∷ map asks_for began.adopted.told in
     (more, orders_told began.adopted.told, calls_is ∙ began.adopted.called honest whole ∙ ap (λ p. p ++ more) (began.asked_none ∙ unasked))
 
 -- an opening that is refused is a life

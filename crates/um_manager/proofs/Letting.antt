@@ -48,7 +48,7 @@ spares_all n (Spawned s is_taken starts ∷ calls) kept = spares_all n calls kep
 spares_all n (Signalled number signal ∷ calls) kept = spares_all n calls kept
 spares_all n (Asked number claim told ∷ calls) kept = spares_all n calls kept
 spares_all n (Forgot number ∷ calls) kept = absurd (true≢false kept)
-spares_all n (ForgotOthers live ∷ calls) kept = absurd (true≢false kept)
+spares_all n (ForgotOthers live next ∷ calls) kept = absurd (true≢false kept)
 
 nothing_of : {X : Type 0} (xs : List X) → length xs ≡ 0 → xs ≡ []
 nothing_of [] e = refl

@@ -123,10 +123,10 @@ module _ (offering : ArePartsOfLives) (layout : Layout) (on : Reliance) (sure : 
       let mid = began.mid in
       let adopted = began.adopted in
       let told = adopted.tells.ok refl in
-      let ended : Ended b.state.units adopted.live adopted.told (all_asked adopted.answers) mid.past b.past b.marks = adopted.called honest whole in
+      let ended : Ended b.state.units adopted.live mid.state.next adopted.told (all_asked adopted.answers) mid.past b.past b.marks = adopted.called honest whole in
       let called = ended.called in
       let last = signals_start ended.termed ended.killed in
-      let starts : started_numbers (orders (ForgotOthers adopted.live ∷ (map asks_for adopted.told ++ called.given))) ≡ started_numbers (all_asked adopted.answers) =
+      let starts : started_numbers (orders (ForgotOthers adopted.live mid.state.next ∷ (map asks_for adopted.told ++ called.given))) ≡ started_numbers (all_asked adopted.answers) =
       called_start adopted.told called.given _ called.orders_are ∙ started_both (all_asked adopted.answers) _
       ∙ ap (λ l. started_numbers (all_asked adopted.answers) ++ l) last ∙ append-nil (started_numbers (all_asked adopted.answers)) in
       record {
@@ -135,9 +135,9 @@ module _ (offering : ArePartsOfLives) (layout : Layout) (on : Reliance) (sure : 
         come = λ more image m. takes began.reply [] refl began.booted
             (offering.answered layout mid.state b.state (adoptions moment adopted.told) adopted.answers told more image m);
         stored = adopted.stored sure refl;
-        more = ForgotOthers adopted.live ∷ (map asks_for adopted.told ++ called.given);
-        past = called.past_is ∙ ap (λ p. (p ++ ForgotOthers adopted.live ∷ []) ++ (map asks_for adopted.told ++ called.given)) (began.asked_none ∙ opened.unasked)
-            ∙ append_assoc before (ForgotOthers adopted.live ∷ []) (map asks_for adopted.told ++ called.given);
+        more = ForgotOthers adopted.live mid.state.next ∷ (map asks_for adopted.told ++ called.given);
+        past = called.past_is ∙ ap (λ p. (p ++ ForgotOthers adopted.live mid.state.next ∷ []) ++ (map asks_for adopted.told ++ called.given)) (began.asked_none ∙ opened.unasked)
+            ∙ append_assoc before (ForgotOthers adopted.live mid.state.next ∷ []) (map asks_for adopted.told ++ called.given);
         new = subst (λ l. AreNew a.state.next b.state.next l) (sym starts)
             (new_both a.state.next mid.state.next b.state.next [] (started_numbers (all_asked adopted.answers))
             (numbers_rise (body_limit layout) a.state (boot_at moment boot) began.reply [] mid.state began.booted) adopted.order);

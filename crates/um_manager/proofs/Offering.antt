@@ -1,9 +1,9 @@
 -- What it comes to that a list of inputs is offered: answered one behind the other, or refused as a whole.
-use Rattle.std.proofs.Common.{◌≡◌, ◌≢◌, ◌⊎◌, ◌↔◌, inl, inr, ◌+◌, ℕ, suc, List, [], ◌∷◌, ◌++◌, length, length-append, map, replicate, Bool, true, false, if◌then◌else◌, IsTrue, Result, Ok, Err, refl, sym, ap, subst, ◌∙◌, true≢false, arith}
+use Rattle.std.proofs.Common.{◌≡◌, ◌≢◌, ◌⊎◌, ◌↔◌, inl, inr, ℕ, suc, List, [], ◌∷◌, ◌++◌, length, length-append, map, replicate, Bool, true, false, if◌then◌else◌, IsTrue, Result, Ok, Err, refl, sym, ap, subst, ◌∙◌, true≢false, arith}
 use Rattle.std.proofs.lemmas.List.{length-map, length-replicate}
 use Rattle.std.specs.Prelude.{IfErr}
 use Rattle.std.proofs.lemmas.List.Elements.{All-contains, All-replicate}
-use Rattle.um_keeper.specs.Answering.{Answer, AreAnswered, all_answered, and_next, FellBack, HasFault, CountsFault, sectors_for, AreSpentAt, denied, turned_away, all_asked, taken}
+use Rattle.um_keeper.specs.Answering.{Answer, AreAnswered, all_answered, and_next, FellBack, HasFault, CountsFault, Recorded, all_recorded, without_record, AreSpentAt, none_spent, spent_without, as_told, denied, turned_away, all_asked, taken}
 use Rattle.um_keeper.specs.Keeping.{IsBegun}
 use Rattle.um_model.specs.Children.{Call}
 use Rattle.um_model.specs.Disk.{Past, Image, Images, During}
@@ -21,7 +21,7 @@ use Rattle.um_manager.specs.Orders.{Grew}
 use Rattle.um_manager.specs.Replies.{reply_in}
 use Rattle.um_manager.specs.Stores.{refusal_of, StoreAnswers, Submits}
 use Rattle.um_manager.specs.Places.{Place, LogEnd, is_trusted}
-use Rattle.um_manager.specs.Turns.{Answers, each, fell, reopen, Tells, AreSpent, Leaves, Holds, Submitted, now}
+use Rattle.um_manager.specs.Turns.{Answers, each, fell, reopen, Tells, AreSpent, MakesFewCalls, Leaves, Holds, Submitted, now}
 use Rattle.um_manager.specs.declared.submitting.StoreFault.{StoreFault}
 use Rattle.um_manager.specs.declared.submitting.StoreFault.TheVariants as fault
 
@@ -118,11 +118,26 @@ no_fault_of n e other has =
     (All-replicate (λ (a : Answer). a ≢ Err refusal.Device) n (Err e) (λ is. other (same_refusal is))) has refl
 
 -- nor is it E20
-none_spent : (layout : Layout) (generation from : ℕ) (inputs : List Input) (e : declared.Refusal) → e ≢ refusal.GenerationsSpent
-    → AreSpentAt layout generation from inputs (replicate (length inputs) (Err e))
-none_spent layout generation from [] e other = tt
-none_spent layout generation from (input ∷ inputs) e other =
-    ((λ is. absurd (other (same_refusal is))), none_spent layout generation (from + sectors_for (Err e) input) inputs e other)
+never_spent : (layout : Layout) (generation size from : ℕ) (s : State) (inputs : List Input) (e : declared.Refusal) → e ≢ refusal.GenerationsSpent
+    → AreSpentAt layout generation size from s inputs (replicate (length inputs) (Err e))
+never_spent layout generation size from s [] e other = none_spent
+never_spent layout generation size from s (input ∷ inputs) e other =
+    spent_without (λ is. absurd (other (same_refusal is))) tt (never_spent layout generation size from s inputs e other)
+
+-- and no record is written
+never_recorded : (size : ℕ) (s : State) (inputs : List Input) (e : declared.Refusal) → Recorded size s inputs (replicate (length inputs) (Err e)) 0 s
+never_recorded size s [] e = all_recorded
+never_recorded size s (input ∷ inputs) e = without_record tt (never_recorded size s inputs e)
+
+never_called : (place : Place) (s : State) (inputs : List Input) (e : declared.Refusal) (l m : LogEnd) → m ≡ l → MakesFewCalls place s inputs (replicate (length inputs) (Err e)) s l m
+never_called place s inputs e l m same = record {
+  sectors = 0;
+  recorded = never_recorded place.size s inputs e;
+  rises = 0;
+  risen_by = omega (arith, ap (λ (x : LogEnd). x.generation) same);
+  stays = λ room. refl;
+  few = omega (arith, ap (λ (x : LogEnd). x.calls) same);
+}
 
 memory_not_spent : refusal.NoMemory ≡ refusal.GenerationsSpent → ⊥
 memory_not_spent p = cc
@@ -132,16 +147,17 @@ reopen_not_spent p = cc
 
 -- a refusal of all inputs is one of each
 denied_as : (place : Place) (e : declared.Refusal) (store : Result Unit declared.Refusal) (s : State) (inputs : List Input) (past : List Call) (marks : List ℕ) (d f : Past) (l m : LogEnd) (replies : List Reply) (h w : Bool)
-    → e ≢ refusal.GenerationsSpent → Answers place s inputs (replicate (length inputs) (Err e)) s → Tells store place.size s inputs (replicate (length inputs) (Err e)) s
+    → e ≢ refusal.GenerationsSpent → m ≡ l → Answers place s inputs (replicate (length inputs) (Err e)) s → Tells store place.size s inputs (replicate (length inputs) (Err e)) s
     → replies ≡ replicate (length inputs) (Refusal (refused_of e))
     → (IsTrue place.trusted → Leaves place s inputs (replicate (length inputs) (Err e)) d f) → (IsTrue place.trusted → store ≡ Ok tt → Holds place s f)
     → Submitted place store inputs replies h w (now s past marks [] d l) (now s past marks [] f m)
-denied_as place e store s inputs past marks d f l m replies h w other answered tells is leaves holds = record {
+denied_as place e store s inputs past marks d f l m replies h w other quiet answered tells is leaves holds = record {
   answers = replicate (length inputs) (Err e);
   answered = answered;
   tells = tells;
   order = subst (λ actions. AreNew s.next s.next (started_numbers actions)) (sym (none_asked (length inputs) e)) (none_new s.next);
-  spent = λ from free. none_spent place.layout m.generation from inputs e other;
+  spent = λ from free. as_told (never_spent place.layout m.generation place.size from s inputs e other);
+  few = λ ok. never_called place s inputs e l m quiet;
   replies_are = is ∙ denied_replies (length inputs) e;
   grew = λ ho wh. subst (λ actions. Grew s.units past past marks marks actions) (sym (none_asked (length inputs) e)) (grew_none s.units past marks);
   left = leaves;
@@ -164,30 +180,30 @@ tells_reopen size s inputs = record {
 
 denied_at : (place : Place) (f : StoreFault) (result : Result Unit declared.Refusal) (s : State) (inputs : List Input) (past : List Call) (marks : List ℕ) (d e : Past) (l m : LogEnd) (replies : List Reply) (h w : Bool)
     → StoreAnswers f result → replies ≡ replicate (length inputs) (Refusal (refused_of (refusal_of f)))
-    → (f ≡ fault.Reopen → place.trusted ≡ false) → e ≡ d → (IsTrue place.trusted → Holds place s d)
+    → (f ≡ fault.Reopen → place.trusted ≡ false) → e ≡ d → m ≡ l → (IsTrue place.trusted → Holds place s d)
     → Submits place result inputs replies h w (now s past marks [] d l) (now s past marks [] e m)
-denied_at place fault.NoMemory result s inputs past marks d e l m replies h w answers is lost same held =
+denied_at place fault.NoMemory result s inputs past marks d e l m replies h w answers is lost same quiet held =
     subst (λ r. Submits place r inputs replies h w (now s past marks [] d l) (now s past marks [] e m)) (sym answers) (
       (λ x. cc),
-      denied_as place refusal.NoMemory (Ok tt) s inputs past marks d e l m replies h w memory_not_spent (each (all_denied place.size s inputs)) (tells_memory place.size s inputs) is
+      denied_as place refusal.NoMemory (Ok tt) s inputs past marks d e l m replies h w memory_not_spent quiet (each (all_denied place.size s inputs)) (tells_memory place.size s inputs) is
           (λ t. kept_on place s inputs (replicate (length inputs) (Err refusal.NoMemory)) d e same (held t))
           (λ t ok. subst (λ x. Holds place s x) (sym same) (held t)),
     )
-denied_at place fault.Reopen result s inputs past marks d e l m replies h w answers is lost same held =
+denied_at place fault.Reopen result s inputs past marks d e l m replies h w answers is lost same quiet held =
     subst (λ r. Submits place r inputs replies h w (now s past marks [] d l) (now s past marks [] e m)) (sym answers) (
       (λ x. cc),
-      denied_as place refusal.Reopen (Err refusal.Reopen) s inputs past marks d e l m replies h w reopen_not_spent (reopen (lost refl) refl refl) (tells_reopen place.size s inputs) is
+      denied_as place refusal.Reopen (Err refusal.Reopen) s inputs past marks d e l m replies h w reopen_not_spent quiet (reopen (lost refl) refl refl) (tells_reopen place.size s inputs) is
           (λ t. absurd (differs t (lost refl)))
           (λ t ok. absurd (err_not_ok ok)),
     )
 
 pub denied_all : (place : Place) (f : StoreFault) (result : Result Unit declared.Refusal) (s t : State) (inputs : List Input) (past : List Call) (marks : List ℕ) (d e : Past) (l m : LogEnd) (replies : List Reply) (h w : Bool)
     → StoreAnswers f result → t ≡ s → replies ≡ replicate (length inputs) (Refusal (refused_of (refusal_of f)))
-    → (f ≡ fault.Reopen → place.trusted ≡ false) → e ≡ d → (IsTrue place.trusted → Holds place s d)
+    → (f ≡ fault.Reopen → place.trusted ≡ false) → e ≡ d → m ≡ l → (IsTrue place.trusted → Holds place s d)
     → Submits place result inputs replies h w (now s past marks [] d l) (now t past marks [] e m)
-denied_all place f result s t inputs past marks d e l m replies h w answers same is lost still held =
+denied_all place f result s t inputs past marks d e l m replies h w answers same is lost still quiet held =
     subst (λ u. Submits place result inputs replies h w (now s past marks [] d l) (now u past marks [] e m)) (sym same)
-    (denied_at place f result s inputs past marks d e l m replies h w answers is lost still held)
+    (denied_at place f result s inputs past marks d e l m replies h w answers is lost still quiet held)
 
 -- the list is refused so only where a call failed before
 pub refused_reopen : {T : Type 0} (r : Result T declared.Refusal) (x : declared.Refusal) (f : StoreFault) {failed : Bool} → r ≡ Err x → x ≡ refusal_of f
@@ -292,11 +308,11 @@ failed_answered n result told worked =
 pub submitted_all : (place : Place) (s t : State) (inputs : List Input) (answers : List Answer) (failed : Bool) (result : Result Unit declared.Refusal) (old new : List Call) (marks marked : List ℕ) (d e : Past)
     (l m : LogEnd) (replies : List Reply) (h w : Bool) → result ≡ (if failed then Err refusal.Device else Ok tt)
     → (failed ≡ false → AreAnswered place.size s inputs answers t) → (failed ≡ true → FellBack place.size s inputs answers t) → ((failed ≡ true) ↔ HasFault answers)
-    → AreNew s.next t.next (started_numbers (all_asked answers)) → AreSpent place inputs answers l m → replies ≡ map reply_in answers
+    → AreNew s.next t.next (started_numbers (all_asked answers)) → AreSpent place s inputs answers l m → (failed ≡ false → MakesFewCalls place s inputs answers t l m) → replies ≡ map reply_in answers
     → (IsTrue h → IsTrue w → Grew t.units old new marks marked (all_asked answers))
     → (IsTrue place.trusted → During d e (IsBegun place.layout s (taken inputs answers))) → (IsTrue place.trusted → failed ≡ false → Holds place t e)
     → Submits place result inputs replies h w (now s old marks [] d l) (now t new marked [] e m)
-submitted_all place s t inputs answers failed result old new marks marked d e l m replies h w reported taken back told order spent is grew leaves holds =
+submitted_all place s t inputs answers failed result old new marks marked d e l m replies h w reported taken back told order spent few is grew leaves holds =
     let reports = reports_of failed result reported in (
       (λ x. absurd (memory_not_device (reports.bad refusal.NoMemory x).0)),
       record {
@@ -305,6 +321,7 @@ submitted_all place s t inputs answers failed result old new marks marked d e l 
         tells = tells_of place.size s t inputs answers failed result reports taken told;
         order = order;
         spent = spent;
+        few = λ ok. few (reports.good ok);
         replies_are = is;
         grew = grew;
         left = leaves;

@@ -23,7 +23,7 @@ use Rattle.std.proofs.lemmas.List.Folds.{list_any-append}
 use Rattle.um_manager.specs.Places.{Place}
 use Rattle.um_manager.specs.Replies.{PaysAll}
 use Rattle.um_manager.specs.Stores.{Submits}
-use Rattle.um_manager.specs.Turns.{Now, now, firsts, inputs_of, first_refusal, Answers, Tells, AreSpent, Leaves, Called, Turned}
+use Rattle.um_manager.specs.Turns.{Now, now, firsts, inputs_of, first_refusal, Answers, Tells, AreSpent, MakesFewCalls, Leaves, Called, Turned}
 use Rattle.um_manager.specs.declared.pieces.Piece.{Piece}
 use Rattle.um_manager.specs.declared.pieces.Piece.TheVariants.{Nothing, Bytes, Closed}
 use Rattle.um_manager.specs.declared.taking.Due.{Due}
@@ -99,7 +99,8 @@ turned place store moment pieces a b live past grown roomy cut heard ticked inpu
       answered = subst (λ l. Answers place a.state l sub.answers b.state) all sub.answered;
       tells = subst (λ l. Tells store place.size a.state l sub.answers b.state) all sub.tells;
       order = sub.order;
-      spent = subst (λ l. AreSpent place l sub.answers a.log b.log) all sub.spent;
+      spent = subst (λ l. AreSpent place a.state l sub.answers a.log b.log) all sub.spent;
+      few = λ ok. subst (λ l. MakesFewCalls place a.state l sub.answers b.state a.log b.log) all (sub.few ok);
       paid = subst (λ l. PaysAll b.state (map due_of took.requests) l cut b.sessions)
           (rest_is ∙ ap (λ n. drop n replies) (counted ∙ ap length first) ∙ ap (λ l. drop (length (firsts moment told.told)) l) sub.replies_are)
           (subst (λ l. PaysAll b.state l rest cut b.sessions) took.due_are pays);
@@ -130,6 +131,7 @@ turned_less less fewer t = record {
   tells = t.tells;
   order = t.order;
   spent = t.spent;
+  few = t.few;
   paid = t.paid;
   left = t.left;
   stored = t.stored;

@@ -27,7 +27,7 @@ use Rattle.um_fates.specs.Fates.{AreTalesOf, asks_for, inputs_of_tale, lost, hap
 use Rattle.um_fates.specs.Live.{AreLive, AreIn}
 use Rattle.um_manager.specs.Orders.{LetGo, signals}
 use Rattle.um_manager.specs.Places.{Place, place}
-use Rattle.um_manager.specs.Turns.{Now, Answers, Tells, AreSpent, Leaves, Holds, Called}
+use Rattle.um_manager.specs.Turns.{Now, Answers, Tells, AreSpent, MakesFewCalls, Leaves, Holds, Called}
 
 -- the inputs of adoption: those of the fates told, where a number that is absent is lost
 abbrev pub adoptions : ℕ → List Tale → List Input
@@ -37,22 +37,22 @@ adoptions moment told = flat_map (inputs_of_tale lost moment) told
 abbrev pub boot_at : ℕ → List ℕ → Input
 boot_at moment boot = happens_at moment (Booted boot)
 
--- What the children's calls were: what is kept of all but the live numbers was let go, each fate that was told was asked, then the orders were
--- given, which are these actions, and then of the adopted numbers TERM to those whose unit is in stop-sigterm, and KILL to those whose unit is in
+-- What the children's calls were: what is kept of all but the live numbers was let go, of those below the next number, each fate that was told was
+-- asked, then the orders were given, which are these actions, and then of the adopted numbers TERM to those whose unit is in stop-sigterm, and KILL to those whose unit is in
 -- stop-sigkill.
-pub record Ended (units : ByUnit UnitState) (live : List ℕ) (told : List Tale) (actions : List Action) (old new : List Call) (marked : List ℕ) : Type 0 where
+pub record Ended (units : ByUnit UnitState) (live : List ℕ) (next : ℕ) (told : List Tale) (actions : List Action) (old new : List Call) (marked : List ℕ) : Type 0 where
   pub termed : List ℕ
   pub are_termed : AreIn units StopSigterm live termed
   pub killed : List ℕ
   pub are_killed : AreIn units StopSigkill live killed
-  pub called : Called units (Ok tt) told (actions ++ (signals Term termed ++ signals Kill killed)) (old ++ ForgotOthers live ∷ []) new live marked
+  pub called : Called units (Ok tt) told (actions ++ (signals Term termed ++ signals Kill killed)) (old ++ ForgotOthers live next ∷ []) new live marked
 
 -- so it is where the store took the inputs; where it failed all but the live numbers were let go, the fates were asked, and nothing else
-abbrev pub CallsOf : Result Unit Refusal → ByUnit UnitState → List ℕ → List Tale → List Action → (old new : List Call) → List ℕ → Type 0
-CallsOf (Ok done) units live told actions old new marked = Ended units live told actions old new marked
-CallsOf (Err e) units live told actions old new marked = new ≡ old ++ (ForgotOthers live ∷ map asks_for told)
+abbrev pub CallsOf : Result Unit Refusal → ByUnit UnitState → List ℕ → ℕ → List Tale → List Action → (old new : List Call) → List ℕ → Type 0
+CallsOf (Ok done) units live next told actions old new marked = Ended units live next told actions old new marked
+CallsOf (Err e) units live next told actions old new marked = new ≡ old ++ (ForgotOthers live next ∷ map asks_for told)
 
--- What adoption did. It let go what is kept of all but the live numbers, asked the fate of each of these once, ascending, with a claim, and
+-- What adoption did. It let go what is kept of all but the live numbers, told the next number of the state that it found, asked the fate of each of these once, ascending, with a claim, and
 -- offered what was told; an absent number is lost.
 -- Marked are the numbers that were live and those whose start was refused.
 pub record Adopted (place : Place) (honest whole : Bool) (store : Result Unit Refusal) (moment : ℕ) (a b : Now) : Type 0 where
@@ -64,10 +64,11 @@ pub record Adopted (place : Place) (honest whole : Bool) (store : Result Unit Re
   pub answered : Answers place a.state (adoptions moment told) answers b.state
   pub tells : Tells store place.size a.state (adoptions moment told) answers b.state
   pub order : AreNew a.state.next b.state.next (started_numbers (all_asked answers))
-  pub spent : AreSpent place (adoptions moment told) answers a.log b.log
+  pub spent : AreSpent place a.state (adoptions moment told) answers a.log b.log
+  pub few : store ≡ Ok tt → MakesFewCalls place a.state (adoptions moment told) answers b.state a.log b.log
   pub left : IsTrue place.trusted → Leaves place a.state (adoptions moment told) answers a.disk b.disk
   pub stored : IsTrue place.trusted → store ≡ Ok tt → Holds place b.state b.disk
-  pub called : IsTrue honest → IsTrue whole → CallsOf store b.state.units live told (all_asked answers) a.past b.past b.marks
+  pub called : IsTrue honest → IsTrue whole → CallsOf store b.state.units live a.state.next told (all_asked answers) a.past b.past b.marks
 
 -- What follows once the store is taken up: the boot is offered, which asks for nothing, and then the numbers that are live, so many, are
 -- adopted.
@@ -122,14 +123,14 @@ pub record Opened (place : Place) (honest whole : Bool) (moment : ℕ) (boot : L
       (boot_at moment boot ∷ taken (adoptions moment began.adopted.told) began.adopted.answers))
 
 -- What an opening asks of the children that is refused behind the boot of this state: what is kept of all but the numbers that are live then is let
--- go, and fates are asked.
+-- go, below the number that is next then, and fates are asked.
 pub record AsksAlone (size : ℕ) (s : State) (moment : ℕ) (boot : List ℕ) (told : List Tale) (old new : List Call) : Type 0 where
   pub reply : Reply
   pub booted : State
   pub boots : Step size s (boot_at moment boot) reply [] booted
   pub live : List ℕ
   pub are_live : AreLive booted.units live
-  pub past_is : new ≡ old ++ (ForgotOthers live ∷ map asks_for told)
+  pub past_is : new ≡ old ++ (ForgotOthers live booted.next ∷ map asks_for told)
 
 -- nothing at all is asked, or so it is
 abbrev pub IsSilentIn : ℕ → State → ℕ → List ℕ → List Tale → List Call → List Call → Type 0

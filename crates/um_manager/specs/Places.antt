@@ -2,10 +2,11 @@
 -- No manual page has it: it is the project's own.
 -- The turn of the manager and its opening stand on this file.
 use Rattle.std.specs.Prelude.{◌≡◌, ◌≤◌, ◌-◌, ◌^◌, ℕ, Bool, true, false}
-use Rattle.um_keeper.specs.Keepers.{size_in, layout_in, log_generation_in, next_in, has_failed}
+use Rattle.um_keeper.specs.Keepers.{disk_in, size_in, layout_in, log_generation_in, next_in, has_failed}
 use Rattle.um_keeper.specs.declared.keeper.Keeper.{Keeper}
 use Rattle.um_model.specs.Store.{log_start}
 use Rattle.um_model.specs.declared.layout.Layout.{Layout}
+use Rattle.um_sector.specs.declared.disk.Disk as disk
 
 -- the layout of the store, the most bytes that a state in it has, and whether its disk is to be trusted
 pub record Place : Type 0 where
@@ -25,13 +26,14 @@ is_trusted honest true = false
 abbrev pub place_in : {D : Type 0} {g : _} → (honest : Bool) → Keeper D g → Place
 place_in honest k = place (size_in k) (layout_in k) (is_trusted honest (has_failed k))
 
--- where the next record goes: in the log of which generation, and at which sector
+-- where the next record goes: in the log of which generation, and at which sector; and how many calls were made on the disk so far
 pub record LogEnd : Type 0 where
   pub generation : ℕ
   pub next : ℕ
+  pub calls : ℕ
 
-abbrev pub log_in : {D : Type 0} {g : _} → Keeper D g → LogEnd
-log_in k = record { generation = log_generation_in k; next = next_in k }
+abbrev pub log_in : {D : Type 0} {g : disk.Ghosts D} → Keeper D g → LogEnd
+log_in {g = g} k = record { generation = log_generation_in k; next = next_in k; calls = g.calls (disk_in k) }
 
 -- in the last generation, now or once it comes to that, the log is free from this sector on
 pub record IsFreeFrom (layout : Layout) (log : LogEnd) (from : ℕ) : Type 0 where

@@ -4,7 +4,7 @@
 use Rattle.std.specs.Prelude.{◌≡◌, ◌≢◌, ◌↔◌, ◌||◌, ℕ, List, [], ◌∷◌, ◌++◌, length, drop, map, flat_map, replicate, Bool, true, false, IsTrue, Option, Result, Ok, Err}
 use Rattle.std.specs.List.{list_any}
 use Rattle.um_children.specs.History.{lets_any, Spares}
-use Rattle.um_keeper.specs.Answering.{Answer, AreAnswered, FellBack, HasFault, AreSpentAt, all_asked, taken}
+use Rattle.um_keeper.specs.Answering.{Answer, AreAnswered, FellBack, HasFault, AreSpentAsMeant, TakesCalls, all_asked, taken}
 use Rattle.um_keeper.specs.Keepers.{state_in}
 use Rattle.um_keeper.specs.Keeping.{IsBegun}
 use Rattle.um_keeper.specs.declared.keeper.Keeper.{Keeper}
@@ -28,7 +28,7 @@ use Rattle.um_manager.specs.Replies.{reply_in, PaysAll}
 use Rattle.um_manager.specs.declared.pieces.Piece.{Piece}
 
 -- a manager at a moment: its state, the children's calls, the numbers whose fate is asked with a claim, the sessions, the disk's calls, and where
--- the next record goes
+-- the next record goes, with the count of those calls
 pub record Now : Type 0 where
   pub state : State
   pub past : List Call
@@ -69,8 +69,15 @@ abbrev pub Leaves : Place → State → List Input → List Answer → Past → 
 Leaves place s inputs answers old new = During old new (IsBegun place.layout s (taken inputs answers))
 
 -- E20 turns one of these inputs away only where the log's generation is the last, and its record has no room behind those before it
-abbrev pub AreSpent : Place → List Input → List Answer → LogEnd → LogEnd → Type 0
-AreSpent place inputs answers old new = (from : ℕ) → IsFreeFrom place.layout old from → AreSpentAt place.layout new.generation from inputs answers
+abbrev pub AreSpent : Place → State → List Input → List Answer → LogEnd → LogEnd → Type 0
+AreSpent place s inputs answers old new = (from : ℕ) → IsFreeFrom place.layout old from
+    → AreSpentAsMeant place.layout new.generation place.size from s inputs answers
+
+-- Where no call on the disk failed there were few of them: the sectors of the inputs' records, a sync, and a snapshot for each generation by which the
+-- log rose.
+abbrev pub MakesFewCalls : Place → State → List Input → List Answer → State → LogEnd → LogEnd → Type 0
+MakesFewCalls place s inputs answers t old new =
+    TakesCalls place.layout old.next old.generation new.generation old.calls new.calls place.size s inputs answers t
 
 -- each image is a store of the state
 abbrev pub Holds : Place → State → Past → Type 0
@@ -82,7 +89,8 @@ pub record Submitted (place : Place) (store : Result Unit Refusal) (inputs : Lis
   pub answered : Answers place a.state inputs answers b.state
   pub tells : Tells store place.size a.state inputs answers b.state
   pub order : AreNew a.state.next b.state.next (started_numbers (all_asked answers))
-  pub spent : AreSpent place inputs answers a.log b.log
+  pub spent : AreSpent place a.state inputs answers a.log b.log
+  pub few : store ≡ Ok tt → MakesFewCalls place a.state inputs answers b.state a.log b.log
   pub replies_are : replies ≡ map reply_in answers
   pub grew : IsTrue honest → IsTrue whole → Grew b.state.units a.past b.past a.marks b.marks (all_asked answers)
   pub left : IsTrue place.trusted → Leaves place a.state inputs answers a.disk b.disk
@@ -130,7 +138,8 @@ pub record Turned (place : Place) (honest whole : Bool) (result : Result Unit Re
   pub answered : Answers place a.state (inputs_of moment told requests) answers b.state
   pub tells : Tells store place.size a.state (inputs_of moment told requests) answers b.state
   pub order : AreNew a.state.next b.state.next (started_numbers (all_asked answers))
-  pub spent : AreSpent place (inputs_of moment told requests) answers a.log b.log
+  pub spent : AreSpent place a.state (inputs_of moment told requests) answers a.log b.log
+  pub few : store ≡ Ok tt → MakesFewCalls place a.state (inputs_of moment told requests) answers b.state a.log b.log
   pub paid : PaysAll b.state (map due_of requests) (drop (length (firsts moment told)) (map reply_in answers)) cut b.sessions
   pub left : IsTrue place.trusted → Leaves place a.state (inputs_of moment told requests) answers a.disk b.disk
   pub stored : IsTrue place.trusted → store ≡ Ok tt → Holds place b.state b.disk

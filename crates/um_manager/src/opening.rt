@@ -101,7 +101,7 @@ fn claim_live<C: Children>(
 )
     requires { vec_len inputs.old + 2 * length live.now ≤ vec_capacity inputs.old }
     ensures hears { Heard lost moment (λ n. true) (C.honest children.old) (C.whole children.new)
-        (C.past children.old ++ ForgotOthers live.now ∷ []) (C.past children.new) live.now (inputs_in inputs.old.items) (inputs_in inputs.new.items) }
+        (C.past children.old ++ ForgotOthers live.now next ∷ []) (C.past children.new) live.now (inputs_in inputs.old.items) (inputs_in inputs.new.items) }
     ensures len { vec_len inputs.new ≤ vec_len inputs.old + 2 * length live.now }
     ensures capacity { vec_capacity inputs.old ≤ vec_capacity inputs.new }
     ensures children { KeepsChildren C.Children children.old children.new }

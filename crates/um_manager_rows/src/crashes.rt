@@ -76,11 +76,11 @@ fn left(rt: &(impl AllocGlobal + Abort), picks: &[usize]) -> MemDisk {
     disk.crash(rt.alloc(), picks).expect(rt, "no memory")
 }
 
-/// Asserts that all but the number were let go, that it was asked for once, with a claim, and told to be absent, that it was let go then, and that
-/// nothing was started or signalled.
+/// Asserts that all but the number were let go, below the one behind it, that it was asked for once, with a claim, and told to be absent, that it was
+/// let go then, and that nothing was started or signalled.
 fn told_absent(rt: &impl Abort, calls: &[Call]) {
     let [
-        Call::ForgotOthers { live },
+        Call::ForgotOthers { live, next },
         Call::Asked {
             number,
             claim: true,
@@ -94,6 +94,7 @@ fn told_absent(rt: &impl Abort, calls: &[Call]) {
     same!(rt, number.get(), 1);
     same!(rt, forgotten.get(), 1);
     same!(rt, live.as_slice(), [*number].as_slice());
+    same!(rt, next.get(), 2);
 }
 
 /// The manager that is opened behind the crash.

@@ -57,7 +57,7 @@ fn are_noted(rt: &(impl AllocGlobal + Abort), calls: &[Call]) {
             ..
         },
         Call::Forgot { number: forgotten },
-        Call::ForgotOthers { live },
+        Call::ForgotOthers { live, next: behind },
         Call::Asked {
             claim: true,
             told: None,
@@ -69,6 +69,7 @@ fn are_noted(rt: &(impl AllocGlobal + Abort), calls: &[Call]) {
     };
     same!(rt, *forgotten, number(rt, 1));
     same!(rt, live.as_slice(), [number(rt, 2)].as_slice());
+    same!(rt, behind.get(), 3);
     let words = start.words(rt.alloc()).expect(rt, "no memory");
     sleeps(rt, words.as_slice());
 }

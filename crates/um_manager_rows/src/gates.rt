@@ -50,9 +50,13 @@ pub fn what_was_taken(rt: &(impl AllocGlobal + Abort), gate: &FakeGate, number: 
     let mut is_dropped = false;
     for note in gate.notes() {
         match note {
-            Note::Wrote(to, part) if *to == number => {
+            Note::Wrote {
+                number: to,
+                taken,
+                ..
+            } if *to == number => {
                 bytes
-                    .extend_from_slice(part.as_slice())
+                    .extend_from_slice(taken.as_slice())
                     .expect(rt, "no memory");
                 writes = writes.saturating_add(1);
             }
@@ -65,6 +69,30 @@ pub fn what_was_taken(rt: &(impl AllocGlobal + Abort), gate: &FakeGate, number: 
         writes,
         is_dropped,
     }
+}
+
+/// What the gate was offered for a connection, a part a write.
+pub fn what_was_offered(
+    rt: &(impl AllocGlobal + Abort),
+    gate: &FakeGate,
+    number: usize,
+) -> Vec<Vec<u8>> {
+    let mut parts = Vec::new(rt.alloc());
+    for note in gate.notes() {
+        if let Note::Wrote {
+            number: to,
+            offered,
+            ..
+        } = note
+        {
+            if *to == number {
+                parts
+                    .push(bytes(rt, offered.as_slice()))
+                    .expect(rt, "no memory");
+            }
+        }
+    }
+    parts
 }
 
 /// What a read of at most so many bytes gives; the client is there still.

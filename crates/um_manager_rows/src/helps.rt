@@ -1,7 +1,7 @@
 //! What the help says of verbs and refusals, and text as it is shown.
 use std::process::Abort;
 use um_asserts::{same, same_at};
-use um_ctl::{meaning_line, shown, verb_lines};
+use um_ctl::{meaning_line, on_terminal, shown, verb_lines};
 
 /// How each verb is called.
 const VERBS: &str = "  put-file <path> < FILE
@@ -84,7 +84,49 @@ const SHOWN: &[(&str, &str)] = &[
         "\u{80}\u{9f}\u{a0}\u{e4}",
         "\\xc2\\x80\\xc2\\x9f\u{a0}\u{e4}",
     ),
+    (
+        "\u{61b}\u{61c}\u{200d}\u{200e}\u{200f}\u{2010}",
+        "\u{61b}\\xd8\\x9c\u{200d}\\xe2\\x80\\x8e\\xe2\\x80\\x8f\u{2010}",
+    ),
+    (
+        "\u{2029}\u{202a}\u{202e}\u{202f}",
+        "\u{2029}\\xe2\\x80\\xaa\\xe2\\x80\\xae\u{202f}",
+    ),
+    (
+        "\u{2065}\u{2066}\u{2069}\u{206a}",
+        "\u{2065}\\xe2\\x81\\xa6\\xe2\\x81\\xa9\u{206a}",
+    ),
 ];
+
+/// Texts of JSON, and how they go to a terminal.
+const ON_TERMINAL: &[(&str, &str)] = &[
+    ("", ""),
+    ("[\"a\\n\"]\n", "[\"a\\n\"]\n"),
+    ("~\u{7f}\u{80}", "~\\u007f\\u0080"),
+    ("\u{9b}\u{9f}\u{a0}\u{e4}", "\\u009b\\u009f\u{a0}\u{e4}"),
+    ("\u{61b}\u{61c}\u{61d}", "\u{61b}\\u061c\u{61d}"),
+    (
+        "\u{200d}\u{200e}\u{200f}\u{2010}",
+        "\u{200d}\\u200e\\u200f\u{2010}",
+    ),
+    (
+        "\u{2029}\u{202a}\u{202b}\u{202e}\u{202f}",
+        "\u{2029}\\u202a\\u202b\\u202e\u{202f}",
+    ),
+    (
+        "\u{2065}\u{2066}\u{2069}\u{206a}",
+        "\u{2065}\\u2066\\u2069\u{206a}",
+    ),
+    ("\u{1f600}", "\u{1f600}"),
+];
+
+#[test]
+fn what_misleads_a_terminal_goes_there_as_json_escapes_it(rt: HostRuntime) {
+    for (text, wanted) in ON_TERMINAL {
+        let found = on_terminal(rt.alloc(), text).expect(&rt, "no memory");
+        same!(&rt, found.as_str(), *wanted);
+    }
+}
 
 #[test]
 fn control_characters_are_shown_by_their_bytes(rt: HostRuntime) {

@@ -159,4 +159,6 @@ fn the_longest_text_is_taken_and_a_longer_one_refused(rt: HostRuntime) {
     is_wrong(&rt, PUT, None, longer.as_slice(), 1);
     is_wrong(&rt, PUT, None, b"a\xffb", 2);
     same!(&rt, CtlFault::NoReply.status() == 5, true);
+    same!(&rt, CtlFault::Unread.status() == 4, true);
+    same!(&rt, CtlFault::Late(9).status() == 6, true);
 }

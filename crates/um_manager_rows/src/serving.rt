@@ -1,5 +1,5 @@
 //! Rounds of a manager in memory over a gate in memory.
-use crate::gates::{add_client, new_gate, what_was_taken};
+use crate::gates::{add_client, new_gate, what_was_offered, what_was_taken};
 use crate::managers;
 use crate::managers::{
     InMemory, PUT, RELOAD, SHOW, START, frames, has_output, new_store, over, over_children,
@@ -105,6 +105,48 @@ fn clients_that_take_few_bytes_get_their_own_replies(rt: HostRuntime) {
         let mut served = served_over(&rt, two_clients(&rt));
         same!(&rt, serve_rounds(&rt, &mut served, *count), *is_busy);
         have(&rt, &served.gate.gate, first, second);
+    }
+}
+
+/// What each of the two is offered in its rounds with a write: all that is left of its reply.
+const OFFERS: &[(usize, &[&[u8]])] = &[
+    (
+        0,
+        &[
+            b"\x00\x00\x00\x0b{\"ok\":true}",
+            b"\x0b{\"ok\":true}",
+            b"ok\":true}",
+            b":true}",
+            b"ue}",
+        ],
+    ),
+    (
+        1,
+        &[
+            b"\x00\x00\x00\x16{\"ok\":true,\"value\":[]}",
+            b"k\":true,\"value\":[]}",
+            b",\"value\":[]}",
+            b"\":[]}",
+        ],
+    ),
+];
+
+/// Asserts that the gate was offered just these for the client, a part a write.
+fn was_offered(rt: &(impl AllocGlobal + Abort), gate: &FakeGate, number: usize, wanted: &[&[u8]]) {
+    let offered = what_was_offered(rt, gate, number);
+    same!(rt, offered.len(), wanted.len());
+    for (at, all) in wanted.iter().enumerate() {
+        let part = offered.get(at).expect(rt, "no such write");
+        same!(rt, part.as_slice(), *all);
+    }
+}
+
+#[test]
+fn a_client_that_takes_few_bytes_is_offered_all_that_waits_each_round(rt: HostRuntime) {
+    let mut served = served_over(&rt, two_clients(&rt));
+    serve_rounds(&rt, &mut served, 9);
+    for (number, wanted) in OFFERS {
+        was_offered(&rt, &served.gate.gate, *number, wanted);
     }
 }
 

@@ -1,7 +1,7 @@
 //! The texts of the files: which are read, and as what.
 use std::process::Abort;
-use um_asserts::same_at;
-use um_runner::{Claimant, End, read_claim, read_pid, read_status};
+use um_asserts::{same_at, text};
+use um_runner::{Claimant, End, entries_text, read_claim, read_entries, read_pid, read_status};
 
 /// Texts of a status file, and the ends that they tell.
 const STATUSES: &[(&[u8], Option<End>)] = &[
@@ -78,5 +78,67 @@ const CLAIMS: &[(&[u8], Claimant)] = &[
 fn every_other_claim_is_a_runners(rt: HostRuntime) {
     for (text, claimant) in CLAIMS {
         same_at!(&rt, read_claim(text), *claimant, text);
+    }
+}
+
+/// Texts of a file of entries, and the entries that they tell, told behind each other with a `;`.
+const ENTRIES: &[(&str, Option<&str>)] = &[
+    ("\0", Some("")),
+    ("\0\0\0", Some("")),
+    ("A=b\0\0", Some("A=b;")),
+    ("A=b\0\0C=d\0\0", Some("A=b;")),
+    ("A=b\0C=d\ne\0\0\0\0", Some("A=b;C=d\ne;")),
+    ("\n\0\0", Some("\n;")),
+    ("", None),
+    ("A=b", None),
+    ("A=b\0", None),
+    ("A=b\0C=d\0", None),
+    ("A=b\0C=d", None),
+];
+
+/// The entries, told behind each other.
+fn joined(rt: &(impl AllocGlobal + Abort), entries: &[String]) -> String {
+    let mut told = String::new(rt.alloc());
+    for entry in entries {
+        told.push_str(entry.as_str()).expect(rt, "no memory");
+        told.push(';').expect(rt, "no memory");
+    }
+    told
+}
+
+#[test]
+fn entries_are_read_up_to_an_empty_one(rt: HostRuntime) {
+    for (text, wanted) in ENTRIES {
+        let entries = read_entries(rt.alloc(), text).expect(&rt, "no memory");
+        let told = entries.map(|entries| joined(&rt, entries.as_slice()));
+        same_at!(&rt, told.as_ref().map(|told| told.as_str()), *wanted, text);
+    }
+}
+
+/// Asserts how long the text of one entry is: NAME=value with a value of so many bytes.
+fn measures(rt: &(impl AllocGlobal + Abort), size: usize, wanted: usize) {
+    let value = "x".repeat(rt.alloc(), size).expect(rt, "no memory");
+    let entry = format!(in rt.alloc(); "NAME={value}").expect(rt, "no memory");
+    let entries = [entry];
+    let text = entries_text(rt.alloc(), entries.as_slice()).expect(rt, "no memory");
+    let length = text.map_or(0, |text| text.len());
+    same_at!(rt, length, wanted, size);
+}
+
+#[test]
+fn a_text_of_entries_is_four_blocks_long_or_longer(rt: HostRuntime) {
+    measures(&rt, 0, 16_384);
+    // NAME=, 16,377 bytes and two zero bytes
+    measures(&rt, 16_377, 16_384);
+    measures(&rt, 16_378, 16_385);
+    measures(&rt, 20_000, 20_007);
+}
+
+#[test]
+fn what_a_text_cannot_tell_is_refused(rt: HostRuntime) {
+    for entry in ["", "A=b\0C=d", "A=\0"] {
+        let entries = [text!(&rt, entry)];
+        let text = entries_text(rt.alloc(), entries.as_slice()).expect(&rt, "no memory");
+        same_at!(&rt, text.is_none(), true, entry);
     }
 }

@@ -2,9 +2,9 @@
 use crate::managers::{DONE, InMemory, frames, has_output, new_store, over, parts_of, turn};
 use std::process::Abort;
 use um_asserts::same;
-use um_children::Children;
+use um_children::{Children, FakeChildren};
 use um_manager::{Connection, Manager, Piece, Pieces};
-use um_sector::Disk;
+use um_sector::{Disk, Fuse, MemDisk};
 
 /// A request that puts an empty file, another one for each number.
 fn put_of(rt: &(impl AllocGlobal + Abort), number: usize) -> String {
@@ -53,4 +53,24 @@ fn the_commands_of_a_turn_share_a_sync(rt: HostRuntime) {
     let mut manager = over(&rt, new_store(&rt));
     puts_all(&rt, &mut manager);
     same!(&rt, Some(syncs(manager)), before.checked_add(1));
+}
+
+/// A manager of a new store, over a disk that counts its calls.
+fn counted(rt: &(impl AllocGlobal + Abort)) -> Box<Manager<Fuse<MemDisk>, FakeChildren>> {
+    over(rt, Fuse::new(new_store(rt), 0))
+}
+
+/// The number of calls of its disk.
+fn calls(manager: Box<Manager<Fuse<MemDisk>, FakeChildren>>) -> u64 {
+    let (disk, _) = parts_of(manager);
+    disk.calls()
+}
+
+#[test]
+fn a_turn_makes_a_disk_call_a_record_and_a_sync(rt: HostRuntime) {
+    let before = calls(counted(&rt));
+    let mut manager = counted(&rt);
+    puts_all(&rt, &mut manager);
+    // 64 records of one sector, and the sync behind them
+    same!(&rt, Some(calls(manager)), before.checked_add(65));
 }

@@ -17,13 +17,14 @@ abbrev pub spawn_action : Spawn → Action
 spawn_action spawn = SpawnProcess spawn.number spawn.words spawn.environment
 
 -- A call: a start, with whether it was answered Ok and whether its number starts; a signal; a fate that was asked, with what was told;
--- a number of which what is kept was let go; the numbers of which it stays, where it was let go of all others that have ended.
+-- a number of which what is kept was let go; the numbers of which it stays, where it was let go of all others that have ended, with the next
+-- number, from which on none was ever started.
 pub data Call : Type 0 where
   Spawned : (spawn : Spawn) (is_taken starts : Bool) → Call
   Signalled : (number : ℕ) (signal : Signal) → Call
   Asked : (number : ℕ) (claim : Bool) (told : Option Fate) → Call
   Forgot : (number : ℕ) → Call
-  ForgotOthers : (live : List ℕ) → Call
+  ForgotOthers : (live : List ℕ) (next : ℕ) → Call
 
 -- the order that a call asks, if any
 abbrev pub orders_in : Call → List Action

@@ -1,7 +1,7 @@
--- What is held of units as a table with the names that may have a number, and a state with those names.
+-- What is held of units as a table with the names that may have a number, and a state with the numbers that its units and pending jobs have in common.
 -- Follows no manual page: numbers of names are this project's own.
 -- The views of units, of pending jobs, of states and of engines stand on this file.
-use Rattle.std.specs.Prelude.{ℕ, List}
+use Rattle.std.specs.Prelude.{ℕ, Bool, List}
 use Rattle.um_model.specs.Machine.{State}
 use Rattle.um_model.specs.Service.{ByUnit}
 
@@ -10,7 +10,8 @@ pub record Table (A : Type 0) : Type 0 where
   pub names : List (List ℕ)
   pub held : ByUnit A
 
--- a state, and the names that stand in its tables
+-- a state, whether its units and pending jobs have common numbers, and the names that have one; none has where they have none in common
 pub record Standing : Type 0 where
   pub state : State
+  pub common : Bool
   pub names : List (List ℕ)

@@ -9,4 +9,4 @@ mod resolution;
 
 pub use files::{Files, SourceFile, UnitFile, files_of, source_files};
 pub use laws::a_unit_is_found_by_hops;
-pub use resolution::{Resolution, resolve};
+pub use resolution::{Resolution, resolve, unit_named};

@@ -2,6 +2,7 @@ ghost use Rattle.std.specs.Prelude.{◌≡◌, ℕ, List, Some, None, IfOk, if�
 ghost use Rattle.std.specs.Option.{option_map_or};
 ghost use Rattle.um_model.specs.Resolution as model;
 ghost use Rattle.um_model.specs.Tree.{File};
+ghost use Rattle.um_model.specs.Units as units;
 ghost use Rattle.um_tree.specs.View.{entry_of};
 ghost use Rattle.um_resolve.specs.View.{after_step, located_of, resolution_of};
 
@@ -232,5 +233,17 @@ pub fn resolve<'t>(
     match unit.suffix() {
         Suffix::Service | Suffix::Target => resolved(alloc, HOP_LIMIT, tree, unit),
         _ => Ok(Resolution::Nowhere),
+    }
+}
+
+/// The unit to which the name leads, or the name itself where it leads nowhere. No file is read.
+pub fn unit_named(alloc: Global, tree: &Tree, name: &UnitName) -> Result<UnitName, AllocError>
+    ensures { IfOk result (λ unit. unit ≡ units.unit_named tree.now name.now) }
+{
+    match resolve(alloc, tree, name)? {
+        Resolution::File { unit, .. } => Ok(unit),
+        Resolution::NoFile { unit } => Ok(unit),
+        Resolution::Mask { unit } => Ok(unit),
+        Resolution::Nowhere => name.copy(),
     }
 }

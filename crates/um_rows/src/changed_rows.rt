@@ -7,17 +7,17 @@ use um_engine::{Back, Engine};
 use um_model::{End, JobMode, SubState, UnitVerb};
 use um_state::{Command, Happening, Input};
 
-const SLEEPS: &str = "[Service]\nExecStart=/bin/sleep 9\n";
+pub const SLEEPS: &str = "[Service]\nExecStart=/bin/sleep 9\n";
 
 /// A service that pulls in two others.
 const PULLS_IN_TWO: &str =
     "[Unit]\nRequires=b.service\nWants=c.service\n[Service]\nExecStart=/bin/sleep 9\n";
 
 /// A service that waits until another one is done.
-const COMES_LAST: &str =
+pub const COMES_LAST: &str =
     "[Unit]\nRequires=f.service\nAfter=f.service\n[Service]\nExecStart=/bin/sleep 9\n";
 
-const RUNS_ONCE: &str = "[Service]\nType=oneshot\nExecStart=/bin/sleep 9\n";
+pub const RUNS_ONCE: &str = "[Service]\nType=oneshot\nExecStart=/bin/sleep 9\n";
 
 /// Three starts of what sleeps.
 const SPAWNS: &str =
@@ -28,26 +28,26 @@ const ALL_DEAD: [SubState; 3] = [SubState::Dead; 3];
 const SECOND_ENDED: [SubState; 3] = [SubState::Running, SubState::Dead, SubState::Running];
 
 /// A file is put.
-fn put(rt: &(impl AllocGlobal + Abort), path: &str, content: &str) -> Box<Input> {
+pub fn put(rt: &(impl AllocGlobal + Abort), path: &str, content: &str) -> Box<Input> {
     let path = text!(rt, path);
     let text = text!(rt, content);
     obeyed(rt, 5, Command::PutFile { path, text })
 }
 
 /// The tree is loaded.
-fn reload(rt: &(impl AllocGlobal + Abort)) -> Box<Input> {
+pub fn reload(rt: &(impl AllocGlobal + Abort)) -> Box<Input> {
     obeyed(rt, 5, Command::DaemonReload)
 }
 
 /// A command for a unit.
-fn asked(rt: &(impl AllocGlobal + Abort), verb: UnitVerb, name: &str) -> Box<Input> {
+pub fn asked(rt: &(impl AllocGlobal + Abort), verb: UnitVerb, name: &str) -> Box<Input> {
     let unit = unit!(rt, name);
     let mode = JobMode::Replace;
     obeyed(rt, 9, Command::ForUnit { verb, unit, mode })
 }
 
 /// The process of this number ends with code 0.
-fn ended(rt: &(impl AllocGlobal + Abort), number: u64) -> Box<Input> {
+pub fn ended(rt: &(impl AllocGlobal + Abort), number: u64) -> Box<Input> {
     let end = End::Code(0);
     happened(rt, 9, Happening::ProcessEnded { number, end })
 }
@@ -79,7 +79,7 @@ fn leave(
 }
 
 /// Takes the step, which tells so many rows.
-fn step(
+pub fn step(
     rt: &(impl AllocGlobal + Abort),
     engine: &mut Engine,
     input: Box<Input>,
@@ -114,7 +114,7 @@ fn load(rt: &(impl AllocGlobal + Abort), engine: &mut Engine) {
 }
 
 /// An engine in the state of a new store.
-fn new_engine(rt: &(impl AllocGlobal + Abort)) -> Box<Engine> {
+pub fn new_engine(rt: &(impl AllocGlobal + Abort)) -> Box<Engine> {
     engine_of(rt, empty(rt), SIZE)
 }
 
@@ -196,7 +196,7 @@ fn one_waits(rt: &(impl AllocGlobal + Abort)) -> Box<Engine> {
 }
 
 /// The jobs of the unit that wait are dropped.
-fn cancel(rt: &(impl AllocGlobal + Abort), name: &str) -> Box<Input> {
+pub fn cancel(rt: &(impl AllocGlobal + Abort), name: &str) -> Box<Input> {
     let unit = unit!(rt, name);
     obeyed(rt, 9, Command::Cancel { unit })
 }

@@ -24,6 +24,8 @@ mod framing;
 #[cfg(test)]
 mod jobs;
 #[cfg(test)]
+mod known_units;
+#[cfg(test)]
 mod limits;
 #[cfg(test)]
 mod lines;

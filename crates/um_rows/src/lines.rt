@@ -18,6 +18,8 @@ fn asked<'a>(line: &'a Line<'_>) -> (&'static str, &'a str) {
         Line::Memory => ("memory", ""),
         Line::Run(_) => ("run", ""),
         Line::Check(_) => ("check", ""),
+        Line::Ctl(_) => ("ctl", ""),
+        Line::Serve(_) => ("serve", ""),
         Line::Told(told) => ("to be told", told.as_str()),
         Line::Wrong(told) => ("wrong", told.as_str()),
         Line::Help(1) => ("E1", ""),
@@ -55,6 +57,50 @@ const CHECKS: &[Row] = &[
     ("umd check --units", "wrong", "umd check"),
     ("umd check f f", "wrong", ""),
     ("umd check --units --units f", "wrong", ""),
+];
+
+/// Words to a manager, and of one.
+const MANAGERS: &[Row] = &[
+    ("umd ctl --socket s list-units", "ctl", ""),
+    ("umd ctl --socket s --retry 1 list-units", "ctl", ""),
+    ("umd ctl list-units --timeout=86400 --socket=s", "ctl", ""),
+    (
+        "umd ctl --socket s --retry 0 list-units",
+        "wrong",
+        "1 to 86400",
+    ),
+    (
+        "umd ctl --socket s --retry 86401 list-units",
+        "wrong",
+        "1 to 86400",
+    ),
+    (
+        "umd ctl --socket s --timeout 01 show a",
+        "wrong",
+        "1 to 86400",
+    ),
+    (
+        "umd ctl --socket s --timeout 1s show a",
+        "wrong",
+        "1 to 86400",
+    ),
+    ("umd ctl --socket s --retry 1 --retry 1 show a", "wrong", ""),
+    ("umd ctl --retry 1 show a", "wrong", "--socket"),
+    (
+        "umd serve --boot b --socket s --dir d --runner r f",
+        "serve",
+        "",
+    ),
+    (
+        "umd serve --boot b --socket s --dir d --runner r --start u f",
+        "serve",
+        "",
+    ),
+    (
+        "umd serve --boot b --socket s --dir d --runner r --start f",
+        "wrong",
+        "--start <UNIT>",
+    ),
 ];
 
 /// Words about the help for a refusal.
@@ -95,6 +141,18 @@ const RUNS: &[Row] = &[
         "run",
         "",
     ),
+    ("umd run --dir d --number 7 --env-file -- x", "run", ""),
+    ("umd run --dir d --number 7 --env-file -- A=b", "run", ""),
+    ("umd run --dir d --number 7 --env-file --", "wrong", ""),
+    ("umd run --dir d --number 7 --env-file x", "wrong", ""),
+    ("umd run --dir d --number 7 --env-file 0 -- x", "wrong", ""),
+    ("umd run --dir d --number 0 --env-file -- x", "wrong", ""),
+    ("umd run --number 7 --dir d --env-file -- x", "wrong", ""),
+    (
+        "umd run --dir d --number 7 --env 0 --env-file -- x",
+        "wrong",
+        "",
+    ),
 ];
 
 /// Other words.
@@ -121,7 +179,7 @@ fn asks(rt: &(impl AllocGlobal + Abort), text: &str, wanted: &str, part: &str) {
 
 #[test]
 fn words_ask_for_one_thing(rt: HostRuntime) {
-    for rows in [TOLD, CHECKS, HELPS, RUNS, OTHERS] {
+    for rows in [TOLD, CHECKS, MANAGERS, HELPS, RUNS, OTHERS] {
         for (text, wanted, part) in rows {
             asks(&rt, text, wanted, part);
         }
@@ -138,7 +196,62 @@ fn a_runner_s_words_are_run_under_its_number(rt: HostRuntime) {
         rt.abort()
     };
     same!(&rt, (line.folder, line.number.get()), ("d", 7));
+    same!(&rt, line.has_file, false);
     drop(read);
+}
+
+#[test]
+fn entries_may_stand_in_a_file(rt: HostRuntime) {
+    let words = words_of(&rt, "umd run --dir d --number 7 --env-file -- A=b x");
+    let read = read_line(rt.alloc(), words.as_slice());
+    let Line::Run(line) = read.as_ref().expect(&rt, "no memory") else {
+        rt.abort()
+    };
+    same!(&rt, (line.folder, line.number.get()), ("d", 7));
+    same!(&rt, line.has_file, true);
+    drop(read);
+}
+
+/// Asserts that the words ask a manager, and wait for so many seconds.
+fn waits(rt: &(impl AllocGlobal + Abort), text: &str, retry: Option<u32>, timeout: Option<u32>) {
+    let words = words_of(rt, text);
+    let read = read_line(rt.alloc(), words.as_slice());
+    let Line::Ctl(line) = read.as_ref().expect(rt, "no memory") else {
+        rt.abort()
+    };
+    same!(rt, (line.retry, line.timeout), (retry, timeout));
+    drop(read);
+}
+
+#[test]
+fn a_client_waits_as_long_as_it_is_told(rt: HostRuntime) {
+    waits(&rt, "umd ctl --socket s show a", None, None);
+    let both = "umd ctl --socket s --timeout 86400 --retry 1 show a";
+    waits(&rt, both, Some(1), Some(86_400));
+    let behind = "umd ctl --socket s show a --timeout 60";
+    waits(&rt, behind, None, Some(60));
+}
+
+/// Asserts that the words serve the store `f`, and start this unit.
+fn starts(rt: &(impl AllocGlobal + Abort), text: &str, start: Option<&str>) {
+    let words = words_of(rt, text);
+    let read = read_line(rt.alloc(), words.as_slice());
+    let Line::Serve(line) = read.as_ref().expect(rt, "no memory") else {
+        rt.abort()
+    };
+    same!(rt, (line.start, line.file), (start, "f"));
+    drop(read);
+}
+
+#[test]
+fn a_manager_starts_what_it_is_told(rt: HostRuntime) {
+    starts(
+        &rt,
+        "umd serve --boot b --socket s --dir d --runner r f",
+        None,
+    );
+    let started = "umd serve --start u --boot b --socket s --dir d --runner r f";
+    starts(&rt, started, Some("u"));
 }
 
 /// Asserts that the words ask for a look at the file `f`, and for its units or not.

@@ -1,5 +1,6 @@
 mod RunnerLines
 mod Entries
+mod EntryTexts
 mod Numerals
 mod Lines
 mod Living

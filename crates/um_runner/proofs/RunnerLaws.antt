@@ -11,7 +11,7 @@ use Rattle.um_runner.specs.Runner.{ending_of, file_name, is_slash, claim_text, c
 use Rattle.um_runner.specs.declared.runner_file.Claimant.{Claimant}
 use Rattle.um_runner.specs.declared.runner_file.Claimant.TheVariants.{Manager, Runner}
 use Rattle.um_runner.specs.declared.runner_file.RunnerFile.{RunnerFile}
-use Rattle.um_runner.specs.declared.runner_file.RunnerFile.TheVariants.{Claim, Pid, Status, ManagerDraft, RunnerDraft, PidDraft, StatusDraft}
+use Rattle.um_runner.specs.declared.runner_file.RunnerFile.TheVariants.{Claim, Pid, Status, ManagerDraft, RunnerDraft, PidDraft, StatusDraft, Entries}
 use Rattle.um_model.specs.declared.service.End.{End}
 use Rattle.um_model.specs.declared.service.End.TheVariants.{Code, Signal, Lost}
 
@@ -94,6 +94,7 @@ ending_without ManagerDraft = refl
 ending_without RunnerDraft = refl
 ending_without PidDraft = refl
 ending_without StatusDraft = refl
+ending_without Entries = refl
 
 -- no name of a file has a slash
 pub name_without : (n : ℕ) (file : RunnerFile) → n < 2 ^ 64 → list_any is_slash (file_name n file) ≡ false
@@ -102,7 +103,7 @@ name_without n file below =
 
 -- the files, in any order
 abbrev all_files : List RunnerFile
-all_files = Claim ∷ Pid ∷ Status ∷ ManagerDraft ∷ RunnerDraft ∷ PidDraft ∷ StatusDraft ∷ []
+all_files = Claim ∷ Pid ∷ Status ∷ ManagerDraft ∷ RunnerDraft ∷ PidDraft ∷ StatusDraft ∷ Entries ∷ []
 
 abbrev with_ending : List ℕ → Option RunnerFile
 with_ending ending = find (λ file. bytes_eq (ending_of file) ending) all_files
@@ -115,6 +116,7 @@ ending_found ManagerDraft = refl
 ending_found RunnerDraft = refl
 ending_found PidDraft = refl
 ending_found StatusDraft = refl
+ending_found Entries = refl
 
 -- an ending is that of one file
 one_ending : (a b : RunnerFile) → ending_of a ≡ ending_of b → a ≡ b
@@ -140,6 +142,7 @@ ending_dot ManagerDraft = (_, refl)
 ending_dot RunnerDraft = (_, refl)
 ending_dot PidDraft = (_, refl)
 ending_dot StatusDraft = (_, refl)
+ending_dot Entries = (_, refl)
 
 -- the number stands before the first dot of a name
 number_before : (n : ℕ) (file : RunnerFile) → n < 2 ^ 64 → before_dot (file_name n file) ≡ decimal n

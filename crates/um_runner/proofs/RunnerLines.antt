@@ -1,14 +1,15 @@
 -- The parts of a runner's line are told by its words.
-use Rattle.std.proofs.Common.{◌≡◌, ◌≢◌, ◌≤◌, ◌<◌, ℕ, ◌^◌, true, false, ◌⊎◌, Option, Some, None, MatchOption, inl, inr, List, [], ◌∷◌, ◌++◌, length, get_or, drop, refl, sym, ap, ◌∙◌, arith, take-append-drop, length-append}
+use Rattle.std.proofs.Common.{◌≡◌, ◌≢◌, ◌≤◌, ◌<◌, ℕ, ◌^◌, Bool, true, false, ◌⊎◌, Option, Some, None, MatchOption, inl, inr, List, [], ◌∷◌, ◌++◌, length, get_or, drop, refl, sym, ap, ◌∙◌, arith, take-append-drop, length-append}
 use Rattle.std.specs.Prelude.{decimal}
 use Rattle.std.specs.List.{list_all}
-use Rattle.std.proofs.lemmas.Bool.{and_from, and_parts, lt-ltb, ltb-true, true≢false}
+use Rattle.std.proofs.lemmas.Bool.{and_from, and_parts, lt-ltb, ltb-true, true≢false, false≢true}
 use Rattle.std.proofs.lemmas.List.{take_at, length-take-le}
 use Rattle.std.proofs.lemmas.Fmt.{decimal_injective}
 use Rattle.um_model.specs.Moments.{process_limit}
 use Rattle.um_runner.specs.Jobs.{is_entry, can_be_job, entries_of, words_of, IsJobOf}
 use Rattle.um_runner.specs.declared.job.Job.{Job}
-use Rattle.um_runner.specs.RunnerLines.{IsRunnerLine, line_words}
+use Rattle.um_runner.specs.declared.line.RunnerLine.{RunnerLine}
+use Rattle.um_runner.specs.RunnerLines.{IsHandedLine, IsRunnerLine, TellsRunner, handed_words, line_words}
 
 -- behind two words that are alike the rest is alike
 pub rest_alike : {A : Type 0} (a b c d : A) (xs ys : List A) → a ∷ b ∷ xs ≡ c ∷ d ∷ ys → xs ≡ ys
@@ -93,3 +94,66 @@ is_line words f n c others is folder named number low high numbered count counte
       set = ap (list_all is_entry) of.first ∙ can.1;
       some = omega (arith, below, size, ap length whole, length-append (entries_of job) (words_of job));
     }
+
+-- ---- entries that stand in a file
+
+-- they tell no process
+pub no_handed_number : (words : List (List ℕ)) (f n : List ℕ) (others : List (List ℕ)) → words ≡ handed_words f n others
+    → ((number : ℕ) → 1 ≤ number → number < process_limit → n ≢ decimal number)
+    → (folder : List ℕ) (number : ℕ) (command : List (List ℕ)) → IsHandedLine folder number command words → ⊥
+no_handed_number words f n others is never folder number command line =
+    never number line.first line.last (ap (λ ws. get_or ws 3 []) (sym is ∙ line.says))
+
+-- they have no command
+pub no_handed_command : (words : List (List ℕ)) (f n : List ℕ) (others : List (List ℕ)) → words ≡ handed_words f n others → can_be_job 0 others ≡ false
+    → (folder : List ℕ) (number : ℕ) (command : List (List ℕ)) → IsHandedLine folder number command words → ⊥
+no_handed_command words f n others is never folder number command line =
+    let same : others ≡ command = ap (drop 6) (sym is ∙ line.says) in
+    true≢false (sym (can_be_line [] command refl line.some) ∙ ap (can_be_job 0) (sym same) ∙ never)
+
+pub is_handed : (words : List (List ℕ)) (f n : List ℕ) (others : List (List ℕ)) → words ≡ handed_words f n others
+    → (folder : List ℕ) → folder ≡ f
+    → (number : ℕ) → 1 ≤ number → number < process_limit → n ≡ decimal number
+    → (job : Job) → IsJobOf 0 others job
+    → (entries_of job ≡ []) × IsHandedLine folder number (words_of job) words
+is_handed words f n others is folder named number low high numbered job of =
+    let can = and_parts _ _ of.possible in
+    let below = ltb-true 0 (length others) can.0 in (
+      of.first,
+      record {
+        says = is ∙ ap (λ d. handed_words d n others) (sym named) ∙ ap (λ d. handed_words folder d others) numbered ∙ ap (handed_words folder (decimal number)) (sym of.others);
+        first = low;
+        last = high;
+        some = omega (arith, below, ap length of.others);
+      },
+    )
+
+-- ---- both
+
+pub tells_counted : (has_file : Bool) (folder : List ℕ) (number : ℕ) (entries command words : List (List ℕ)) → has_file ≡ false
+    → IsRunnerLine folder number entries command words → TellsRunner has_file folder number entries command words
+tells_counted false folder number entries command words is line = line
+tells_counted true folder number entries command words is line = absurd (true≢false is)
+
+pub tells_handed : (has_file : Bool) (folder : List ℕ) (number : ℕ) (entries command words : List (List ℕ)) → has_file ≡ true → entries ≡ []
+    → IsHandedLine folder number command words → TellsRunner has_file folder number entries command words
+tells_handed true folder number entries command words is none line = (none, line)
+tells_handed false folder number entries command words is none line = absurd (false≢true is)
+
+pub tells_nothing : (words : List (List ℕ))
+    → ((folder : List ℕ) (number : ℕ) (entries command : List (List ℕ)) → IsRunnerLine folder number entries command words → ⊥)
+    → ((folder : List ℕ) (number : ℕ) (command : List (List ℕ)) → IsHandedLine folder number command words → ⊥)
+    → (has_file : Bool) (folder : List ℕ) (number : ℕ) (entries command : List (List ℕ)) → TellsRunner has_file folder number entries command words → ⊥
+tells_nothing words counted handed false folder number entries command told = counted folder number entries command told
+tells_nothing words counted handed true folder number entries command told = handed folder number command told.1
+
+-- what is told where no entries stand among the words
+pub handed_told : (words : List (List ℕ)) (o : Option RunnerLine)
+    → ((folder : List ℕ) (number : ℕ) (entries command : List (List ℕ)) → IsRunnerLine folder number entries command words → ⊥)
+    → MatchOption o ((folder : List ℕ) (number : ℕ) (command : List (List ℕ)) → IsHandedLine folder number command words → ⊥)
+    (λ line. (line.has_file ≡ true) × (entries_of line.job ≡ []) × IsHandedLine line.folder.now line.number (words_of line.job) words)
+    → MatchOption o ((has_file : Bool) (folder : List ℕ) (number : ℕ) (entries command : List (List ℕ)) → TellsRunner has_file folder number entries command words → ⊥)
+    (λ line. TellsRunner line.has_file line.folder.now line.number (entries_of line.job) (words_of line.job) words)
+handed_told words None counted never = tells_nothing words counted never
+handed_told words (Some line) counted told =
+    tells_handed line.has_file line.folder.now line.number (entries_of line.job) (words_of line.job) words told.0 told.1 told.2

@@ -6,7 +6,7 @@ use Rattle.std.specs.Prelude.{codes, decimal, bytes_eq}
 use Rattle.um_runner.specs.declared.runner_file.Claimant.{Claimant}
 use Rattle.um_runner.specs.declared.runner_file.Claimant.TheVariants.{Manager, Runner}
 use Rattle.um_runner.specs.declared.runner_file.RunnerFile.{RunnerFile}
-use Rattle.um_runner.specs.declared.runner_file.RunnerFile.TheVariants.{Claim, Pid, Status, ManagerDraft, RunnerDraft, PidDraft, StatusDraft}
+use Rattle.um_runner.specs.declared.runner_file.RunnerFile.TheVariants.{Claim, Pid, Status, ManagerDraft, RunnerDraft, PidDraft, StatusDraft, Entries}
 use Rattle.um_model.specs.declared.service.End.{End}
 use Rattle.um_model.specs.declared.service.End.TheVariants.{Code, Signal, Lost}
 
@@ -21,6 +21,7 @@ ending_of ManagerDraft = codes ".claim.manager"
 ending_of RunnerDraft = codes ".claim.runner"
 ending_of PidDraft = codes ".pid.new"
 ending_of StatusDraft = codes ".status.new"
+ending_of Entries = codes ".env"
 
 -- the name of a file of this process number
 abbrev pub file_name : ℕ → RunnerFile → List ℕ

@@ -8,6 +8,7 @@ use crate::runner_file::RunnerFile;
 use std::alloc::Global;
 use std::fs::{File, Files, OpenFile, OpenOptions};
 use std::io::{ErrorKind, Read, Seek, SeekFrom, Write};
+use std::os::unix::fs::OpenOptionsExt;
 use std::{fs, io};
 use um_model::ProcessNumber;
 
@@ -92,6 +93,9 @@ pub fn read_file<R: Files>(
 /// So often a draft is made anew that another one has made in the meantime.
 const TRIES: u32 = 8;
 
+/// A draft tells nothing that isn't told to anyone who may look into the folder.
+const DRAFT_MODE: u32 = 0o666;
+
 /// Removes what stands at the path of a draft: a file, or a link and not what it leads to.
 fn remove_draft<R: Files>(rt: &R, path: &str) -> io::Result<()> {
     match fs::remove_file(rt, path) {
@@ -100,10 +104,10 @@ fn remove_draft<R: Files>(rt: &R, path: &str) -> io::Result<()> {
     }
 }
 
-/// Makes a draft, a new file in place of what stood there: never one that was there before, nor one that a link leads to.
-fn make_new<R: Files>(rt: &R, path: &str) -> io::Result<R::File> {
+/// Makes a new file of this mode in place of what stood there: never one that was there before, nor one that a link leads to.
+pub fn make_new<R: Files>(rt: &R, path: &str, mode: u32) -> io::Result<R::File> {
     let mut how = OpenOptions::new();
-    how.write(true).create_new(true);
+    how.write(true).create_new(true).mode(mode);
     for _ in 0..TRIES {
         remove_draft(rt, path)?;
         match how.open(rt, path) {
@@ -116,7 +120,7 @@ fn make_new<R: Files>(rt: &R, path: &str) -> io::Result<R::File> {
 
 /// Makes a draft with its text.
 fn make_draft<R: Files>(rt: &R, path: &str, text: &str) -> io::Result<()> {
-    make_new(rt, path)?.write_all(text.as_bytes())
+    make_new(rt, path, DRAFT_MODE)?.write_all(text.as_bytes())
 }
 
 /// Makes the draft of a file with room for the longest text, and gives it open: a disk that is full later doesn't refuse the file.
@@ -130,7 +134,7 @@ pub fn reserve<R: Files>(
     draft: RunnerFile,
 ) -> Result<R::File, FolderFault> {
     let draft = file_path(alloc, folder, number, draft)?;
-    let mut file = make_new(rt, draft.as_str())?;
+    let mut file = make_new(rt, draft.as_str(), DRAFT_MODE)?;
     file.write_all(ROOM.as_bytes())?;
     Ok(file)
 }

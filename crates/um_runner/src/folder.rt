@@ -27,6 +27,8 @@ pub struct Folder<'a, R: Files + Processes + Clock> {
     path: &'a str,
     number: ProcessNumber,
     child: Option<Child<R::Started>>,
+    /// What is to be started isn't known, so that nothing is.
+    is_stopped: bool,
     /// The draft of the pid file, which has room for it.
     pid_room: Option<R::File>,
     /// That of the status file.
@@ -53,9 +55,15 @@ impl<'a, R: Files + Processes + Clock> Folder<'a, R> {
             path,
             number,
             child: None,
+            is_stopped: false,
             pid_room: None,
             status_room: None,
         }
+    }
+
+    /// From now on no job can be executed.
+    pub(crate) fn start_nothing(&mut self) {
+        self.is_stopped = true;
     }
 
     /// Takes the room for a file on the folder's disk.
@@ -126,6 +134,9 @@ impl<'a, R: Files + Processes + Clock> Host for Folder<'a, R> {
 
     /// A command that finds no memory can't be executed either, nor one for whose pid and status the disk has no room.
     fn start(&mut self, job: &Job<'_>) -> Option<u32> {
+        if self.is_stopped {
+            return None;
+        }
         self.take_rooms().ok()?;
         let child = self.spawn(job)?;
         let pid = child.id();

@@ -40,7 +40,8 @@ fn is_entry(word: &str) -> bool
     has_sign(word.as_bytes()) && !is_sign_first(word.as_bytes())
 }
 
-fn are_entries(words: &[String]) -> bool
+/// Whether each word is NAME=value.
+pub fn are_entries(words: &[String]) -> bool
     ensures { result ≡ list_all (λ word. is_entry (string_bytes word)) words.now }
 {
     words.iter().all(|word| is_entry(word.as_str()))
@@ -110,6 +111,18 @@ impl<'a> Job<'a> {
             arguments,
             entries,
         })
+    }
+
+    /// The same command with these entries in place of its own.
+    pub fn with(&self, entries: &'a [String]) -> Job<'a>
+        ensures words { words_of result ≡ words_of self.now }
+        ensures entries { entries_of result ≡ map string_bytes entries.now }
+    {
+        Job {
+            program: self.program,
+            arguments: self.arguments,
+            entries,
+        }
     }
 
     /// The command with its arguments, and the entries set over the environment that it is started in.

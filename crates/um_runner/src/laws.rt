@@ -1,18 +1,21 @@
 //! What the definitions say together, as functions that do nothing.
 
-ghost use Rattle.std.specs.Prelude.{◌≡◌, ◌<◌, ◌^◌, ℕ, List, false};
-ghost use Rattle.std.specs.List.{list_any};
+ghost use Rattle.std.specs.Prelude.{◌≡◌, ◌<◌, ◌^◌, ℕ, List, Some, true, false};
+ghost use Rattle.std.specs.List.{list_all, list_any};
+ghost use Rattle.um_runner.specs.Handed.{can_be_handed, entries_in, entries_text};
 ghost use Rattle.um_runner.specs.Runner.{IsPid, IsStatus, TellsEnd, claimant_of, claim_text, file_name, is_slash};
 ghost use Rattle.um_runner.specs.declared.runner_file.Claimant as claimants;
 ghost use Rattle.um_runner.specs.declared.runner_file.RunnerFile as files;
 ghost use Rattle.um_model.specs.declared.service.End as ends;
 
-/// A text tells one pid, one end and one claimant at most, and what is written for an end is read as that end.
+/// A text tells one pid, one end and one claimant at most, what is written for a claim is read as its claimant's, and what is written for
+/// entries as just those entries.
 pub fn a_text_has_one_reading()
     ensures pid { (text : List ℕ) (m n : ℕ) → IsPid text m → IsPid text n → m ≡ n }
     ensures status { (text : List ℕ) (a b : ends.End) → IsStatus text a → IsStatus text b → a ≡ b }
     ensures end { (text : List ℕ) (a b : ends.End) → TellsEnd text a → TellsEnd text b → a ≡ b }
     ensures claim { (claimant : claimants.Claimant) → claimant_of (claim_text claimant) ≡ claimant }
+    ensures entries { (entries : List (List ℕ)) → list_all can_be_handed entries ≡ true → entries_in (entries_text entries) ≡ Some entries }
 {}
 
 /// A name of a file has no slash, and is that of one file of one number: no path leads out of the folder, and no file is taken for

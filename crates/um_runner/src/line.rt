@@ -1,9 +1,9 @@
 //! The words of a runner.
 
-ghost use Rattle.std.specs.Prelude.{◌≡◌, ◌≢◌, ◌≤◌, ◌<◌, ◌∷◌, ℕ, List, map, decimal, string_bytes, MatchOption};
+ghost use Rattle.std.specs.Prelude.{◌≡◌, ◌≢◌, ◌≤◌, ◌<◌, ◌∷◌, [], ℕ, Bool, true, false, List, map, decimal, string_bytes, MatchOption};
 ghost use Rattle.um_model.specs.Moments.{process_limit};
 ghost use Rattle.um_runner.specs.Jobs.{entries_of, words_of};
-ghost use Rattle.um_runner.specs.RunnerLines.{IsRunnerLine, line_words};
+ghost use Rattle.um_runner.specs.RunnerLines.{IsHandedLine, IsRunnerLine, TellsRunner, handed_words, line_words};
 
 use crate::job::Job;
 use crate::texts::number_in;
@@ -16,7 +16,10 @@ pub struct RunnerLine<'a> {
     pub folder: &'a str,
     /// The process number that it is for.
     pub number: ProcessNumber,
+    /// What is to be started, with the entries that stand among the words.
     pub job: Job<'a>,
+    /// The entries are those of the number's file, and none stands among the words.
+    pub has_file: bool,
 }
 
 /// The words of a runner where they belong, before any is read as a number.
@@ -82,14 +85,25 @@ impl<'a> Options<'a> {
     }
 }
 
+/// The folder, the number and the command's words where the entries stand in a file. None where the words aren't in this order.
+fn handed_parts<'a>(words: &'a [String]) -> Option<(&'a String, &'a String, &'a [String])>
+    ensures { MatchOption result
+        ((folder number : List ℕ) (words' : List (List ℕ)) → map string_bytes words.now ≢ handed_words folder number words')
+        (λ r. map string_bytes words.now ≡ handed_words (string_bytes r.0.now) (string_bytes r.1.now) (map string_bytes r.2.now)) }
+{
+    let (folder, words) = value_behind("--dir", words)?;
+    let (number, words) = value_behind("--number", words)?;
+    let words = words_behind("--env-file", words)?;
+    let words = words_behind("--", words)?;
+    Some((folder, number, words))
+}
+
 impl<'a> RunnerLine<'a> {
-    /// Reads `--dir DIR --number N --env COUNT -- WORDS..`, of which the first COUNT words are entries NAME=value and the others the
-    /// command. None for other words: another order, a number that isn't in decimal digits without zeros in front, the number 0
-    /// or one from 2^63 on, and what can be no job (`Job::of`).
-    pub fn of(words: &'a [String]) -> Option<RunnerLine<'a>>
+    /// Reads the words with which the entries stand among them.
+    fn counted(words: &'a [String]) -> Option<RunnerLine<'a>>
         ensures { MatchOption result
             ((folder : List ℕ) (number : ℕ) (entries command : List (List ℕ)) → IsRunnerLine folder number entries command (map string_bytes words.now) → ⊥)
-            (λ line. IsRunnerLine line.folder.now line.number (entries_of line.job) (words_of line.job) (map string_bytes words.now)) }
+            (λ line. (line.has_file ≡ false) × IsRunnerLine line.folder.now line.number (entries_of line.job) (words_of line.job) (map string_bytes words.now)) }
     {
         let options = Options::of(words)?;
         let number = process_of(options.number.as_str())?;
@@ -98,6 +112,38 @@ impl<'a> RunnerLine<'a> {
             folder: options.folder.as_str(),
             number,
             job: Job::of(count, options.words)?,
+            has_file: false,
         })
+    }
+
+    /// Reads the words with which the entries stand in a file.
+    fn handed(words: &'a [String]) -> Option<RunnerLine<'a>>
+        ensures { MatchOption result
+            ((folder : List ℕ) (number : ℕ) (command : List (List ℕ)) → IsHandedLine folder number command (map string_bytes words.now) → ⊥)
+            (λ line. (line.has_file ≡ true) × (entries_of line.job ≡ []) × IsHandedLine line.folder.now line.number (words_of line.job) (map string_bytes words.now)) }
+    {
+        let (folder, number, words) = handed_parts(words)?;
+        let number = process_of(number.as_str())?;
+        Some(RunnerLine {
+            folder: folder.as_str(),
+            number,
+            job: Job::of(0, words)?,
+            has_file: true,
+        })
+    }
+
+    /// Reads `--dir DIR --number N --env COUNT -- WORDS..`, of which the first COUNT words are entries NAME=value and the others the
+    /// command, or `--dir DIR --number N --env-file -- WORDS..`, which is the command with entries that stand in the number's file. None for
+    /// other words: another order, a number that isn't in decimal digits without zeros in front, the number 0 or one from 2^63 on, and
+    /// what can be no job (`Job::of`).
+    pub fn of(words: &'a [String]) -> Option<RunnerLine<'a>>
+        ensures { MatchOption result
+            ((has_file : Bool) (folder : List ℕ) (number : ℕ) (entries command : List (List ℕ)) → TellsRunner has_file folder number entries command (map string_bytes words.now) → ⊥)
+            (λ line. TellsRunner line.has_file line.folder.now line.number (entries_of line.job) (words_of line.job) (map string_bytes words.now)) }
+    {
+        match RunnerLine::counted(words) {
+            Some(line) => Some(line),
+            None => RunnerLine::handed(words),
+        }
     }
 }

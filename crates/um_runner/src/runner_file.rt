@@ -39,6 +39,8 @@ pub enum RunnerFile {
     RunnerDraft,
     PidDraft,
     StatusDraft,
+    /// The entries that the manager hands a runner over.
+    Entries,
 }
 
 impl RunnerFile {
@@ -54,6 +56,7 @@ impl RunnerFile {
             RunnerFile::RunnerDraft => ".claim.runner",
             RunnerFile::PidDraft => ".pid.new",
             RunnerFile::StatusDraft => ".status.new",
+            RunnerFile::Entries => ".env",
         }
     }
 }

@@ -79,6 +79,11 @@ more-le count (suc n) = omega (arith, more-le count n)
 pub more-add_one : (count n : ℕ) → more count (n + 1) ≡ one_more (more count n)
 more-add_one count n = ap (more count) (add-one n)
 
+-- so many more behind so many
+pub more-more : (count m n : ℕ) → more (more count m) n ≡ more count (m + n)
+more-more count m zero = ap (more count) (omega arith)
+more-more count m (suc n) = let e : suc (m + n) ≡ m + suc n = omega arith in ap one_more (more-more count m n) ∙ ap (more count) e
+
 -- a write, whatever it answers, is no sync
 pub wrote_syncs : {T E : Type 0} (result : Result T E) (past : Past) (k : ℕ) (v : Sector) (new : Past) → Wrote result past k v new → sync_count new ≡ sync_count past
 wrote_syncs (Ok x) past k v new is = ap sync_count is

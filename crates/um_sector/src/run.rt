@@ -55,6 +55,7 @@ pub fn write_blank<D: Disk>(disk: &mut D, at: usize, count: usize) -> Result<(),
     requires { at + count ≤ usize.MAX }
     ensures during { IsTrue (D.honest disk.old) → During (D.past disk.old) (D.past disk.new) (AfterRun (D.past disk.old) at (replicate count blank)) }
     ensures ok { OnOk result (IsTrue (D.honest disk.old) → IsLaid (seen (D.past disk.old)) at (replicate count blank) (seen (D.past disk.new))) }
+    ensures all_calls { OnOk result (D.calls disk.new ≡ more (D.calls disk.old) count) }
     ensures failures { CountsFailure result (D.failures disk.old) (D.failures disk.new) }
     ensures size { D.size disk.new ≡ D.size disk.old }
     ensures honest { D.honest disk.new ≡ D.honest disk.old }

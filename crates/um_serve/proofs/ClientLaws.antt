@@ -53,11 +53,11 @@ story_either false u v w xs ys out more is p q = story_on u v w xs ys out more i
 
 -- ---- what the gate is told of one client
 
-wrote_own : (k : ℕ) (taken : List ℕ) → taken_in k (wrote k taken) ≡ taken
-wrote_own k taken = ap (λ (b : Bool). if b then taken else []) (eq-eqb k k refl)
+wrote_own : (k : ℕ) (offered taken : List ℕ) → taken_in k (wrote k offered taken) ≡ taken
+wrote_own k offered taken = ap (λ (b : Bool). if b then taken else []) (eq-eqb k k refl)
 
-wrote_other : (k n : ℕ) (taken : List ℕ) → k ≢ n → taken_in k (wrote n taken) ≡ []
-wrote_other k n taken other = ap (λ (b : Bool). if b then taken else []) (ne_eqb n k (λ e. other (sym e)))
+wrote_other : (k n : ℕ) (offered taken : List ℕ) → k ≢ n → taken_in k (wrote n offered taken) ≡ []
+wrote_other k n offered taken other = ap (λ (b : Bool). if b then taken else []) (ne_eqb n k (λ e. other (sym e)))
 
 pub nothing_taken : (taken left : List ℕ) → taken ++ left ≡ [] → taken ≡ []
 nothing_taken [] left e = refl
@@ -69,11 +69,11 @@ drops_nothing k n false = refl
 
 writes_own : (k : ℕ) (all taken left : List ℕ) → taken ++ left ≡ all → taken_of k (writes k all taken) ≡ taken
 writes_own k [] taken left e = sym (nothing_taken taken left e)
-writes_own k (b ∷ bs) taken left e = append-nil (taken_in k (wrote k taken)) ∙ wrote_own k taken
+writes_own k (b ∷ bs) taken left e = append-nil (taken_in k (wrote k (b ∷ bs) taken)) ∙ wrote_own k (b ∷ bs) taken
 
 writes_other : (k n : ℕ) (all taken : List ℕ) → k ≢ n → taken_of k (writes n all taken) ≡ []
 writes_other k n [] taken other = refl
-writes_other k n (b ∷ bs) taken other = append-nil (taken_in k (wrote n taken)) ∙ wrote_other k n taken other
+writes_other k n (b ∷ bs) taken other = append-nil (taken_in k (wrote n (b ∷ bs) taken)) ∙ wrote_other k n (b ∷ bs) taken other
 
 left_waits : (is_last b : Bool) (left : List ℕ) (new : Waits) → new ≡ (if b then given_up else record { bytes = left; is_last = is_last; is_over = false })
     → new.is_over ≡ false → new.bytes ≡ left

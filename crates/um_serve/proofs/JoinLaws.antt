@@ -28,6 +28,7 @@ turns_less less more place result moment pieces a b within p = (p.0, λ not. tur
 pub round_less : (less more : Trust) (place : Place) (result : Result Unit Refusal) (r : Round) (x y : Served) → IsWithin less more → IsRound more place result r x y
     → IsRound less place result r x y
 round_less less more place result r x y within p = record {
+  working = p.working;
   said = p.said;
   waits = p.waits;
   hears = hears_less less more r p.said p.waits x y within p.hears;
@@ -38,11 +39,12 @@ round_less less more place result r x y within p = record {
   rest = p.rest;
   busy = p.busy;
   moment_is = p.moment_is;
+  none_lost = p.none_lost;
 }
 
 untaken_less : (less more : Trust) (r : Round) (x y : Served) → IsWithin less more → IsUntaken more r x y → IsUntaken less r x y
 untaken_less less more r x y within p =
-    record { hears = hears_less less more r [] y.waits x y within p.hears; untouched = p.untouched; busy = p.busy; moment_is = p.moment_is }
+    record { working = p.working; hears = hears_less less more r [] y.waits x y within p.hears; untouched = p.untouched; busy = p.busy; moment_is = p.moment_is; lost = p.lost }
 
 stops_less : (less more : Trust) (place : Place) (result : Result Unit Refusal) (r : Round) (x y : Served) → IsWithin less more → Stops more place result r x y
     → Stops less place result r x y

@@ -70,11 +70,12 @@ same_failed {o = false} {n = true} is failed = elim (failed.0 refl) [ inl was �
 -- ---- one round
 
 -- where there was no room nothing was done
-pub unserved : {old new : List Event} {given : List ℕ} {waits left : List Waits} {was busy : Bool} {turned later : ℕ} {a : Now} → new ≡ old → left ≡ waits → busy ≡ was → later ≡ turned
-    → served new given left busy later a ≡ served old given waits was turned a
-unserved {old} {new} {given} {waits} {left} {was} {busy} {turned} {later} {a} past rest quiet turn =
-    ap (λ es. served es given left busy later a) past ∙ ap (λ ws. served old given ws busy later a) rest ∙ ap (λ b. served old given waits b later a) quiet
-    ∙ ap (λ m. served old given waits was m a) turn
+pub unserved : {old new : List Event} {given : List ℕ} {waits left : List Waits} {was busy : Bool} {turned later : ℕ} {lost lost_then : Bool} {a : Now} → new ≡ old → left ≡ waits
+    → busy ≡ was → later ≡ turned → lost_then ≡ lost → served new given left busy later lost_then a ≡ served old given waits was turned lost a
+unserved {old} {new} {given} {waits} {left} {was} {busy} {turned} {later} {lost} {lost_then} {a} past rest quiet turn same =
+    ap (λ es. served es given left busy later lost_then a) past ∙ ap (λ ws. served old given ws busy later lost_then a) rest
+    ∙ ap (λ b. served old given waits b later lost_then a) quiet ∙ ap (λ m. served old given waits was m lost_then a) turn
+    ∙ ap (λ b. served old given waits was turned b a) same
 
 pub same_now : {s t : State} {p q : List Call} {m n : List ℕ} {d e : Past} {k l : LogEnd} (us vs : List Session) → t ≡ s → q ≡ p → n ≡ m → e ≡ d → l ≡ k
     → now t q n vs e l ≡ record (now s p m us d k) { sessions = vs }
@@ -88,14 +89,15 @@ abbrev round_at : {honest whole busy : Bool} {held : List Bool} {pieces : List P
 round_at {held = held} {pieces = pieces} g moment = record { which = g.which; held = held; pieces = pieces; moment = moment }
 
 -- a turn that found no memory
-pub untaken_round : {children calls gate events clock moments busy : Bool} {held : List Bool} {pieces : List Piece} {waits left : List Waits} {given more : List ℕ} {moment : ℕ} {a b : Now}
+pub untaken_round : {children calls gate events clock moments busy lost : Bool} {held : List Bool} {pieces : List Piece} {waits left : List Waits} {given more : List ℕ} {moment : ℕ} {a b : Now}
     → (was : Bool) (old new : List Event) (turned later : ℕ) (at : Place) (result : Result Unit Refusal) → Gathers gate events held pieces old new waits left busy
-    → AreHeldBack a.sessions waits held → Ticks clock moments given more (moment ∷ []) → Turns at result children calls moment pieces a b → is_want result ≡ true → later ≡ turned
-    → ServesOne (trust children calls gate events clock moments) at result (served old given waits was turned a) (served new more left busy later b)
-untaken_round {moment = moment} was old new turned later at result g are ticks turns want turn =
+    → AreHeldBack a.sessions waits held → Ticks clock moments given more (moment ∷ []) → Turns at result children calls moment pieces a b → is_want result ≡ true → later ≡ turned → lost ≡ false
+    → ServesOne (trust children calls gate events clock moments) at result (served old given waits was turned lost a) (served new more left busy later true b)
+untaken_round {moment = moment} was old new turned later at result g are ticks turns want turn working =
     let r = round_at g moment in
     wanting _ at result r _ _ want
     (record {
+      working = working;
       hears = record {
         only_open = g.only_open;
         are_held = are;
@@ -107,20 +109,22 @@ untaken_round {moment = moment} was old new turned later at result g are ticks t
       untouched = turns.0 (wanted result want);
       busy = g.busy_is;
       moment_is = turn;
+      lost = refl;
     })
 
 -- a turn that was taken, and what is handed to the gate then
-pub done_round : {children calls taken gate later_gate before events clock moments busy came stirred changed : Bool} {held : List Bool} {pieces : List Piece} {waits forgot left : List Waits} {given more : List ℕ} {moment : ℕ}
+pub done_round : {children calls taken gate later_gate before events clock moments busy came stirred changed lost lost_then : Bool} {held : List Bool} {pieces : List Piece} {waits forgot left : List Waits} {given more : List ℕ} {moment : ℕ}
     {a b d : Now} → (was : Bool) (old new later said : List Event) (turned : ℕ) (at : Place) (result : Result Unit Refusal) → Gathers gate before held pieces old new waits forgot came
     → (IsTrue gate → IsTrue later_gate) → (IsTrue events → IsTrue before) → AreHeldBack a.sessions waits held → Ticks clock moments given more (moment ∷ [])
     → Turns at result children taken moment pieces a b → (IsTrue calls → IsTrue taken) → is_want result ≡ false → SaysBelow 64 b.sessions forgot said left
     → Logs later_gate events new later said → busy ≡ (came || (stirred || changed)) → stirred ≡ any_stirred 64 b.sessions forgot left → changed ≡ has_changed a.state d.state → EmptiesAll b.sessions d.sessions
-    → d ≡ record b { sessions = d.sessions }
-    → ServesOne (trust children calls gate events clock moments) at result (served old given waits was turned a) (served later more left busy moment d)
-done_round {stirred = stirred} {changed = changed} {pieces = pieces} {forgot = forgot} {left = left} {moment = moment} {b = b} was old new later said turned at result g honest whole are ticks turns kept want says handed was_busy stirs changes empties rest =
+    → d ≡ record b { sessions = d.sessions } → lost ≡ false → lost_then ≡ lost
+    → ServesOne (trust children calls gate events clock moments) at result (served old given waits was turned lost a) (served later more left busy moment lost_then d)
+done_round {stirred = stirred} {changed = changed} {pieces = pieces} {forgot = forgot} {left = left} {moment = moment} {b = b} was old new later said turned at result g honest whole are ticks turns kept want says handed was_busy stirs changes empties rest working same =
     let r = round_at g moment in
     gone _ at result r _ _ want
     (record {
+      working = working;
       said = said;
       waits = forgot;
       hears = record {
@@ -139,6 +143,7 @@ done_round {stirred = stirred} {changed = changed} {pieces = pieces} {forgot = f
       busy = was_busy ∙ ap (λ x. x || (stirred || changed)) g.busy_is ∙ ap (λ x. has_come pieces || (x || changed)) stirs
           ∙ ap (λ x. has_come pieces || (any_stirred 64 b.sessions forgot left || x)) changes;
       moment_is = refl;
+      none_lost = same ∙ working;
     })
 
 -- ---- rounds

@@ -33,7 +33,7 @@ put_out k (and_round round rounds) = output_in (slice_get round.turn.sessions k)
 abbrev pub taken_in : ℕ → Event → List ℕ
 taken_in k (accepted which) = []
 taken_in k (read number most came) = []
-taken_in k (wrote number taken) = if number == k then taken else []
+taken_in k (wrote number offered taken) = if number == k then taken else []
 taken_in k (dropped number) = []
 
 abbrev pub taken_of : ℕ → List Event → List ℕ
@@ -55,7 +55,7 @@ pub record GetsItsOwn {trust : Trust} {place : Place} {rs : List Round} {x y : S
 
 -- ---- a client from its opening on
 
--- A client since it was opened, over rounds, whatever they answered: the bytes that came of it, what turns put out for it, and what the gate took.
+-- A client since it was opened, over rounds: the bytes that came of it, what turns put out for it, and what the gate took.
 pub data HasGot (k : ℕ) : (bytes out took : List ℕ) → Served → Type 0 where
   -- nothing waits for it yet
   opens : {x : Served} → HasHad k [] [] x.now → slice_get x.waits k ≡ Some nothing → HasGot k [] [] [] x
@@ -66,9 +66,11 @@ pub data HasGot (k : ℕ) : (bytes out took : List ℕ) → Served → Type 0 wh
   rounds : {trust : Trust} {place : Place} {result : Result Unit Refusal} {r : Round} {bytes out took : List ℕ} {x y : Served} → HasGot k bytes out took x
       → result ≢ Err NoMemory → (round : IsRound trust place result r x y) → slice_get r.pieces k ≢ Some Closed
       → HasGot k (bytes ++ bytes_in (slice_get r.pieces k)) (out ++ output_in (slice_get round.turn.sessions k)) (took ++ taken_of k round.said) y
-  -- a round whose turn found no memory: what it heard is lost
-  loses : {trust : Trust} {r : Round} {bytes out took : List ℕ} {x y : Served} → HasGot k bytes out took x → IsUntaken trust r x y
-      → slice_get r.pieces k ≢ Some Closed → HasGot k bytes out took y
+
+-- A client behind calls, whatever they answered: what it has got is known, or was before the round that lost what it read, which is the last one.
+pub data IsFollowed (k : ℕ) : Served → Type 0 where
+  has_got : {bytes out took : List ℕ} {x : Served} → HasGot k bytes out took x → IsFollowed k x
+  had_got : {trust : Trust} {r : Round} {bytes out took : List ℕ} {x y : Served} → HasGot k bytes out took x → IsUntaken trust r x y → IsFollowed k y
 
 -- what the gate took is a beginning of what was put out; the rest waits, unless the client was given up
 pub record IsTakenOf (took out : List ℕ) (waits : Waits) : Type 0 where

@@ -2,3 +2,4 @@ pub mod Clients
 pub mod Rounds
 pub mod Scan
 pub mod Sleep
+pub mod Starting

@@ -69,17 +69,19 @@ abbrev pub heard_in : Round → List Event
 heard_in r = accepted r.which ∷ reads_below 64 r.which r.held r.pieces
 
 -- what is served, at a moment: what the gate did, the moments that the clock gave, what waits for each client, whether the last round was busy, the
--- moment of the last turn, and the manager
+-- moment of the last turn, whether what a round read was lost, and the manager
 pub record Served : Type 0 where
   pub past : List Event
   pub given : List ℕ
   pub waits : List Waits
   pub busy : Bool
   pub turned : ℕ
+  pub lost : Bool
   pub now : Now
 
-abbrev pub served : List Event → List ℕ → List Waits → Bool → ℕ → Now → Served
-served past given waits busy turned now = record { past = past; given = given; waits = waits; busy = busy; turned = turned; now = now }
+abbrev pub served : List Event → List ℕ → List Waits → Bool → ℕ → Bool → Now → Served
+served past given waits busy turned lost now =
+    record { past = past; given = given; waits = waits; busy = busy; turned = turned; lost = lost; now = now }
 
 -- Which of children, gate and clock do what they tell, and have a list from which nothing is missing. What is said of each stands under its own.
 pub record Trust : Type 0 where
@@ -182,8 +184,9 @@ any_stirred (suc n) ts old new = any_stirred n ts old new || is_stirred (slice_g
 
 -- A round: the accept and the reads, a turn over what came, and then what it put out for each client is taken of its session and handed to the
 -- gate, as far as that takes it. It was busy where something was heard or put out, where a client is read again, or where the turn changed the
--- state: then another round may have more to do.
+-- state: then another round may have more to do. Behind a read that was lost there is no round.
 pub record IsRound (trust : Trust) (place : Place) (store : Result Unit Refusal) (r : Round) (x y : Served) : Type 0 where
+  pub working : x.lost ≡ false
   pub said : List Event
   pub waits : List Waits
   pub hears : Hears trust r said waits x y
@@ -194,13 +197,16 @@ pub record IsRound (trust : Trust) (place : Place) (store : Result Unit Refusal)
   pub rest : y.now ≡ record turn { sessions = y.now.sessions }
   pub busy : y.busy ≡ (has_come r.pieces || (any_stirred 64 turn.sessions waits y.waits || has_changed x.now.state y.now.state))
   pub moment_is : y.turned ≡ r.moment
+  pub none_lost : y.lost ≡ false
 
--- a round whose turn found no memory for itself: what it heard wasn't taken, and nothing is said
+-- A round whose turn found no memory for itself: what it heard wasn't taken and is lost, and nothing is said. It is the last one.
 pub record IsUntaken (trust : Trust) (r : Round) (x y : Served) : Type 0 where
+  pub working : x.lost ≡ false
   pub hears : Hears trust r [] y.waits x y
   pub untouched : Untouched x.now y.now
   pub busy : y.busy ≡ has_come r.pieces
   pub moment_is : y.turned ≡ x.turned
+  pub lost : y.lost ≡ true
 
 -- the last round of those that a refusal ends
 pub record Stops (trust : Trust) (place : Place) (result : Result Unit Refusal) (r : Round) (x y : Served) : Type 0 where
@@ -208,7 +214,8 @@ pub record Stops (trust : Trust) (place : Place) (result : Result Unit Refusal) 
   pub untaken : result ≡ Err NoMemory → IsUntaken trust r x y
   pub is : result ≢ Err NoMemory → IsRound trust place result r x y
 
--- These rounds, each from where the one before it ended; a refusal is the last. One that found no room for what a read may give is none.
+-- These rounds, each from where the one before it ended; a refusal is the last. One that found no room for what a read may give is none, and behind a
+-- read that was lost there is none: nothing is heard, and nothing said.
 abbrev pub Serves : Trust → Place → List Round → Result Unit Refusal → Served → Served → Type 0
 Serves trust place [] result x y = ((result ≡ Ok tt) ⊎ (result ≡ Err NoMemory)) × (y ≡ x)
 Serves trust place (r ∷ rs) result x y =

@@ -1,5 +1,5 @@
 //! What rounds and sleeps say together, as functions that do nothing.
-ghost use Rattle.std.specs.Prelude.{◌≡◌, ◌<◌, ◌≤◌, ◌+◌, ◌-◌, ◌++◌, ℕ, List, length, Bool, false, IsTrue, Option, Some, Result, Ok, slice_get};
+ghost use Rattle.std.specs.Prelude.{◌≡◌, ◌≢◌, ◌<◌, ◌≤◌, ◌+◌, ◌-◌, ◌++◌, ℕ, List, length, Bool, true, false, IsTrue, Option, Some, Result, Ok, Err, slice_get};
 ghost use Rattle.um_backlog.specs.Backlog.{Waits};
 ghost use Rattle.um_manager.specs.Clients.{HasHad, IsServed};
 ghost use Rattle.um_manager.specs.Places.{Place};
@@ -8,10 +8,11 @@ ghost use Rattle.um_manager.specs.declared.pieces.Piece.{Piece};
 ghost use Rattle.um_model.specs.Machine.{State};
 ghost use Rattle.um_model.specs.Service.{state_of_unit};
 ghost use Rattle.um_model.specs.Sessions.{Session};
-ghost use Rattle.um_serve.specs.Clients.{AllServed, StaysOpen, GetsItsOwn, HasGot, IsTakenOf};
+ghost use Rattle.um_serve.specs.Clients.{AllServed, StaysOpen, GetsItsOwn, HasGot, IsFollowed, IsTakenOf};
 ghost use Rattle.um_serve.specs.Rounds.{Round, Trust, IsWithin, Served, Serves, IsCount};
 ghost use Rattle.um_serve.specs.Sleep.{has_changed, slept, IsSleptFor};
 ghost use Rattle.um_wire.specs.declared.refusal.Refusal.{Refusal};
+ghost use Rattle.um_wire.specs.declared.refusal.Refusal.TheVariants.{NoMemory};
 
 /// Serving again and again is serving once: behind rounds that end Ok others go on where these ended, and all of them together are rounds from
 /// where the first ones began, as many as both were asked for.
@@ -37,6 +38,19 @@ pub fn each_client_is_served()
     ensures { (k : ℕ) (bytes out took : List ℕ) (x : Served) → k < 64 → HasGot k bytes out took x
         → (had : HasHad k bytes out x.now) × (t : Session) × (slice_get x.now.sessions k ≡ Some t) × IsServed had t
         × (waits : Waits) × (slice_get x.waits k ≡ Some waits) × IsTakenOf took out waits }
+{}
+
+/// What a client has got goes on over any calls, whatever they answer: so the law above holds behind each of them, or, where a read was lost, before
+/// the round that lost it. That one hands out nothing.
+pub fn any_calls_go_on_with_a_client()
+    ensures { (trust : Trust) (place : Place) (rs : List Round) (result : Result Unit Refusal) (k : ℕ) (x y : Served) → IsFollowed k x
+        → Serves trust place rs result x y → IsFollowed k y }
+{}
+
+/// Behind a read that was lost nothing is served: a call leaves all as it was, and is answered E15, unless it is asked for no round.
+pub fn nothing_is_served_behind_a_lost_read()
+    ensures { (trust : Trust) (place : Place) (rs : List Round) (result : Result Unit Refusal) (limit : ℕ) (x y : Served) → x.lost ≡ true
+        → Serves trust place rs result x y → IsCount result (length rs) limit → (y ≡ x) × (limit ≢ 0 → result ≡ Err NoMemory) }
 {}
 
 /// A deadline that the last turn was offered, and that stands all the same, wakes nobody: what is slept for lies past the moment of that turn.

@@ -7,10 +7,13 @@ mod laws;
 mod listening;
 mod pace;
 mod rounds;
+mod starting;
 
 pub use laws::{
     a_blocked_deadline_wakes_nobody, a_turn_that_leaves_the_clock_changed_nothing,
-    each_client_gets_its_own, each_client_is_served, no_deadline_is_slept_past, rounds_join,
+    any_calls_go_on_with_a_client, each_client_gets_its_own, each_client_is_served,
+    no_deadline_is_slept_past, nothing_is_served_behind_a_lost_read, rounds_join,
 };
 pub use pace::Pace;
 pub use rounds::{Buffered, serve};
+pub use starting::has_run_nothing;

@@ -26,7 +26,7 @@ use um_sector::Disk;
 use um_wire::Refusal;
 
 /// A gate, and beside it what goes from one round to the next: what waits for each client, the room for what is read, whether the last round was
-/// busy, and the moment of its turn.
+/// busy, the moment of its turn, and whether what it read was lost.
 pub struct Buffered<G> {
     pub gate: G,
     alloc: Global,
@@ -38,6 +38,8 @@ pub struct Buffered<G> {
     was_busy: bool,
     /// The moment of the last turn.
     turned: Moment,
+    /// What a round read was lost: its turn found no memory for itself.
+    has_lost: bool,
 }
 
 // One call, where a derived one is taken apart at each exit.
@@ -51,6 +53,7 @@ impl<G: Drop> Drop for Buffered<G> {
             blanks: _blanks,
             was_busy: _,
             turned: _,
+            has_lost: _,
         } = self;
     }
 }
@@ -129,6 +132,7 @@ impl<G: Gate + Drop> Buffered<G> {
         ensures waits { IfOk result (λ buffered. buffered.backlog ≡ replicate 64 nothing) }
         ensures busy { IfOk result (λ buffered. buffered.was_busy ≡ false) }
         ensures turned { IfOk result (λ buffered. buffered.turned ≡ 0) }
+        ensures lost { IfOk result (λ buffered. buffered.has_lost ≡ false) }
     {
         Ok(Buffered {
             pieces: Pieces::none(alloc)?,
@@ -138,6 +142,7 @@ impl<G: Gate + Drop> Buffered<G> {
             blanks: Vec::new(alloc),
             was_busy: false,
             turned: Moment::FIRST,
+            has_lost: false,
         })
     }
 }
@@ -168,6 +173,7 @@ impl<G: Gate> Buffered<G> {
         ensures gathers { OnOk result (Gathers (G.honest self.old.gate) (G.whole self.new.gate) held.is_held self.new.pieces
             (G.past self.old.gate) (G.past self.new.gate) self.old.backlog self.new.backlog self.new.was_busy) }
         ensures turned { self.new.turned ≡ self.old.turned }
+        ensures lost { self.new.has_lost ≡ self.old.has_lost }
         ensures backlog { OnErr result (self.new.backlog ≡ self.old.backlog) }
         ensures busy { OnErr result (self.new.was_busy ≡ self.old.was_busy) }
         ensures past { OnErr result (G.past self.new.gate ≡ G.past self.old.gate) }
@@ -187,7 +193,8 @@ impl<G: Gate> Buffered<G> {
         Ok(())
     }
 
-    /// An accept, a read of each open connection, a turn, and the writes. What was read before a turn that found no memory for itself is lost.
+    /// An accept, a read of each open connection, a turn, and the writes. What was read before a turn that found no memory for itself is lost, and
+    /// behind that nothing is done.
     fn round<D: Disk, C: Children, M: Moments>(
         &mut self,
         manager: &mut Manager<D, C>,
@@ -195,9 +202,9 @@ impl<G: Gate> Buffered<G> {
     ) -> Result<(), Refusal>
         ensures serves { ServesOne (trust (C.honest manager.old.children) (C.whole manager.new.children) (G.honest self.old.gate) (G.whole self.new.gate) (M.honest clock.old) (M.whole clock.new))
             (place_in (D.honest (disk_in manager.old.keeper)) manager.old.keeper) result
-            (served (G.past self.old.gate) (M.given clock.old) self.old.backlog self.old.was_busy self.old.turned
+            (served (G.past self.old.gate) (M.given clock.old) self.old.backlog self.old.was_busy self.old.turned self.old.has_lost
             (now_in manager.old.keeper (C.past manager.old.children) manager.old.marks manager.old.sessions.items (D.past (disk_in manager.old.keeper))))
-            (served (G.past self.new.gate) (M.given clock.new) self.new.backlog self.new.was_busy self.new.turned
+            (served (G.past self.new.gate) (M.given clock.new) self.new.backlog self.new.was_busy self.new.turned self.new.has_lost
             (now_in manager.new.keeper (C.past manager.new.children) manager.new.marks manager.new.sessions.items (D.past (disk_in manager.new.keeper)))) }
         ensures refused { IfErr result (λ e. IsLost e ⊎ (e ≡ Refusal.Reopen)) }
         ensures device { CountsDevice result (D.failures (disk_in manager.old.keeper)) (D.failures (disk_in manager.new.keeper)) }
@@ -206,6 +213,9 @@ impl<G: Gate> Buffered<G> {
         ensures gate { KeepsGate G.Gate self.old.gate self.new.gate }
         ensures clock { KeepsClock M.Moments clock.old clock.new }
     {
+        if self.has_lost {
+            return Err(Refusal::NoMemory);
+        }
         let held = held_back(manager, &self.backlog);
         match self.gather(held) {
             Ok(()) => {}
@@ -215,6 +225,7 @@ impl<G: Gate> Buffered<G> {
         let moment = clock.moment();
         let turned = manager.turn(moment, &self.pieces);
         if wants_memory(&turned) {
+            self.has_lost = true;
             return turned;
         }
         self.turned = moment;
@@ -227,9 +238,9 @@ impl<G: Gate> Buffered<G> {
 
 /// So many rounds over the gate; a refusal ends them.
 ///
-/// E15 where a round found no memory, before anything was accepted, or its turn none for itself, so that what was read is lost. E16 and E17 of
-/// the store, once the replies are handed out: E16 exactly where the count of the disk's failures rises, E17 exactly where it rose in an earlier
-/// call.
+/// E15 where a round found no memory, before anything was accepted, or its turn none for itself, so that what was read is lost: behind that each
+/// later call is answered E15 at once, hears nothing and hands out nothing. E16 and E17 of the store, once the replies are handed out: E16 exactly
+/// where the count of the disk's failures rises, E17 exactly where it rose in an earlier call.
 pub fn serve<D: Disk, C: Children, G: Gate, M: Moments>(
     manager: &mut Manager<D, C>,
     gate: &mut Buffered<G>,
@@ -239,9 +250,9 @@ pub fn serve<D: Disk, C: Children, G: Gate, M: Moments>(
     ensures serves { (all : List Round) × IsCount result (length all) limit
         × Serves (trust (C.honest manager.old.children) (C.whole manager.new.children) (G.honest gate.old.gate) (G.whole gate.new.gate) (M.honest clock.old) (M.whole clock.new))
         (place_in (D.honest (disk_in manager.old.keeper)) manager.old.keeper) all result
-        (served (G.past gate.old.gate) (M.given clock.old) gate.old.backlog gate.old.was_busy gate.old.turned
+        (served (G.past gate.old.gate) (M.given clock.old) gate.old.backlog gate.old.was_busy gate.old.turned gate.old.has_lost
         (now_in manager.old.keeper (C.past manager.old.children) manager.old.marks manager.old.sessions.items (D.past (disk_in manager.old.keeper))))
-        (served (G.past gate.new.gate) (M.given clock.new) gate.new.backlog gate.new.was_busy gate.new.turned
+        (served (G.past gate.new.gate) (M.given clock.new) gate.new.backlog gate.new.was_busy gate.new.turned gate.new.has_lost
         (now_in manager.new.keeper (C.past manager.new.children) manager.new.marks manager.new.sessions.items (D.past (disk_in manager.new.keeper)))) }
     ensures life { has_failed manager.old.keeper ≡ false → LivesOn (layout_in manager.old.keeper)
         (relying (D.honest (disk_in manager.old.keeper)) (C.honest manager.old.children) (C.whole manager.new.children)) result

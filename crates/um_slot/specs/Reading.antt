@@ -1,7 +1,7 @@
 -- What the reading of two headers finds.
 -- No manual page has it: it is the project's own format.
 -- um_slot's functions stand on this file.
-use Rattle.std.specs.Prelude.{ℕ, Option, Some, None, nat_le, if◌then◌else◌}
+use Rattle.std.specs.Prelude.{◌≢◌, ℕ, replicate, Option, Some, None, nat_le, if◌then◌else◌}
 use Rattle.um_model.specs.Disk.{Sector, Image}
 use Rattle.um_model.specs.declared.layout.Layout.{Layout}
 use Rattle.um_model.specs.declared.layout.Slot.{Slot}
@@ -30,3 +30,13 @@ pub record IsNewestHeader (layout : Layout) (image : Image) (slot : Slot) (heade
 abbrev pub Finds : Layout → Image → Option (Slot × Header) → Type 0
 Finds layout image None = HasNoHeader layout image
 Finds layout image (Some found) = IsNewestHeader layout image found.0 found.1
+
+-- the first sector of a slot is damaged: it is neither a well-formed header nor all zeros
+pub record IsDamaged (layout : Layout) (sector : Sector) : Type 0 where
+  pub no_header : (generation size : ℕ) → ¬ IsHeader layout sector generation size
+  pub not_zeros : sector ≢ replicate 512 0
+
+-- that of some slot is
+pub record HasDamaged (layout : Layout) (image : Image) : Type 0 where
+  pub slot : Slot
+  pub is : IsDamaged layout (image (slot_start layout slot))

@@ -1,7 +1,7 @@
 ghost use Rattle.std.specs.Prelude.{◌≡◌, ◌+◌, ◌≤◌, length, IsTrue, OnOk};
 ghost use Rattle.um_model.specs.Disk.{seen, During, IsSettled};
 ghost use Rattle.um_model.specs.Store.{filled, sector_count};
-ghost use Rattle.um_sector.specs.Runs.{CountsFailure, IsLaid, AfterRun};
+ghost use Rattle.um_sector.specs.Runs.{CountsFailure, IsLaid, AfterRun, more};
 ghost use Rattle.um_slot.specs.Snapshots.{body_run};
 
 use um_sector::{Disk, Fault, Fields, SECTOR_BYTES, Sector, next_chunk};
@@ -24,6 +24,7 @@ fn write_body<D: Disk>(disk: &mut D, at: usize, body: &[u8]) -> Result<(), Fault
     ensures during { IsTrue (D.honest disk.old) → During (D.past disk.old) (D.past disk.new) (AfterRun (D.past disk.old) at (body_run body.now)) }
     ensures ok { OnOk result (IsTrue (D.honest disk.old) → IsLaid (seen (D.past disk.old)) at (body_run body.now) (seen (D.past disk.new))) }
     ensures calls { D.calls disk.new ≤ D.calls disk.old + sector_count (length body.now) }
+    ensures all_calls { OnOk result (D.calls disk.new ≡ more (D.calls disk.old) (sector_count (length body.now))) }
     ensures failures { CountsFailure result (D.failures disk.old) (D.failures disk.new) }
     ensures size { D.size disk.new ≡ D.size disk.old }
     ensures honest { D.honest disk.new ≡ D.honest disk.old }
@@ -46,6 +47,7 @@ pub fn write_body_synced<D: Disk>(disk: &mut D, at: usize, body: &[u8]) -> Resul
     ensures ok { OnOk result (IsTrue (D.honest disk.old) → IsLaid (seen (D.past disk.old)) at (body_run body.now) (seen (D.past disk.new))) }
     ensures settled { OnOk result (IsTrue (D.honest disk.old) → IsSettled (D.past disk.new)) }
     ensures calls { D.calls disk.new ≤ D.calls disk.old + sector_count (length body.now) + 1 }
+    ensures all_calls { OnOk result (D.calls disk.new ≡ more (D.calls disk.old) (sector_count (length body.now) + 1)) }
     ensures failures { CountsFailure result (D.failures disk.old) (D.failures disk.new) }
     ensures size { D.size disk.new ≡ D.size disk.old }
     ensures honest { D.honest disk.new ≡ D.honest disk.old }

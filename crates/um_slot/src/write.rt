@@ -5,6 +5,7 @@ ghost use Rattle.um_slot.specs.Snapshots.{HasStore, HasNewest, EitherNewest};
 ghost use Rattle.um_slot.specs.Snapshots.{IsSnapshot, MaybeSnapshot, AfterSnapshot, EitherSnapshot};
 ghost use Rattle.um_model.specs.declared.layout.Slot.TheVariants.{A};
 ghost use Rattle.um_sector.specs.Refused.{CountsDevice};
+ghost use Rattle.um_sector.specs.Runs.{more};
 
 use crate::header::{Home, header_sector};
 use crate::sectors::write_body_synced;
@@ -20,6 +21,7 @@ fn write_slot<D: Disk>(disk: &mut D, layout: Layout, to: Home, body: &[u8]) -> R
     ensures beside { OnOk result (IsTrue (D.honest disk.old) → MaybeSnapshot layout (seen (D.past disk.old)) to.slot to.generation body.now (seen (D.past disk.new))) }
     ensures settled { OnOk result (IsTrue (D.honest disk.old) → IsSettled (D.past disk.new)) }
     ensures calls { D.calls disk.new ≤ D.calls disk.old + sector_count (length body.now) + 3 }
+    ensures all_calls { OnOk result (D.calls disk.new ≡ more (D.calls disk.old) (sector_count (length body.now) + 3)) }
     ensures failures { CountsDevice result (D.failures disk.old) (D.failures disk.new) }
     ensures lost { IfErr result (λ e. e ≡ Refusal.Device) }
     ensures size { D.size disk.new ≡ D.size disk.old }
@@ -94,7 +96,7 @@ pub fn write_other<D: Disk>(
 /// Where each image has the same sector 0, no image that a crash leaves meanwhile has another. After Ok, where a read gave no
 /// header and no sector of the log before, the body is the newest and the log is free.
 ///
-/// E16 where a disk call fails: it takes no memory. It makes at most three disk calls more than the body has sectors.
+/// E16 where a disk call fails: it takes no memory. It makes at most three disk calls more than the body has sectors, and just so many where it writes it.
 pub fn write_first<D: Disk>(
     disk: &mut D,
     layout: Layout,
@@ -109,6 +111,7 @@ pub fn write_first<D: Disk>(
     ensures long { (result ≡ Ok None) ↔ (body_limit layout < length body.now) }
     ensures unwritten { result ≡ Ok None → disk.new ≡ disk.old }
     ensures calls { D.calls disk.new ≤ D.calls disk.old + sector_count (length body.now) + 3 }
+    ensures all_calls { IfOk result (λ to. IfSome to (λ _. D.calls disk.new ≡ more (D.calls disk.old) (sector_count (length body.now) + 3))) }
     ensures failures { CountsDevice result (D.failures disk.old) (D.failures disk.new) }
     ensures err { IfErr result (λ e. e ≡ Refusal.Device) }
     ensures size { D.size disk.new ≡ D.size disk.old }

@@ -23,7 +23,7 @@ state_with tree loaded boot clock next = record { tree = tree; loaded = loaded; 
 
 -- a state with these tables
 abbrev pub standing_of : State → Bool → Table UnitState → Table UnitJobs → Standing
-standing_of s is_common units pending = record { state = record s { units = units.held; pending = pending.held }; names = common_names is_common units.names }
+standing_of s is_common units pending = record { state = record s { units = units.held; pending = pending.held }; common = is_common; names = common_names is_common units.names }
 
 module _ (s : State) (is_common : Bool) (common : is_common ≡ true) (u v : Table UnitState) (p q : Table UnitJobs) (same : p.names ≡ u.names) (kept : v.names ≡ u.names) where
   all_names : (ns : List (List ℕ)) → common_names is_common ns ≡ ns
@@ -34,14 +34,14 @@ module _ (s : State) (is_common : Bool) (common : is_common ≡ true) (u v : Tab
   row_put r e f =
       let units = e ∙ ap (λ ns. unit_put ns u.held r.number r.unit) (sym (all_names u.names)) in
       let pending = f ∙ ap (λ ns. jobs_put ns p.held r.number r.jobs) (same ∙ sym (all_names u.names)) in
-      λ k. record { state = record s { units = units k; pending = pending k }; names = common_names is_common (kept k) }
+      λ k. record { state = record s { units = units k; pending = pending k }; common = is_common; names = common_names is_common (kept k) }
 
   pub row_back : q.names ≡ p.names → (r : Row) → unit_put v.names v.held r.number r.unit ≡ u.held → jobs_put q.names q.held r.number r.jobs ≡ p.held
       → put_row r (standing_of s is_common v q) ≡ standing_of s is_common u p
   row_back stays r e f =
       let units = ap (λ ns. unit_put ns v.held r.number r.unit) (all_names v.names) ∙ e in
       let pending = ap (λ ns. jobs_put ns q.held r.number r.jobs) (all_names v.names ∙ (kept ∙ (sym same ∙ sym stays))) ∙ f in
-      λ k. record { state = record s { units = units k; pending = pending k }; names = common_names is_common (kept k) }
+      λ k. record { state = record s { units = units k; pending = pending k }; common = is_common; names = common_names is_common (kept k) }
 
 -- the rows of both tables are those of the state
 pub rows_are : (s : State) (is_common : Bool) → is_common ≡ true → (u : Table UnitState) (p : Table UnitJobs) → p.names ≡ u.names → (n : Numbered) → n.names.now ≡ u.names
@@ -50,6 +50,7 @@ pub rows_are : (s : State) (is_common : Bool) → is_common ≡ true → (u : Ta
 rows_are s is_common common u p same n named units units_len sorted jobs jobs_len t seen =
     let all : common_names is_common u.names ≡ u.names = ap (λ b. common_names b u.names) common in
     subst (λ z. AreRowsOf z n) seen (record {
+      common = common;
       names = named ∙ sym all;
       units = ap (λ ns. units_by ns n.units.now) all ∙ units;
       pending = ap (λ ns. jobs_by ns n.jobs.now) (all ∙ sym same) ∙ jobs;
@@ -62,10 +63,9 @@ rows_are s is_common common u p same n named units units_len sorted jobs jobs_le
 pub row_nowhere : (r : Row) (s : Standing) → s.names ≡ [] → put_row r s ≡ s
 row_nowhere r s none =
     let past : length s.names ≤ r.number = let empty : length s.names ≡ 0 = ap length none in omega (arith, empty) in
-    λ k. record {
+    λ k. record s {
       state = record s.state {
         units = put_past dead_unit with_unit units_put s.names s.state.units r.number r.unit past k;
         pending = put_past no_jobs with_jobs jobs_put_well s.names s.state.pending r.number r.jobs past k;
       };
-      names = s.names;
     }

@@ -1,6 +1,6 @@
 -- Rows in work: a row that is set, the rows that differ, and how many they are.
 use Rattle.std.proofs.Common.{◌≡◌, ◌⊎◌, ◌∙◌, ◌+◌, ◌<◌, ◌≤◌, ◌++◌, ◌&&◌, not, ℕ, zero, suc, Bool, true, false, true≢false, cond, List, [], ◌∷◌, length, set, get_or, map, Contains, refl, sym, ap, subst, inl, inr, arith, append-nil}
-use Rattle.std.proofs.lemmas.List.{length-map}
+use Rattle.std.proofs.lemmas.List.{get_or_past, length-map}
 use Rattle.um_model.specs.Jobs.{AreTidyJobs, jobs_of_unit, no_jobs, with_jobs}
 use Rattle.um_model.specs.Least.{IsNamedBefore}
 use Rattle.um_model.specs.Machine.{State}
@@ -97,6 +97,17 @@ pub jobs_row : (v : WorkView) (b : Standing) (us : List UnitState) (js : List Un
 jobs_row v b us js n seen sorted i h =
     subst (λ (w : WorkView). i < length w.now.names → get_or js i no_jobs ≡ jobs_of_unit w.now.state.pending (name_at w.now.names i)) seen
     (λ k. sym (by_at no_jobs with_jobs jobs_put_well b.names js (names_once b.names sorted) i k)) h
+
+-- past the last one it is a dead unit's, and no job's
+pub unit_past : (v : WorkView) (b : Standing) (us : List UnitState) (js : List UnitJobs) (n : ℕ) → record { base = b; now = with_rows b us js n } ≡ v
+    → length us ≡ length b.names → (i : ℕ) → length v.now.names ≤ i → get_or us i dead_unit ≡ dead_unit
+unit_past v b us js n seen l i h =
+    subst (λ (w : WorkView). length w.now.names ≤ i → get_or us i dead_unit ≡ dead_unit) seen (λ k. get_or_past us i dead_unit (omega (arith, l, k))) h
+
+pub jobs_past : (v : WorkView) (b : Standing) (us : List UnitState) (js : List UnitJobs) (n : ℕ) → record { base = b; now = with_rows b us js n } ≡ v
+    → length js ≡ length b.names → (i : ℕ) → length v.now.names ≤ i → get_or js i no_jobs ≡ no_jobs
+jobs_past v b us js n seen l i h =
+    subst (λ (w : WorkView). length w.now.names ≤ i → get_or js i no_jobs ≡ no_jobs) seen (λ k. get_or_past js i no_jobs (omega (arith, l, k))) h
 
 -- ---- the rows that differ
 

@@ -1,7 +1,7 @@
 -- The rows of a state in work, beside the standing that they come from; which rows differ, and how many units that are.
 -- Follows no manual page: numbers of names are this project's own.
 -- Work, what changes by a step, and the count of what a step changes stand on this file.
-use Rattle.std.specs.Prelude.{◌≡◌, ◌↔◌, ℕ, zero, suc, Bool, false, not, ◌&&◌, List, [], ◌∷◌, ◌++◌, length, Contains, slice_index_or, if◌then◌else◌}
+use Rattle.std.specs.Prelude.{◌≡◌, ◌↔◌, ℕ, zero, suc, Bool, true, false, not, ◌&&◌, List, [], ◌∷◌, ◌++◌, length, Contains, slice_index_or, if◌then◌else◌}
 use Rattle.um_model.specs.Jobs.{jobs_of_unit, no_jobs}
 use Rattle.um_model.specs.Machine.{State}
 use Rattle.um_model.specs.Service.{ByUnit, state_of_unit}
@@ -16,8 +16,9 @@ use Rattle.um_state.specs.Tables.{units_by, jobs_by, unit_put, jobs_put}
 use Rattle.um_state.specs.declared.row.Numbered.{Numbered}
 use Rattle.um_state.specs.declared.row.Row.{Row}
 
--- these are the rows of the standing, and the names that they have
+-- these are the rows of the standing, which have common numbers, and the names that they have
 pub record AreRowsOf (s : Standing) (n : Numbered) : Type 0 where
+  pub common : s.common ≡ true
   pub names : n.names.now ≡ s.names
   pub units : units_by s.names n.units.now ≡ s.state.units
   pub pending : jobs_by s.names n.jobs.now ≡ s.state.pending
@@ -32,7 +33,7 @@ pub record WorkView : Type 0 where
 
 -- a standing with these units, pending jobs and next number
 abbrev pub with_maps : Standing → ByUnit UnitState → ByUnit UnitJobs → ℕ → Standing
-with_maps s units pending next = record { state = record s.state { units = units; pending = pending; next = next }; names = s.names }
+with_maps s units pending next = record s { state = record s.state { units = units; pending = pending; next = next } }
 
 -- with these rows
 abbrev pub with_rows : Standing → List UnitState → List UnitJobs → ℕ → Standing
@@ -40,15 +41,15 @@ with_rows s units jobs next = with_maps s (units_by s.names units) (jobs_by s.na
 
 -- with the unit of this number so; past the last name nothing is set
 abbrev pub unit_set : Standing → ℕ → UnitState → Standing
-unit_set s i u = record { state = record s.state { units = unit_put s.names s.state.units i u }; names = s.names }
+unit_set s i u = record s { state = record s.state { units = unit_put s.names s.state.units i u } }
 
 -- with these jobs of the unit of this number; past the last name nothing is set
 abbrev pub jobs_set : Standing → ℕ → UnitJobs → Standing
-jobs_set s i j = record { state = record s.state { pending = jobs_put s.names s.state.pending i j }; names = s.names }
+jobs_set s i j = record s { state = record s.state { pending = jobs_put s.names s.state.pending i j } }
 
 -- with this next number
 abbrev pub next_set : Standing → ℕ → Standing
-next_set s next = record { state = record s.state { next = next }; names = s.names }
+next_set s next = record s { state = record s.state { next = next } }
 
 -- the items from a number on, as many, whose number passes
 abbrev pub picked : {X : Type 0} → (ℕ → Bool) → (ℕ → X) → ℕ → ℕ → List X

@@ -48,6 +48,13 @@ impl Delta {
         self.rows.len()
     }
 
+    /// The rows that differ.
+    pub fn rows(&self) -> &[Row]
+        ensures { result.now ≡ self.now.rows.items }
+    {
+        self.rows.as_slice()
+    }
+
     /// Exchanges the delta for what the state has in its place: that is the way back. It takes no memory, and always succeeds.
     pub fn swap(&mut self, state: &mut State)
         ensures state { state.new ≡ delta_after self.old state.old }

@@ -1,4 +1,4 @@
-ghost use Rattle.std.specs.Prelude.{◌≡◌, ◌↔◌, ℕ, List, true, Contains, string_bytes, IsTrue, IfOk, IfSome, OnOk, OnErr, IfErr, Ok, Err};
+ghost use Rattle.std.specs.Prelude.{◌≡◌, ◌↔◌, ℕ, List, true, is_some, Contains, string_bytes, IsTrue, IfOk, IfSome, OnOk, OnErr, IfErr, Ok, Err};
 ghost use Rattle.std.specs.Coded.{codes};
 ghost use Rattle.std.specs.FinMap as maps;
 ghost use Rattle.um_model.specs.Machine.{IsHeld, booted, empty_state};
@@ -7,8 +7,8 @@ ghost use Rattle.um_model.specs.Standing.{Standing};
 ghost use Rattle.um_model.specs.Jobs.{with_jobs};
 ghost use Rattle.um_model.specs.Tree.{put_file, put_link, remove_at};
 ghost use Rattle.um_name.specs.Names.{IsApart};
-ghost use Rattle.um_state.specs.Rows.{common_names, put_row, timed};
-ghost use Rattle.um_state.specs.Working.{AreRowsOf};
+ghost use Rattle.um_state.specs.Rows.{HasSameNumbers, common_names, put_row, timed};
+ghost use Rattle.um_state.specs.Working.{AreRowsOf, next_set};
 ghost use Rattle.um_tree.specs.Code.{tree_code};
 ghost use Rattle.um_wire.specs.Refusal.{refused_of};
 ghost use Rattle.um_wire.specs.declared.refusal.Refusal.TheVariants.{NoMemory};
@@ -33,7 +33,7 @@ pub struct State {
     pub(crate) next: NextNumber,
     pub(crate) units: Units,
     pub(crate) pending: Pending,
-    /// Whether units and pending jobs stand under the same names.
+    /// Whether units and pending jobs stand under the same names, and so have common numbers.
     pub(crate) is_common: bool,
 }
 
@@ -52,6 +52,7 @@ impl Model for State {
         units = s.units.held;
         pending = s.pending.held;
       };
+      common = s.is_common;
       names = common_names s.is_common s.units.names;
     } };
 
@@ -169,6 +170,7 @@ impl State {
         ensures rest { OnOk result (state_of self.new ≡ record (state_of self.old) { tree = (state_of self.new).tree }) }
         ensures err { OnErr result (state_of self.new ≡ state_of self.old) }
         ensures refused { IfErr result (λ e. ¬ (e ≡ NoMemory) → put_file (state_of self.old).tree path.now text.now ≡ Err (refused_of e)) }
+        ensures numbers { HasSameNumbers self.old self.new }
     {
         self.tree.put(path, text)
     }
@@ -179,6 +181,7 @@ impl State {
         ensures rest { OnOk result (state_of self.new ≡ record (state_of self.old) { tree = (state_of self.new).tree }) }
         ensures err { OnErr result (state_of self.new ≡ state_of self.old) }
         ensures refused { IfErr result (λ e. ¬ (e ≡ NoMemory) → put_link (state_of self.old).tree path.now target.now ≡ Err (refused_of e)) }
+        ensures numbers { HasSameNumbers self.old self.new }
     {
         self.tree.link(path, target)
     }
@@ -189,6 +192,7 @@ impl State {
         ensures rest { OnOk result (state_of self.new ≡ record (state_of self.old) { tree = (state_of self.new).tree }) }
         ensures err { OnErr result (state_of self.new ≡ state_of self.old) }
         ensures refused { IfErr result (λ e. ¬ (e ≡ NoMemory) → remove_at (state_of self.old).tree path.now ≡ Err (refused_of e)) }
+        ensures numbers { HasSameNumbers self.old self.new }
     {
         self.tree.remove(path)
     }
@@ -197,6 +201,7 @@ impl State {
     pub fn reload(&mut self) -> Result<(), AllocError>
         ensures ok { OnOk result (state_of self.new ≡ record (state_of self.old) { loaded = (state_of self.old).tree }) }
         ensures err { OnErr result (state_of self.new ≡ state_of self.old) }
+        ensures numbers { HasSameNumbers self.old self.new }
     {
         self.loaded = self.tree.copy()?;
         Ok(())
@@ -206,6 +211,7 @@ impl State {
     pub fn load_tree(&mut self, tree: Tree) -> Result<(), AllocError>
         ensures ok { OnOk result (state_of self.new ≡ record (state_of self.old) { tree = tree; loaded = tree }) }
         ensures err { OnErr result (state_of self.new ≡ state_of self.old) }
+        ensures numbers { HasSameNumbers self.old self.new }
     {
         let tree = SharedTree::of(self.alloc(), tree)?;
         self.loaded = tree.copy()?;
@@ -213,10 +219,11 @@ impl State {
         Ok(())
     }
 
-    /// Sets how a unit stands. Where memory is refused, all is as before.
+    /// Sets how a unit stands. The numbers stay where the unit has one. Where memory is refused, all is as before.
     pub fn set_unit(&mut self, unit: &UnitName, state: UnitState) -> Result<(), AllocError>
         ensures ok { OnOk result (state_of self.new ≡ record (state_of self.old) { units = with_unit (state_of self.old).units unit.now state }) }
-        ensures err { OnErr result (state_of self.new ≡ state_of self.old) }
+        ensures numbers { OnOk result (Contains self.old.names unit.now → HasSameNumbers self.old self.new) }
+        ensures err { OnErr result (self.new ≡ self.old) }
     {
         match self.units.numbers().number(unit) {
             Some(i) => {
@@ -231,10 +238,11 @@ impl State {
         Ok(())
     }
 
-    /// Sets the pending jobs of a unit. Where memory is refused, all is as before.
+    /// Sets the pending jobs of a unit. The numbers stay where the unit has one. Where memory is refused, all is as before.
     pub fn set_jobs(&mut self, unit: &UnitName, jobs: UnitJobs) -> Result<(), AllocError>
         ensures ok { OnOk result (state_of self.new ≡ record (state_of self.old) { pending = with_jobs (state_of self.old).pending unit.now jobs }) }
-        ensures err { OnErr result (state_of self.new ≡ state_of self.old) }
+        ensures numbers { OnOk result (Contains self.old.names unit.now → HasSameNumbers self.old self.new) }
+        ensures err { OnErr result (self.new ≡ self.old) }
     {
         match self.pending.numbers().number(unit) {
             Some(i) => {
@@ -249,24 +257,16 @@ impl State {
         Ok(())
     }
 
-    /// Sets the pending jobs, in the place of those that were.
-    pub fn set_pending(&mut self, pending: Pending)
-        ensures { state_of self.new ≡ record (state_of self.old) { pending = pending.held } }
-    {
-        self.pending = pending;
-        self.is_common = false;
-    }
-
     /// Sets the next process number.
     pub fn set_next(&mut self, next: NextNumber)
-        ensures { state_of self.new ≡ record (state_of self.old) { next = next } }
+        ensures { self.new ≡ next_set self.old next }
     {
         self.next = next;
     }
 
     /// Sets the moment of the last step.
     pub fn set_clock(&mut self, clock: Moment)
-        ensures { state_of self.new ≡ record (state_of self.old) { clock = clock } }
+        ensures { self.new ≡ record self.old { state = record (state_of self.old) { clock = clock } } }
     {
         self.clock = clock;
     }
@@ -275,8 +275,8 @@ impl State {
     pub fn set_times(&mut self, clock: Moment, next: NextNumber)
         ensures { self.new ≡ timed clock next self.old }
     {
-        self.clock = clock;
-        self.next = next;
+        self.set_clock(clock);
+        self.set_next(next);
     }
 
     /// Another boot begins: nothing is held of any unit, and what stood under `run/` is gone from both trees. It takes no memory.
@@ -309,6 +309,7 @@ impl State {
 
     /// Numbers units and pending jobs by these names, of which each unit has one of which anything is held. Where memory is refused, all is as before.
     pub fn number(&mut self, names: &Names) -> Result<(), AllocError>
+        ensures common { OnOk result (self.new.common ≡ true) }
         ensures names { OnOk result (self.new.names ≡ names.now) }
         ensures state { OnOk result (((x : List ℕ) → IsApart names.now x → ¬ IsHeld (state_of self.old) x) → state_of self.new ≡ state_of self.old) }
         ensures err { OnErr result (self.new ≡ self.old) }
@@ -320,9 +321,10 @@ impl State {
         Ok(())
     }
 
-    /// The rows of units and pending jobs, with the names that they have. None where these have no common numbers.
+    /// The rows of units and pending jobs, with the names that they have. None exactly where these have no common numbers.
     pub fn numbered(&self) -> Option<Numbered<'_>>
-        ensures { IfSome result (AreRowsOf self.now) }
+        ensures common { is_some result ≡ self.now.common }
+        ensures rows { IfSome result (AreRowsOf self.now) }
     {
         if !self.is_common {
             return None;

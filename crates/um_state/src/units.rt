@@ -17,7 +17,7 @@ ghost use Rattle.um_state.specs.Shown.{job_of};
 ghost use Rattle.um_state.specs.Tables.{jobs_by, jobs_put, unit_put, units_by};
 
 use crate::awaited::Awaited;
-use crate::finder::{Finder, row_in};
+use crate::finder::Finder;
 use crate::maps::{hold, hold_jobs, push_keys};
 use crate::named::names_with;
 use crate::reply::JobShown;
@@ -183,13 +183,6 @@ impl Units {
         ensures ascending { AreAscending self.now.names }
     {
         self.states.as_slice()
-    }
-
-    /// How the unit with this number stands; past the last one a dead unit. It takes no memory.
-    pub fn at(&self, i: usize) -> UnitState
-        ensures { i < length self.now.names → result ≡ state_of_unit self.now.held (name_at self.now.names i) }
-    {
-        row_in(&self.states, i)
     }
 
     /// Exchanges how the unit with this number stands with what is given; past the last one nothing changes. It takes no memory.
@@ -368,18 +361,6 @@ impl Pending {
             names: Names::new(),
             jobs: Vec::new(alloc),
         }
-    }
-
-    /// The jobs of these rows, each of the unit with its number; none where there are more or fewer than names.
-    pub fn of(alloc: Global, names: &Names, jobs: Vec<UnitJobs>) -> Result<Pending, AllocError>
-        ensures names { vec_len jobs ≡ length names.now → IfOk result (λ p. p.names ≡ names.now) }
-        ensures held { vec_len jobs ≡ length names.now → IfOk result (λ p. p.held ≡ jobs_by names.now jobs.items) }
-    {
-        if jobs.len() != names.len() {
-            return Ok(Pending::new(alloc));
-        }
-        let names = names.copy()?;
-        Ok(Pending { alloc, names, jobs })
     }
 
     /// The jobs of the map, by these names.

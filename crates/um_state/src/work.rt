@@ -1,10 +1,10 @@
 //! Rows in work, from those of a state, and which of them differ by now.
 
-ghost use Rattle.std.specs.Prelude.{◌≡◌, ◌<◌, ◌++◌, ◌∷◌, ◌&&◌, [], ℕ, List, length, vec_len, not, IfOk, IfSome, MatchOption, OnOk, if◌then◌else◌};
+ghost use Rattle.std.specs.Prelude.{◌≡◌, ◌<◌, ◌≤◌, ◌++◌, ◌∷◌, ◌&&◌, [], ℕ, List, length, vec_len, not, is_some, IfOk, IfSome, MatchOption, OnOk, if◌then◌else◌};
 ghost use Rattle.std.specs.Coded.{codes};
 ghost use Rattle.std.specs.FinMap as maps;
-ghost use Rattle.um_model.specs.Jobs.{AreTidyJobs, jobs_of_unit};
-ghost use Rattle.um_model.specs.Service.{AreTidyUnits, state_of_unit};
+ghost use Rattle.um_model.specs.Jobs.{AreTidyJobs, jobs_of_unit, no_jobs};
+ghost use Rattle.um_model.specs.Service.{AreTidyUnits, dead_unit, state_of_unit};
 ghost use Rattle.um_name.specs.Names.{HasPlace, IsApart, name_at};
 ghost use Rattle.um_state.specs.Finding.{row_at};
 ghost use Rattle.um_state.specs.Rows.{rows_after, timed};
@@ -107,8 +107,9 @@ fn changed_rows(
 }
 
 impl<'s> Work<'s> {
-    /// The rows of the state. None where its units and pending jobs have no common numbers.
+    /// The rows of the state. None exactly where its units and pending jobs have no common numbers.
     pub fn of(alloc: Global, base: &'s State) -> Result<Option<Work<'s>>, AllocError>
+        ensures common { IfOk result (λ made. is_some made ≡ base.now.common) }
         ensures base { IfOk result (λ made. IfSome made (λ w. w.base ≡ base.now)) }
         ensures now { IfOk result (λ made. IfSome made (λ w. w.now ≡ base.now)) }
     {
@@ -136,6 +137,7 @@ impl<'s> Work<'s> {
     /// How the unit with this number stands; past the last one it is dead. It takes no memory.
     pub fn unit(&self, i: usize) -> UnitState
         ensures state { i < length self.now.now.names → result ≡ state_of_unit (state_of self.now.now).units (name_at self.now.now.names i) }
+        ensures past { length self.now.now.names ≤ i → result ≡ dead_unit }
         ensures tidy { AreTidyUnits (state_of self.now.now).units }
     {
         self.units.at(i)
@@ -144,6 +146,7 @@ impl<'s> Work<'s> {
     /// The pending jobs of the unit with this number; past the last one there are none. It takes no memory.
     pub fn jobs(&self, i: usize) -> UnitJobs
         ensures jobs { i < length self.now.now.names → result ≡ jobs_of_unit (state_of self.now.now).pending (name_at self.now.now.names i) }
+        ensures past { length self.now.now.names ≤ i → result ≡ no_jobs }
         ensures tidy { AreTidyJobs (state_of self.now.now).pending }
     {
         jobs_in_row(&self.jobs, i)

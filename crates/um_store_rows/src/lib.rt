@@ -40,3 +40,5 @@ mod state;
 mod submitting;
 #[cfg(test)]
 mod timer;
+#[cfg(test)]
+mod uncounted;

@@ -259,6 +259,40 @@ fn a_list_goes_over_the_end_of_the_log(rt: HostRuntime) {
     same!(&rt, files_on(&rt, disk), 3);
 }
 
+/// Ten ticks without effect, with a file to put among them.
+const IDLE: &[Coming] = &[
+    Coming::Tick(1),
+    Coming::Tick(2),
+    Coming::Tick(3),
+    Coming::Tick(4),
+    Coming::Tick(5),
+    Coming::Put(B),
+    Coming::Tick(6),
+    Coming::Tick(7),
+    Coming::Tick(8),
+    Coming::Tick(9),
+    Coming::Tick(10),
+];
+
+/// What they are answered.
+const IDLE_DONE: &str = "done; done; done; done; done; done; done; done; done; done; done; ";
+
+#[test]
+fn inputs_without_effect_take_no_room_in_the_log(rt: HostRuntime) {
+    let before = disk_of(nearly_full(&rt));
+    let mut keeper = nearly_full(&rt);
+    is_answered(&rt, &mut keeper, IDLE, IDLE_DONE);
+    let disk = disk_of(keeper);
+    // the record and a sync, and no snapshot
+    same!(&rt, Some(disk.calls()), before.calls().checked_add(2));
+    let mut disk = disk.into_inner();
+    let syncs = before.into_inner().syncs().checked_add(1);
+    same!(&rt, Some(disk.syncs()), syncs);
+    is_written_as(&rt, &mut disk, 640, (2, 1, 255));
+    is_written_as(&rt, &mut disk, 129, (2, 0, 0));
+    same!(&rt, files_on(&rt, disk), 2);
+}
+
 /// Whether both sectors of a record from that one on were written.
 fn are_set(picks: &[usize], from: usize) -> bool {
     picks.get(from) == Some(&1) && picks.get(from + 1) == Some(&1)

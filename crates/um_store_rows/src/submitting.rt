@@ -110,6 +110,8 @@ fn finds(
     let wanted = OpenedStore {
         generation,
         records,
+        cut_off: None,
+        damaged: None,
     };
     same!(rt, again.opened(), wanted);
     same!(rt, files_in(&again), 2);

@@ -14,7 +14,7 @@ ghost use Rattle.um_unit.specs.View.{loading_of};
 
 use crate::walk::{Marks, Walk};
 use std::alloc::{AllocError, Global};
-use um_graph::{Graph, Neighbour};
+use um_graph::{Graph, Neighbour, loadable};
 use um_model::{ActiveState, Demand, DependencyKind};
 use um_unit::Loading;
 
@@ -141,10 +141,7 @@ pub fn marks_of(marks: &[Marks], unit: usize) -> Marks
 fn can_load(loading: &Loading) -> bool
     ensures { result ≡ is_some (loadable_of (loading_of loading.now)) }
 {
-    match loading {
-        Loading::Found(found) => !found.name.is_template(),
-        _ => false,
-    }
+    loadable(loading).is_some()
 }
 
 /// Whether the unit with this number can be loaded.

@@ -206,6 +206,7 @@ impl<'t> Transaction<'t> {
         ensures long { length self.now.plan ≡ length self.now.graph.names }
         ensures planned { (name : List ℕ) → IsNumberOf self.now.graph self.now.root.1 name
             → IsPlan (scene_in self.now) (self.now.root.0, name) (jobs_by self.now.graph.names self.now.plan) }
+        ensures past { length self.now.graph.names ≤ self.now.root.1 → (u : ℕ) → u < length self.now.graph.names → jobs_at self.now.plan u ≡ jobs_at self.now.pending u }
     {
         &self.plan
     }

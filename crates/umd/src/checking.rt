@@ -1,7 +1,7 @@
 //! `umd check`: what a store that nobody serves stands for, or why it can't be opened.
 
 use crate::lines::put_line;
-use crate::messages::{DEVICE, REFUSED, put_text};
+use crate::messages::{DEVICE, REFUSED, put_text, tell_uncounted};
 use crate::places::open_read_only;
 use serde_json::Value;
 use std::alloc::Global;
@@ -10,12 +10,12 @@ use std::time::Clock;
 use um_ctl::told_of;
 use um_engine::Engine;
 use um_filedisk::FileFault;
-use um_keeper::{inspect, look};
+use um_keeper::{Summary, inspect, look};
 use um_line::CheckLine;
 use um_memory::Fault;
 use um_proto::{Verb, write_reply};
 use um_sector::Disk;
-use um_state::Query;
+use um_state::{Query, State};
 use um_wire::Refusal;
 
 /// The text of the reply to a query.
@@ -46,9 +46,15 @@ fn units_and_jobs(alloc: Global, engine: &Engine) -> Result<String, Refusal> {
     Ok(text)
 }
 
-/// What `umd ctl` prints of the units and of the jobs of the state that the store stands for.
-fn units_text<D: Disk>(alloc: Global, disk: &mut D) -> Result<String, Refusal> {
-    let (_, state) = look(alloc, disk)?;
+/// What is told of a store: the text on standard output, and the summary that says what doesn't count.
+#[derive(Drop)]
+struct Told {
+    text: String,
+    summary: Summary,
+}
+
+/// What `umd ctl` prints of the units and of the jobs of a state.
+fn units_text(alloc: Global, state: State) -> Result<String, Refusal> {
     // a state that its store holds has room in the greatest one
     let Some(engine) = Engine::of(alloc, state, u64::MAX)? else {
         return Ok(String::new(alloc));
@@ -58,15 +64,32 @@ fn units_text<D: Disk>(alloc: Global, disk: &mut D) -> Result<String, Refusal> {
     told
 }
 
-/// What the store stands for, in short.
-fn summary_text<D: Disk>(alloc: Global, disk: &mut D) -> Result<String, Refusal> {
-    let summary = inspect(alloc, disk)?;
+/// The units and the jobs of the state that the store stands for.
+fn look_at_units<D: Disk>(alloc: Global, disk: &mut D) -> Result<Told, Refusal> {
+    let (summary, state) = look(alloc, disk)?;
+    Ok(Told {
+        text: units_text(alloc, state)?,
+        summary,
+    })
+}
+
+/// What a summary says, in short.
+fn summary_text(alloc: Global, summary: &Summary) -> Result<String, Refusal> {
     let (generation, records) = (summary.generation, summary.records);
     let (clock, next) = (summary.clock.micros(), summary.next.get());
     let text = format!(in alloc;
         "generation {generation} records {records} clock {clock} next {next}\n"
     )?;
     Ok(text)
+}
+
+/// What the store stands for, in short.
+fn look_in_short<D: Disk>(alloc: Global, disk: &mut D) -> Result<Told, Refusal> {
+    let summary = inspect(alloc, disk)?;
+    Ok(Told {
+        text: summary_text(alloc, &summary)?,
+        summary,
+    })
 }
 
 /// Says why the store can't be opened, and gives the exit status.
@@ -92,27 +115,30 @@ fn unread<R: Eprint>(rt: &R, alloc: Global, path: &str, fault: &FileFault) -> u8
 }
 
 /// What is told of the store that a disk holds, for these words.
-fn text_of<D: Disk + Drop>(
+fn told_of_disk<D: Disk + Drop>(
     alloc: Global,
     disk: D,
     line: &CheckLine<'_>,
-) -> Result<String, Refusal> {
+) -> Result<Told, Refusal> {
     let mut disk = disk;
     if line.units {
-        units_text(alloc, &mut disk)
+        look_at_units(alloc, &mut disk)
     } else {
-        summary_text(alloc, &mut disk)
+        look_in_short(alloc, &mut disk)
     }
 }
 
-/// Puts out what is told, or says why the store can't be opened.
+/// Puts out what is told, with what doesn't count on standard error, or says why the store can't be opened.
 fn tell<R: Print + Eprint>(
     rt: &R,
     alloc: Global,
-    text: &Result<String, Refusal>,
+    told: &Result<Told, Refusal>,
 ) -> Result<u8, Fault> {
-    match text {
-        Ok(text) => put_text(rt, text.as_str()),
+    match told {
+        Ok(told) => {
+            tell_uncounted(rt, told.summary.cut_off, told.summary.damaged);
+            put_text(rt, told.text.as_str())
+        }
         Err(refusal) => Ok(refuses(rt, alloc, refusal)),
     }
 }
@@ -123,7 +149,7 @@ where
     R: Files<File = File> + Print + Eprint + Clock,
 {
     match open_read_only(rt, line.file) {
-        Ok(disk) => tell(rt, alloc, &text_of(alloc, disk, line)),
+        Ok(disk) => tell(rt, alloc, &told_of_disk(alloc, disk, line)),
         Err(fault) => Ok(unread(rt, alloc, line.file, &fault)),
     }
 }

@@ -3,7 +3,7 @@
 use mio::unix::SourceFd;
 use mio::{Events, Interest, Poll, Token};
 use std::alloc::{AllocError, Global};
-use std::cell::Cell;
+use std::cell::{Cell, RefCell};
 use std::fmt::Display;
 use std::io;
 use std::io::ErrorKind;
@@ -42,16 +42,43 @@ fn cut(line: &str) -> &str {
     line
 }
 
-/// Whether standard error takes a line at once. A file always does, and no event tells it.
-fn takes_line<R: Net>(rt: &R, alloc: Global) -> bool {
-    let (Ok(mut poll), Ok(mut events)) = (Poll::new(rt), Events::with_capacity(alloc, 1)) else {
-        return false;
-    };
-    let mut source = SourceFd(&STANDARD_ERROR);
-    let asked = poll
-        .registry()
-        .register(&mut source, Token(0), Interest::WRITABLE);
-    asked.is_err() || (poll.poll(&mut events, Some(Duration::ZERO)).is_ok() && !events.is_empty())
+/// How it is known whether standard error takes a line at once.
+#[derive(Drop)]
+enum Readiness {
+    /// It is a file: it always does, and no event tells it.
+    Always,
+    /// It is asked, over a poll that was made at the start, since later there may be no descriptor for one.
+    Asked { poll: Poll, events: Events },
+    /// Even at the start there was no descriptor for a poll, or no memory.
+    Unknown,
+}
+
+impl Readiness {
+    fn new<R: Net>(rt: &R, alloc: Global) -> Readiness {
+        let (Ok(poll), Ok(events)) = (Poll::new(rt), Events::with_capacity(alloc, 1)) else {
+            return Readiness::Unknown;
+        };
+        let mut source = SourceFd(&STANDARD_ERROR);
+        match poll
+            .registry()
+            .register(&mut source, Token(0), Interest::WRITABLE)
+        {
+            Ok(()) => Readiness::Asked { poll, events },
+            Err(_) => Readiness::Always,
+        }
+    }
+
+    /// Whether standard error takes a line now. It is asked anew for each line, since an event tells that it takes one only once.
+    fn takes_line(&mut self) -> bool {
+        let Readiness::Asked { poll, events } = self else {
+            return matches!(self, Readiness::Always);
+        };
+        let mut source = SourceFd(&STANDARD_ERROR);
+        let asked = poll
+            .registry()
+            .reregister(&mut source, Token(0), Interest::WRITABLE);
+        asked.is_ok() && poll.poll(events, Some(Duration::ZERO)).is_ok() && !events.is_empty()
+    }
 }
 
 /// Standard error of a manager that serves. A line that it doesn't take at once is dropped, and the next one that goes out says how many were.
@@ -59,6 +86,7 @@ fn takes_line<R: Net>(rt: &R, alloc: Global) -> bool {
 pub struct Lines<'a, R> {
     rt: &'a R,
     alloc: Global,
+    readiness: RefCell<Readiness>,
     dropped: Cell<u64>,
 }
 
@@ -68,13 +96,21 @@ impl<'a, R: Net + Eprint> Lines<'a, R> {
         Lines {
             rt,
             alloc,
+            readiness: RefCell::new(Readiness::new(rt, alloc)),
             dropped: Cell::new(0),
+        }
+    }
+
+    fn takes_line(&self) -> bool {
+        match self.readiness.try_borrow_mut() {
+            Ok(mut readiness) => readiness.takes_line(),
+            Err(_) => false,
         }
     }
 
     /// Puts the line, where it is taken at once.
     fn put(&self, line: &str) -> io::Result<()> {
-        if !takes_line(self.rt, self.alloc) {
+        if !self.takes_line() {
             return Err(io::Error::from(ErrorKind::WouldBlock));
         }
         let line = cut(line);

@@ -6,7 +6,9 @@ mod checking;
 mod lines;
 mod messages;
 mod places;
+mod repeats;
 mod serving;
+mod starting;
 mod telling;
 mod um_bin;
 
@@ -16,17 +18,17 @@ use serving::serve_store;
 use std::alloc::{AllocError, Global};
 use std::env::Env;
 use std::fs::{File, Files};
-use std::io::ErrorKind;
+use std::io::{ErrorKind, IsTerminal};
 use std::net::Net;
 use std::process::{ExitCode, Processes};
 use std::time::Clock;
 use std::{env, io};
 use um_bin::{memory, read_line};
 use um_create::{Layout, create_store};
-use um_ctl::{Told, Words, ask, meaning_line, shown};
+use um_ctl::{Patience, Told, Words, ask, meaning_line, on_terminal, shown};
 use um_line::{CreateLine, CtlLine, Line};
 use um_memory::{Ending, Fault};
-use um_runner::{Folder, FolderFault, RunnerLine};
+use um_runner::{FolderFault, RunnerLine};
 
 fn serve_memory<R: Input + Print>(rt: &R, alloc: Global) -> Result<u8, Fault> {
     let mut input = rt.reader();
@@ -38,23 +40,13 @@ fn serve_memory<R: Input + Print>(rt: &R, alloc: Global) -> Result<u8, Fault> {
     }
 }
 
-/// Runs a command, and notes in a folder what becomes of it.
-fn run_in_folder<R: Files + Processes + Clock>(
-    rt: &R,
-    alloc: Global,
-    line: &RunnerLine<'_>,
-) -> Result<(), FolderFault> {
-    let mut folder = Folder::of(rt, alloc, line.folder, line.number);
-    um_runner::run(&mut folder, &line.job)
-}
-
-/// Runs a command for the manager.
+/// Runs a command for the manager, and notes in a folder what becomes of it.
 fn run_runner<R: Files + Processes + Clock + Eprint>(
     rt: &R,
     alloc: Global,
     line: &RunnerLine<'_>,
 ) -> Result<u8, Fault> {
-    match run_in_folder(rt, alloc, line) {
+    match um_runner::run_line(rt, alloc, line) {
         Ok(()) => Ok(0),
         Err(FolderFault::NoMemory) => Err(Fault::NoMemory),
         Err(FolderFault::System(e)) => {
@@ -71,7 +63,10 @@ fn create<R: Files<File = File> + Eprint>(rt: &R, alloc: Global, line: &CreateLi
         return USAGE;
     };
     match create_store(rt, alloc, layout, line.file) {
-        Ok(()) => 0,
+        Ok(disk) => {
+            drop(disk);
+            0
+        }
         Err(fault) => {
             tell_create(rt, alloc, &fault, line.file);
             fault.status()
@@ -79,32 +74,52 @@ fn create<R: Files<File = File> + Eprint>(rt: &R, alloc: Global, line: &CreateLi
     }
 }
 
+/// Puts out a text of JSON; on a terminal without what could mislead it.
+fn put_json<R: Print>(rt: &R, alloc: Global, text: &str, is_terminal: bool) -> Result<u8, Fault> {
+    if is_terminal {
+        put_text(rt, on_terminal(alloc, text)?.as_str())
+    } else {
+        put_text(rt, text)
+    }
+}
+
 /// Puts out what a reply tells.
-fn tell<R: Print + Eprint>(rt: &R, told: &Told) -> Result<u8, Fault> {
+fn tell<R: Print + Eprint>(
+    rt: &R,
+    alloc: Global,
+    told: &Told,
+    is_terminal: bool,
+) -> Result<u8, Fault> {
     let Told {
         output,
         error,
         status,
     } = told;
-    match print!(rt; "{output}").and(eprint!(rt; "{error}")) {
+    put_json(rt, alloc, output.as_str(), is_terminal)?;
+    match eprint!(rt; "{error}") {
         Ok(()) => Ok(*status),
         Err(e) => Err(Fault::Write(e)),
     }
 }
 
 /// Asks the manager at a socket.
-fn ctl<R: Net + Input + Print + Eprint>(
+fn ctl<R: Net + Clock + Input + Print + Eprint>(
     rt: &R,
     alloc: Global,
     line: &CtlLine<'_>,
+    is_terminal: bool,
 ) -> Result<u8, Fault> {
     let words = Words {
         verb: line.verb,
         arguments: line.arguments.as_slice(),
         mode: line.mode,
     };
-    match ask(rt, alloc, line.socket, &words, &mut rt.reader()) {
-        Ok(told) => tell(rt, &told),
+    let patience = Patience {
+        retry: line.retry,
+        timeout: line.timeout,
+    };
+    match ask(rt, alloc, line.socket, &words, patience, &mut rt.reader()) {
+        Ok(told) => tell(rt, alloc, &told, is_terminal),
         Err(fault) => {
             ctl_fault(rt, alloc, &fault, line);
             Ok(fault.status())
@@ -172,7 +187,7 @@ fn put_refusal<R: Eprint>(rt: &R) -> u8 {
     REFUSED
 }
 
-fn run_line<R>(rt: &R, alloc: Global, line: &Line<'_>) -> Result<u8, Fault>
+fn run_line<R>(rt: &R, alloc: Global, line: &Line<'_>, is_terminal: bool) -> Result<u8, Fault>
 where
     R: Input + Print + Eprint + Files<File = File> + Net + Processes + Clock,
 {
@@ -181,7 +196,7 @@ where
         Line::Run(line) => run_runner(rt, alloc, line),
         Line::Create(line) => Ok(create(rt, alloc, line)),
         Line::Check(line) => check(rt, alloc, line),
-        Line::Ctl(line) => ctl(rt, alloc, line),
+        Line::Ctl(line) => ctl(rt, alloc, line, is_terminal),
         Line::Serve(line) => Ok(serve_store(rt, alloc, line)),
         Line::Help(number) => explain(rt, alloc, *number),
         Line::LongBoot => Ok(put_refusal(rt)),
@@ -191,16 +206,16 @@ where
 }
 
 /// Reads the words, and does what they ask for.
-fn run_words<R>(rt: &R, alloc: Global, words: &[String]) -> Result<u8, Fault>
+fn run_words<R>(rt: &R, alloc: Global, words: &[String], is_terminal: bool) -> Result<u8, Fault>
 where
     R: Input + Print + Eprint + Files<File = File> + Net + Processes + Clock,
 {
     let line = read(alloc, words)?;
-    run_line(rt, alloc, &line)
+    run_line(rt, alloc, &line, is_terminal)
 }
 
-/// Runs the program, and gives its exit status.
-fn run<R>(rt: &R) -> Result<u8, Fault>
+/// Runs the program, whose standard output is a terminal or not, and gives its exit status.
+fn run<R>(rt: &R, is_terminal: bool) -> Result<u8, Fault>
 where
     R: AllocGlobal + Env + Input + Print + Eprint + Files<File = File> + Net + Processes + Clock,
 {
@@ -209,7 +224,7 @@ where
     match env::args(rt) {
         Ok(args) => {
             let words: Vec<String> = args.collect(alloc)?;
-            run_words(rt, alloc, words.as_slice())
+            run_words(rt, alloc, words.as_slice(), is_terminal)
         }
         Err(e) => match e.kind() {
             ErrorKind::OutOfMemory => Err(Fault::NoMemory),
@@ -219,7 +234,8 @@ where
 }
 
 fn main(rt: HostRuntime) -> ExitCode {
-    let status = match run(&rt) {
+    let is_terminal = rt.stdout().is_terminal();
+    let status = match run(&rt, is_terminal) {
         Ok(status) => status,
         Err(fault) => {
             report(&rt, &fault);

@@ -4,6 +4,7 @@ use crate::lines::put_line;
 use std::alloc::Global;
 use um_create::CreateFault;
 use um_ctl::{CtlFault, meaning};
+use um_keeper::Uncounted;
 use um_line::CtlLine;
 use um_memory::Fault;
 use um_wire::Refusal;
@@ -42,6 +43,20 @@ pub fn put_text<R: Print>(rt: &R, text: &str) -> Result<u8, Fault> {
     }
 }
 
+/// Says of a store which whole records don't count, and which sector shows why.
+pub fn tell_uncounted<R: Eprint>(rt: &R, cut_off: Option<Uncounted>, damaged: Option<Uncounted>) {
+    if let Some(Uncounted { sector, records }) = cut_off {
+        let _unheard = eprintln!(rt;
+            "umd: sector {sector} is damaged, or a crash cut it off: {records} whole records behind it don't count"
+        );
+    }
+    if let Some(Uncounted { sector, records }) = damaged {
+        let _unheard = eprintln!(rt;
+            "umd: sector {sector} is damaged: no header can be read there: {records} whole records of later generations don't count"
+        );
+    }
+}
+
 /// Says why no store was made.
 pub fn tell_create<R: Eprint>(rt: &R, alloc: Global, fault: &CreateFault, path: &str) {
     match fault {
@@ -74,6 +89,18 @@ pub fn ctl_fault<R: Eprint>(rt: &R, alloc: Global, fault: &CtlFault, line: &CtlL
         CtlFault::TooLarge => put_line(rt, alloc, "E13 TooLarge text"),
         CtlFault::NoText => put_line(rt, alloc, "error: the text of the file isn't UTF-8"),
         CtlFault::NoConnection(e) => put_line(rt, alloc, format_args!("umd: {socket}: {e}")),
+        CtlFault::Unread => put_line(
+            rt,
+            alloc,
+            format_args!(
+                "umd: {socket}: the connection was closed unread: the manager has 64 clients, or it ended"
+            ),
+        ),
+        CtlFault::Late(seconds) => put_line(
+            rt,
+            alloc,
+            format_args!("umd: {socket}: no reply within {seconds} s"),
+        ),
         CtlFault::Input(e) => {
             put_line(rt, alloc, format_args!("umd: reading standard input: {e}"))
         }

@@ -5,10 +5,11 @@ use std::alloc::Global;
 use std::fmt::Display;
 use std::fs::{File, Files};
 use std::net::Net;
+use std::os::unix::fs::PermissionsExt;
 use std::path::Path;
 use std::process::Processes;
-use std::thread;
 use std::time::{Clock, Duration};
+use std::{fs, thread};
 use um_children::RunnerDir;
 use um_filedisk::{DirectoryLock, FileDisk, FileFault, is_same_place};
 use um_gate::look_at_socket;
@@ -20,6 +21,15 @@ const TRIES: u32 = 10;
 
 /// The tries come so many milliseconds apart.
 const APART: u64 = 20;
+
+/// The bits of a mode.
+const MODE: u32 = 0o7777;
+
+/// Of these the bits by which a group or others write.
+const OTHERS_WRITE: u32 = 0o022;
+
+/// And the sticky bit.
+const STICKY: u32 = 0o1000;
 
 /// A place, by the word that tells it.
 #[derive(Clone, Copy)]
@@ -169,6 +179,26 @@ where
     }
 }
 
+/// Says that others than its owner may write what stands at the path; with the sticky bit none of them may replace what stands in a folder.
+fn tell_writable<R: Files, E: Eprint>(rt: &R, lines: &E, path: &str, is_safe_if_sticky: bool) {
+    let Ok(found) = fs::metadata(rt, path) else {
+        return;
+    };
+    let mode = found.permissions().mode() & MODE;
+    if mode & OTHERS_WRITE == 0 || (is_safe_if_sticky && mode & STICKY != 0) {
+        return;
+    }
+    let _unheard = eprintln!(lines; "umd: {path}: others may write it (mode {mode:o})");
+}
+
+/// The folder that the socket stands in.
+fn folder_of(socket: &str) -> &str {
+    match Path::new(socket).parent().and_then(Path::to_str) {
+        Some(folder) if !folder.is_empty() => folder,
+        _ => ".",
+    }
+}
+
 /// Takes the store's file and the folder, and sees that the socket is free. Where one of them isn't to be had it has said so, and gives the exit
 /// status; nothing of the store, or of the files in the folder, was read or changed.
 pub fn take_places<'a, R, E>(
@@ -187,11 +217,15 @@ where
         Err(fault) => return Err(lacks(lines, line.file, &fault)),
     };
     match take_folder(rt, lines, alloc, line) {
-        Ok((children, lock)) => Ok(Taken {
-            disk,
-            children,
-            lock,
-        }),
+        Ok((children, lock)) => {
+            tell_writable(rt, lines, line.file, false);
+            tell_writable(rt, lines, folder_of(line.socket), true);
+            Ok(Taken {
+                disk,
+                children,
+                lock,
+            })
+        }
         Err(status) => {
             drop(disk);
             Err(status)

@@ -1,8 +1,9 @@
 //! `umd serve`: one loop over a store, children and a socket.
 
 use crate::lines::Lines;
-use crate::messages::{DEVICE, REFUSED, tell_ending};
+use crate::messages::{DEVICE, REFUSED, tell_ending, tell_uncounted};
 use crate::places::{Taken, lacks, take_places};
+use crate::starting::{request_in, start_first};
 use crate::telling::{News, Tally, Telling};
 use crate::um_bin::serve;
 use std::alloc::{AllocError, Global};
@@ -10,7 +11,7 @@ use std::fs::{File, Files};
 use std::net::Net;
 use std::process::Processes;
 use std::thread;
-use std::time::{Clock, Duration};
+use std::time::{Clock, Duration, Instant};
 use um_children::{Children, RunnerDir};
 use um_filedisk::FileDisk;
 use um_gate::{Moments, SocketGate, SystemMoments, system_moment};
@@ -28,6 +29,9 @@ const PARTS: u32 = 25;
 
 /// The least that the system waits for a socket, in microseconds.
 const LEAST_POLL: u64 = 1000;
+
+/// So many milliseconds are slept at most while a count of lines waits to be told.
+const COUNTING: u64 = 100;
 
 /// A block of so many bytes is taken, and given back, before anything is served. From then on the system's allocator keeps twice as much that is
 /// free; before, it would give back what is past 128 KiB behind each turn, and take it anew in the next.
@@ -54,15 +58,18 @@ fn ends<R: Eprint>(rt: &R, refusal: Refusal) -> End {
     }
 }
 
-/// Says how the store stood that was opened.
+/// Says how the store stood that was opened, and what of it doesn't count.
 fn tell_opened<R: Eprint>(rt: &R, opened: OpenedStore) {
     let OpenedStore {
         generation,
         records,
+        cut_off,
+        damaged,
     } = opened;
     let _unheard = eprintln!(rt;
         "umd: the store is of generation {generation}, {records} records are replayed"
     );
+    tell_uncounted(rt, cut_off, damaged);
 }
 
 fn boot_id(alloc: Global, boot: &str) -> Result<BootId, Refusal> {
@@ -95,9 +102,30 @@ impl<'a, R: Clock> Loop<'a, R> {
         manager: &mut Manager<D, C>,
         tally: &Tally,
     ) -> Result<(), Refusal> {
-        tally.look();
+        tally.look(Instant::now(self.system).ok());
         serve(manager, &mut self.gate, &mut self.clock, 1)?;
+        self.tell_counts(manager);
         self.rest(manager, tally)
+    }
+
+    /// Says how often failures weren't told, where that is due.
+    fn tell_counts<D: Disk, C: Children + News>(&self, manager: &Manager<D, C>) {
+        let children = manager.children();
+        if !children.is_counting() {
+            return;
+        }
+        if let Ok(now) = Instant::now(self.system) {
+            children.tell_counts(now);
+        }
+    }
+
+    /// How long is slept at most: shorter where a count is to be told once its second is over.
+    fn longest<D: Disk, C: Children + News>(&self, manager: &Manager<D, C>) -> Duration {
+        if manager.children().is_counting() {
+            Duration::from_millis(COUNTING)
+        } else {
+            Duration::MAX
+        }
     }
 
     /// Whether the state may have changed since the deadline was looked up: its clock, which stands so, moves with whatever changes it, unless
@@ -151,7 +179,11 @@ impl<'a, R: Clock> Loop<'a, R> {
     /// it would take nothing, and its fates would tell nothing new.
     fn sleep<D: Disk, C: Children + News>(&mut self, manager: &Manager<D, C>, is_live: bool) {
         for _ in 0..PARTS {
-            let wait = self.pace.next(is_live, self.clock.moment(), self.deadline);
+            self.tell_counts(manager);
+            let wait = self
+                .pace
+                .next(is_live, self.clock.moment(), self.deadline)
+                .min(self.longest(manager));
             if self.wait(wait) || !is_live || manager.children().has_news() || self.is_due() {
                 return;
             }
@@ -205,7 +237,7 @@ fn open_manager<'a, 'b, R>(
 where
     R: Files<File = File> + Net + Processes + Clock + Eprint,
 {
-    let children = Telling::new(children, lines, tally);
+    let children = Telling::new(children, lines, alloc, tally);
     match Manager::open(alloc, disk, children, boot, system_moment(system)) {
         Ok(manager) => Ok(manager),
         Err((refusal, disk, children)) => {
@@ -235,17 +267,25 @@ fn serve_rounds<R: Clock, D: Disk, C: Children + News>(
     Ok(())
 }
 
-/// Serves a manager that was opened over a socket, until it fails.
+/// Serves a manager that was opened over a socket, until it fails; before the first round it asks the request, where nothing ran yet.
 fn serve_opened<R: Files + Net + Clock, E: Eprint, D: Disk, C: Children + News>(
     system: &R,
     alloc: Global,
     lines: &E,
     tally: &Tally,
     line: &ServeLine<'_>,
+    request: Option<Vec<u8>>,
     manager: &mut Manager<D, C>,
 ) -> Result<u8, End> {
     tell_adopted(lines, manager, tally.absent());
     let mut state = open_loop(system, alloc, lines, line, manager.state().clock())?;
+    if let Some(request) = request {
+        tally.look(Instant::now(system).ok());
+        match start_first(alloc, lines, manager, &mut state.clock, request) {
+            Ok(()) => {}
+            Err(refusal) => return Err(ends(lines, refusal)),
+        }
+    }
     match serve_rounds(&mut state, manager, tally) {
         Ok(()) => Ok(0),
         Err(refusal) => Err(ends(lines, refusal)),
@@ -264,6 +304,10 @@ where
         Ok(boot) => boot,
         Err(refusal) => return Err(ends(&lines, refusal)),
     };
+    let request = match request_in(alloc, &lines, line.start) {
+        Ok(request) => request,
+        Err(status) => return Err(End { status }),
+    };
     let Taken {
         disk,
         children,
@@ -276,7 +320,7 @@ where
     let ended = if manager.children().is_foreign() {
         Err(End { status: REFUSED })
     } else {
-        serve_opened(system, alloc, &lines, &tally, line, &mut manager)
+        serve_opened(system, alloc, &lines, &tally, line, request, &mut manager)
     };
     drop(manager);
     ended

@@ -2,10 +2,12 @@
 
 ghost use Rattle.std.specs.Prelude.{◌≡◌};
 
-use std::cell::Cell;
+use crate::repeats::{Count, Deed, Repeats};
+use std::alloc::{AllocError, Global};
+use std::cell::{Cell, RefCell};
 use std::fs::Files;
 use std::process::Processes;
-use std::time::Clock;
+use std::time::{Clock, Instant};
 use um_children::{
     Cause, ChildFault, Children, Fate, NextNumber, ProcessNumber, RunnerDir, Signal,
 };
@@ -20,6 +22,8 @@ pub struct Tally {
     turned: Cell<u64>,
     /// Of so many it was told that they are absent.
     absent: Cell<u64>,
+    /// When it was looked at last; None where the system told no time, and before the first look.
+    looked: Cell<Option<Instant>>,
 }
 
 impl Tally {
@@ -29,6 +33,7 @@ impl Tally {
             live: Cell::new(0),
             turned: Cell::new(0),
             absent: Cell::new(0),
+            looked: Cell::new(None),
         }
     }
 
@@ -66,11 +71,12 @@ impl Tally {
         self.absent.get()
     }
 
-    /// What is seen from now on.
-    pub fn look(&self) {
+    /// What is seen from now on, and when that is.
+    pub fn look(&self, now: Option<Instant>) {
         self.live.set(0);
         self.turned.set(0);
         self.absent.set(0);
+        self.looked.set(now);
     }
 }
 
@@ -79,36 +85,82 @@ impl Tally {
 pub struct Telling<'a, C: Children + Seen, R: Eprint> {
     children: C,
     rt: &'a R,
+    alloc: Global,
     tally: &'a Tally,
+    /// What failed within the last second.
+    repeats: RefCell<Repeats>,
     /// That the folder is gone was told, and it hasn't been seen since.
     is_gone: bool,
 }
 
 impl<'a, C: Children + Seen, R: Eprint> Telling<'a, C, R> {
     /// These children.
-    pub fn new(children: C, rt: &'a R, tally: &'a Tally) -> Telling<'a, C, R>
+    pub fn new(children: C, rt: &'a R, alloc: Global, tally: &'a Tally) -> Telling<'a, C, R>
         ensures { result.children ≡ children }
     {
         Telling {
             children,
             rt,
+            alloc,
             tally,
+            repeats: RefCell::new(Repeats::new(alloc)),
             is_gone: false,
         }
     }
 
-    /// Says that something couldn't be done for a process, and why. Where standard error fails too, nobody hears it, here and below.
-    fn tell(&self, deed: &str, number: ProcessNumber, answer: &Result<(), ChildFault>) {
+    /// Why a call failed.
+    fn why(&self, fault: ChildFault) -> Result<String, AllocError> {
+        let alloc = self.alloc;
+        match self.children.trouble() {
+            Some((_, cause)) if fault == ChildFault::Device && cause.is_unsignalled() => {
+                format!(in alloc; "{cause}")
+            }
+            Some((place, cause)) if fault == ChildFault::Device => {
+                format!(in alloc; "{fault}: {place}: {cause}")
+            }
+            _ => format!(in alloc; "{fault}"),
+        }
+    }
+
+    /// Whether the failure is told now; else it is counted.
+    fn is_told(&self, deed: Deed, why: &str) -> bool {
+        match (self.tally.looked.get(), self.repeats.try_borrow_mut()) {
+            (Some(now), Ok(mut repeats)) => repeats.is_told(deed, why, now),
+            _ => true,
+        }
+    }
+
+    /// Says that something couldn't be done for a process, and why, unless that was said too often just now. Where standard error fails too,
+    /// nobody hears it, here and below.
+    fn tell_why(&self, deed: Deed, number: ProcessNumber, why: &str) {
+        if self.is_told(deed, why) {
+            let number = number.get();
+            let _unheard = eprintln!(self.rt; "umd: {deed} process {number}: {why}");
+        }
+    }
+
+    /// Says that something couldn't be done for a process, where it couldn't.
+    fn tell(&self, deed: Deed, number: ProcessNumber, answer: &Result<(), ChildFault>) {
         let Err(fault) = answer else {
             return;
         };
-        let number = number.get();
-        let _unheard = match self.children.trouble() {
-            Some((place, cause)) if *fault == ChildFault::Device => {
-                eprintln!(self.rt; "umd: {deed} process {number}: {fault}: {place}: {cause}")
-            }
-            _ => eprintln!(self.rt; "umd: {deed} process {number}: {fault}"),
-        };
+        match self.why(*fault) {
+            Ok(why) => self.tell_why(deed, number, why.as_str()),
+            Err(_) => self.tell_why(deed, number, "there is no memory"),
+        }
+    }
+
+    /// How often a failure wasn't told, where that is to be told now.
+    fn next_count(&self, now: Instant) -> Option<Count> {
+        let mut repeats = self.repeats.try_borrow_mut().ok()?;
+        repeats.next_due(now)
+    }
+
+    /// Says that a kept signal couldn't be sent to a process that is there, once.
+    fn tell_unsignalled(&self) {
+        if let Some(number) = self.children.unsignalled() {
+            self.tell_why(Deed::Signal, number, "it can't be signalled");
+        }
     }
 
     /// Says that nobody has claimed a process that was started, once.
@@ -170,6 +222,9 @@ pub trait Seen {
     /// The number whose fate was asked last, where nobody has claimed it for too long and it is to be told now.
     fn silent(&self) -> Option<ProcessNumber>;
 
+    /// The number whose fate was asked last, where a kept signal couldn't be sent to its process, which is there.
+    fn unsignalled(&self) -> Option<ProcessNumber>;
+
     /// How many processes run that nobody manages any more.
     fn unmanaged(&self) -> u64;
 
@@ -202,6 +257,10 @@ impl<'a, R: Files + Processes + Clock> Seen for RunnerDir<'a, R> {
         self.silent()
     }
 
+    fn unsignalled(&self) -> Option<ProcessNumber> {
+        self.unsignalled()
+    }
+
     fn unmanaged(&self) -> u64 {
         self.unmanaged()
     }
@@ -215,11 +274,33 @@ impl<'a, R: Files + Processes + Clock> Seen for RunnerDir<'a, R> {
 pub trait News {
     /// Whether a round of fates may tell or do anything that the last one didn't.
     fn has_news(&self) -> bool;
+
+    /// Whether a failure was told too often, and waits to be told by its count.
+    fn is_counting(&self) -> bool;
+
+    /// Says how often failures weren't told, each that is due at this moment.
+    fn tell_counts(&self, now: Instant);
 }
 
 impl<'a, 'b, R: Files + Processes + Clock, E: Eprint> News for Telling<'a, RunnerDir<'b, R>, E> {
     fn has_news(&self) -> bool {
         self.children.has_news()
+    }
+
+    fn is_counting(&self) -> bool {
+        match self.repeats.try_borrow() {
+            Ok(repeats) => repeats.is_counting(),
+            Err(_) => false,
+        }
+    }
+
+    fn tell_counts(&self, now: Instant) {
+        for _ in 0..u64::MAX {
+            let Some(Count { deed, why, more }) = self.next_count(now) else {
+                return;
+            };
+            let _unheard = eprintln!(self.rt; "umd: {deed} processes: {why}: {more} more");
+        }
     }
 }
 
@@ -252,14 +333,14 @@ impl<'a, C: Children + Seen, R: Eprint> Children for Telling<'a, C, R> {
         let number = order.number();
         let answer = self.children.spawn(order);
         self.tally.note_start();
-        self.tell("starting", number, &answer);
+        self.tell(Deed::Start, number, &answer);
         answer
     }
 
     fn signal(&mut self, number: ProcessNumber, signal: Signal) -> Result<(), ChildFault> {
         let answer = self.children.signal(number, signal);
         self.tally.note_turn();
-        self.tell("signalling", number, &answer);
+        self.tell(Deed::Signal, number, &answer);
         answer
     }
 
@@ -267,6 +348,7 @@ impl<'a, C: Children + Seen, R: Eprint> Children for Telling<'a, C, R> {
         let answer = self.children.fate(number, claim);
         self.tally.note_fate(&answer);
         self.tell_silent();
+        self.tell_unsignalled();
         self.tell_gone();
         answer
     }

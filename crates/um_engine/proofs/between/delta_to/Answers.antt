@@ -25,7 +25,7 @@ returns c =
     let begins : c.set_next.new.self.base ≡ c.args.base.now = c.set_next.ensures.base ∙ (c.put_rows.ensures.base ∙ base) in
     let after : delta_after delta c.args.base.now ≡ c.args.after.now =
     leads_to c.args.base.now c.args.after.now (delta_after delta c.args.base.now) c.args.rows c.in-Some.work c.put_rows.new.work c.set_next.new.self c.clock.result c.next.result
-    c.requires.same c.requires.rows base c.put_rows.ensures.base c.put_rows.ensures.now c.set_next.ensures.base c.set_next.ensures.now c.clock.ensures c.next.ensures
+    c.requires.same c.requires.was.common c.requires.rows base c.put_rows.ensures.base c.put_rows.ensures.now c.set_next.ensures.base c.set_next.ensures.now c.clock.ensures c.next.ensures
     (ap (delta_after delta) (sym begins) ∙ c.in_ok-delta.ensures.after) in
     record {
       after = after;

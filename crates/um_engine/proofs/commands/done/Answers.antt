@@ -9,9 +9,7 @@ use Rattle.um_wire.specs.Refusal.{refused_of}
 use Rattle.um_wire.specs.declared.refusal.Refusal.{Refusal}
 use Rattle.um_wire.specs.declared.refusal.Refusal.TheVariants.{NoMemory}
 use Rattle.um_state.specs.View.{command_of, reply_of, state_of}
-use Rattle.um_model.specs.Live.{HoldsNoMore}
 use Rattle.um_engine.specs.Outcomes.{actions_by, state_by}
-use Rattle.um_engine.proofs.KnownLaws.{put_holds_no_more, link_holds_no_more, remove_holds_no_more}
 use Rattle.um_engine.proofs.PlannedLaws.{refuses_on}
 use Rattle.um_engine.proofs.Stepped.{does_so}
 use Rattle.um_engine.proofs.commands.done.Goals as goal
@@ -44,48 +42,6 @@ removes q path path' is e = cc
 answers : (q command : Command) (before after : Tree) → q ≡ command → model.reply_after (model.Commanded command) before after ≡ model.Done
     → model.Done ≡ model.reply_after (model.Commanded q) before after
 answers q command before after is done = sym (subst (λ (p : Command). model.reply_after (model.Commanded p) before after ≡ model.Done) (sym is) done)
-
-pub kept-requires : goal.kept-requires
-kept-requires c =
-    let u = state_of c.in_ok-changed-in-PutFile.changed in
-    subst (λ (s : State). HoldsNoMore s u) c.state-state.ensures.state
-    (put_holds_no_more (state_of c.state-state.result.now) u _ _ c.in_ok-changed-in-PutFile.ensures.changed)
-
-pub kept-requires-in-PutLink : goal.kept-requires-in-PutLink
-kept-requires-in-PutLink c =
-    let u = state_of c.in_ok-changed-in-PutLink.changed in
-    subst (λ (s : State). HoldsNoMore s u) c.state-state.ensures.state
-    (link_holds_no_more (state_of c.state-state.result.now) u _ _ c.in_ok-changed-in-PutLink.ensures.changed)
-
-pub kept-requires-in-Remove : goal.kept-requires-in-Remove
-kept-requires-in-Remove c =
-    let u = state_of c.in_ok-changed-in-Remove.changed in
-    subst (λ (s : State). HoldsNoMore s u) c.state-state.ensures.state
-    (remove_holds_no_more (state_of c.state-state.result.now) u _ c.in_ok-changed-in-Remove.ensures.changed)
-
-pub returns-in_ok-kept-in-PutFile-clause-does : goal.returns-in_ok-kept-in-PutFile-clause-does
-returns-in_ok-kept-in-PutFile-clause-does c =
-    let o = c.in_ok-kept-in-PutFile in
-    let u = state_of c.in_ok-changed-in-PutFile.changed in
-    let is : command_of c.args.command.now ≡ model.PutFile c.as_str.result.now c.as_str-in-PutFile.result.now = puts (command_of c.args.command.now) _ c.as_str.result.now _ c.as_str-in-PutFile.result.now (ap command_of c.in-PutFile.is) c.as_str.ensures.value c.as_str-in-PutFile.ensures.value in
-    let told = at_command (λ x q. model.Changes x q u) (state_of c.state-state.result.now) c.args.served.now.state (model.PutFile c.as_str.result.now c.as_str-in-PutFile.result.now) (command_of c.args.command.now) c.state-state.ensures.state is c.in_ok-changed-in-PutFile.ensures.changed in
-    does_so c.args.moment c.args.served.now.state u o.field-0.state (command_of c.args.command.now) [] told o.ensures refl
-
-pub returns-in_ok-kept-in-PutLink-clause-does : goal.returns-in_ok-kept-in-PutLink-clause-does
-returns-in_ok-kept-in-PutLink-clause-does c =
-    let o = c.in_ok-kept-in-PutLink in
-    let u = state_of c.in_ok-changed-in-PutLink.changed in
-    let is : command_of c.args.command.now ≡ model.PutLink c.as_str-in-PutLink.result.now c.as_str-in-PutLink-2.result.now = links (command_of c.args.command.now) _ c.as_str-in-PutLink.result.now _ c.as_str-in-PutLink-2.result.now (ap command_of c.in-PutLink.is) c.as_str-in-PutLink.ensures.value c.as_str-in-PutLink-2.ensures.value in
-    let told = at_command (λ x q. model.Changes x q u) (state_of c.state-state.result.now) c.args.served.now.state (model.PutLink c.as_str-in-PutLink.result.now c.as_str-in-PutLink-2.result.now) (command_of c.args.command.now) c.state-state.ensures.state is c.in_ok-changed-in-PutLink.ensures.changed in
-    does_so c.args.moment c.args.served.now.state u o.field-0.state (command_of c.args.command.now) [] told o.ensures refl
-
-pub returns-in_ok-kept-in-Remove-clause-does : goal.returns-in_ok-kept-in-Remove-clause-does
-returns-in_ok-kept-in-Remove-clause-does c =
-    let o = c.in_ok-kept-in-Remove in
-    let u = state_of c.in_ok-changed-in-Remove.changed in
-    let is : command_of c.args.command.now ≡ model.Remove c.as_str-in-Remove.result.now = removes (command_of c.args.command.now) _ c.as_str-in-Remove.result.now (ap command_of c.in-Remove.is) c.as_str-in-Remove.ensures.value in
-    let told = at_command (λ x q. model.Changes x q u) (state_of c.state-state.result.now) c.args.served.now.state (model.Remove c.as_str-in-Remove.result.now) (command_of c.args.command.now) c.state-state.ensures.state is c.in_ok-changed-in-Remove.ensures.changed in
-    does_so c.args.moment c.args.served.now.state u o.field-0.state (command_of c.args.command.now) [] told o.ensures refl
 
 pub returns-in_ok-reloaded-in-DaemonReload-clause-does : goal.returns-in_ok-reloaded-in-DaemonReload-clause-does
 returns-in_ok-reloaded-in-DaemonReload-clause-does c =
@@ -166,39 +122,6 @@ returns-in_err-served-in-Install-clause-refused c =
     c.from_residual-in_err-served-in-Install.ensures.1
     (subst (λ (q : Command). e ≢ NoMemory → model.Refuses s q (refused_of e)) (sym (ap command_of c.in-Install.is)) step)
 
-pub returns-in_err-changed-in-PutFile-clause-refused : goal.returns-in_err-changed-in-PutFile-clause-refused
-returns-in_err-changed-in-PutFile-clause-refused c =
-    let is : command_of c.args.command.now ≡ model.PutFile c.as_str.result.now c.as_str-in-PutFile.result.now = puts (command_of c.args.command.now) _ c.as_str.result.now _ c.as_str-in-PutFile.result.now (ap command_of c.in-PutFile.is) c.as_str.ensures.value c.as_str-in-PutFile.ensures.value in
-    gives_on (state_of c.state-state.result.now) c.args.served.now.state (model.PutFile c.as_str.result.now c.as_str-in-PutFile.result.now) (command_of c.args.command.now) c.from_residual.result c.in_err-changed-in-PutFile.field-0.0
-    c.state-state.ensures.state is c.from_residual.ensures.1 c.in_err-changed-in-PutFile.ensures.refused
-
-pub returns-in_ok-kept-in-PutFile-clause-refused : goal.returns-in_ok-kept-in-PutFile-clause-refused
-returns-in_ok-kept-in-PutFile-clause-refused c =
-    let is : command_of c.args.command.now ≡ model.PutFile c.as_str.result.now c.as_str-in-PutFile.result.now = puts (command_of c.args.command.now) _ c.as_str.result.now _ c.as_str-in-PutFile.result.now (ap command_of c.in-PutFile.is) c.as_str.ensures.value c.as_str-in-PutFile.ensures.value in
-    free_of (state_of c.state-state.result.now) c.args.served.now.state (model.PutFile c.as_str.result.now c.as_str-in-PutFile.result.now) (command_of c.args.command.now) c.state-state.ensures.state is c.in_ok-changed-in-PutFile.ensures.refused
-
-pub returns-in_err-changed-in-PutLink-clause-refused : goal.returns-in_err-changed-in-PutLink-clause-refused
-returns-in_err-changed-in-PutLink-clause-refused c =
-    let is : command_of c.args.command.now ≡ model.PutLink c.as_str-in-PutLink.result.now c.as_str-in-PutLink-2.result.now = links (command_of c.args.command.now) _ c.as_str-in-PutLink.result.now _ c.as_str-in-PutLink-2.result.now (ap command_of c.in-PutLink.is) c.as_str-in-PutLink.ensures.value c.as_str-in-PutLink-2.ensures.value in
-    gives_on (state_of c.state-state.result.now) c.args.served.now.state (model.PutLink c.as_str-in-PutLink.result.now c.as_str-in-PutLink-2.result.now) (command_of c.args.command.now) c.from_residual-in_err-changed-in-PutLink.result c.in_err-changed-in-PutLink.field-0.0
-    c.state-state.ensures.state is c.from_residual-in_err-changed-in-PutLink.ensures.1 c.in_err-changed-in-PutLink.ensures.refused
-
-pub returns-in_ok-kept-in-PutLink-clause-refused : goal.returns-in_ok-kept-in-PutLink-clause-refused
-returns-in_ok-kept-in-PutLink-clause-refused c =
-    let is : command_of c.args.command.now ≡ model.PutLink c.as_str-in-PutLink.result.now c.as_str-in-PutLink-2.result.now = links (command_of c.args.command.now) _ c.as_str-in-PutLink.result.now _ c.as_str-in-PutLink-2.result.now (ap command_of c.in-PutLink.is) c.as_str-in-PutLink.ensures.value c.as_str-in-PutLink-2.ensures.value in
-    free_of (state_of c.state-state.result.now) c.args.served.now.state (model.PutLink c.as_str-in-PutLink.result.now c.as_str-in-PutLink-2.result.now) (command_of c.args.command.now) c.state-state.ensures.state is c.in_ok-changed-in-PutLink.ensures.refused
-
-pub returns-in_err-changed-in-Remove-clause-refused : goal.returns-in_err-changed-in-Remove-clause-refused
-returns-in_err-changed-in-Remove-clause-refused c =
-    let is : command_of c.args.command.now ≡ model.Remove c.as_str-in-Remove.result.now = removes (command_of c.args.command.now) _ c.as_str-in-Remove.result.now (ap command_of c.in-Remove.is) c.as_str-in-Remove.ensures.value in
-    gives_on (state_of c.state-state.result.now) c.args.served.now.state (model.Remove c.as_str-in-Remove.result.now) (command_of c.args.command.now) c.from_residual-in_err-changed-in-Remove.result c.in_err-changed-in-Remove.field-0.0
-    c.state-state.ensures.state is c.from_residual-in_err-changed-in-Remove.ensures.1 c.in_err-changed-in-Remove.ensures.refused
-
-pub returns-in_ok-kept-in-Remove-clause-refused : goal.returns-in_ok-kept-in-Remove-clause-refused
-returns-in_ok-kept-in-Remove-clause-refused c =
-    let is : command_of c.args.command.now ≡ model.Remove c.as_str-in-Remove.result.now = removes (command_of c.args.command.now) _ c.as_str-in-Remove.result.now (ap command_of c.in-Remove.is) c.as_str-in-Remove.ensures.value in
-    free_of (state_of c.state-state.result.now) c.args.served.now.state (model.Remove c.as_str-in-Remove.result.now) (command_of c.args.command.now) c.state-state.ensures.state is c.in_ok-changed-in-Remove.ensures.refused
-
 pub returns-in_err-without_waiting-in-Cancel-clause-refused : goal.returns-in_err-without_waiting-in-Cancel-clause-refused
 returns-in_err-without_waiting-in-Cancel-clause-refused c =
     let s = c.args.served.now.state in
@@ -223,18 +146,6 @@ returns-in_ok-without_failures-in-ResetFailed-clause-does c =
     c.in_ok-without_failures-in-ResetFailed.ensures.does
 
 -- ---- what is answered, and on what the work goes
-
-pub returns-in_ok-kept-in-PutFile-clause-reply : goal.returns-in_ok-kept-in-PutFile-clause-reply
-returns-in_ok-kept-in-PutFile-clause-reply c =
-    answers (command_of c.args.command.now) _ c.args.served.now.state.tree c.in_ok-kept-in-PutFile.field-0.state.tree (ap command_of c.in-PutFile.is) refl
-
-pub returns-in_ok-kept-in-PutLink-clause-reply : goal.returns-in_ok-kept-in-PutLink-clause-reply
-returns-in_ok-kept-in-PutLink-clause-reply c =
-    answers (command_of c.args.command.now) _ c.args.served.now.state.tree c.in_ok-kept-in-PutLink.field-0.state.tree (ap command_of c.in-PutLink.is) refl
-
-pub returns-in_ok-kept-in-Remove-clause-reply : goal.returns-in_ok-kept-in-Remove-clause-reply
-returns-in_ok-kept-in-Remove-clause-reply c =
-    answers (command_of c.args.command.now) _ c.args.served.now.state.tree c.in_ok-kept-in-Remove.field-0.state.tree (ap command_of c.in-Remove.is) refl
 
 pub returns-in_ok-reloaded-in-DaemonReload-clause-reply : goal.returns-in_ok-reloaded-in-DaemonReload-clause-reply
 returns-in_ok-reloaded-in-DaemonReload-clause-reply c =
@@ -271,3 +182,90 @@ returns-in_ok-served-in-Install-clause-reply c =
     let served = c.in_ok-served-in-Install.served in
     at_command (λ x q. reply_of c.in_ok-served-in-Install.reply ≡ model.reply_after (model.Commanded q) x.tree served.state.tree)
     (state_of c.state-state.result.now) c.args.served.now.state command (command_of c.args.command.now) c.state-state.ensures.state (ap command_of c.in-Install.is) c.in_ok-served-in-Install.ensures.reply
+
+pub returns-in_ok-outcome-in-PutFile-clause-does : goal.returns-in_ok-outcome-in-PutFile-clause-does
+returns-in_ok-outcome-in-PutFile-clause-does c =
+    let s = c.args.served.now.state in
+    let o = c.in_ok-outcome-in-PutFile.outcome in
+    let is : command_of c.args.command.now ≡ model.PutFile c.as_str.result.now c.as_str-in-PutFile.result.now = puts (command_of c.args.command.now) _ c.as_str.result.now _ c.as_str-in-PutFile.result.now (ap command_of c.in-PutFile.is) c.as_str.ensures.value c.as_str-in-PutFile.ensures.value in
+    does_so c.args.moment s (state_by o) (state_by o) (command_of c.args.command.now) (actions_by o)
+    (subst (λ (q : Command). model.Changes s q (state_by o)) (sym is) c.in_ok-outcome-in-PutFile.ensures.changed) refl c.in_ok-outcome-in-PutFile.ensures.silent.actions
+
+pub returns-in_err-outcome-in-PutFile-clause-refused : goal.returns-in_err-outcome-in-PutFile-clause-refused
+returns-in_err-outcome-in-PutFile-clause-refused c =
+    let s = c.args.served.now.state in
+    let e = c.in_err-outcome-in-PutFile.field-0.0 in
+    let is : command_of c.args.command.now ≡ model.PutFile c.as_str.result.now c.as_str-in-PutFile.result.now = puts (command_of c.args.command.now) _ c.as_str.result.now _ c.as_str-in-PutFile.result.now (ap command_of c.in-PutFile.is) c.as_str.ensures.value c.as_str-in-PutFile.ensures.value in
+    refuses_on (model.Refuses s (command_of c.args.command.now)) c.from_residual.result e c.from_residual.ensures.1
+    (subst (λ (q : Command). e ≢ NoMemory → model.Refuses s q (refused_of e)) (sym is) c.in_err-outcome-in-PutFile.ensures.refused)
+
+pub returns-in_ok-outcome-in-PutFile-clause-refused : goal.returns-in_ok-outcome-in-PutFile-clause-refused
+returns-in_ok-outcome-in-PutFile-clause-refused c =
+    let is : command_of c.args.command.now ≡ model.PutFile c.as_str.result.now c.as_str-in-PutFile.result.now = puts (command_of c.args.command.now) _ c.as_str.result.now _ c.as_str-in-PutFile.result.now (ap command_of c.in-PutFile.is) c.as_str.ensures.value c.as_str-in-PutFile.ensures.value in
+    subst (λ (q : Command). (r : Refused) → model.Refuses c.args.served.now.state q r → ⊥) (sym is) c.in_ok-outcome-in-PutFile.ensures.refused
+
+pub returns-in_ok-outcome-in-PutFile-clause-reply : goal.returns-in_ok-outcome-in-PutFile-clause-reply
+returns-in_ok-outcome-in-PutFile-clause-reply c =
+    c.in_ok-outcome-in-PutFile.ensures.silent.reply
+    ∙ answers (command_of c.args.command.now) _ c.args.served.now.state.tree (state_by c.in_ok-outcome-in-PutFile.outcome).tree (ap command_of c.in-PutFile.is) refl
+
+pub returns-in_ok-outcome-in-PutFile-clause-based : goal.returns-in_ok-outcome-in-PutFile-clause-based
+returns-in_ok-outcome-in-PutFile-clause-based c = c.in_ok-outcome-in-PutFile.ensures.based
+
+pub returns-in_ok-outcome-in-PutLink-clause-does : goal.returns-in_ok-outcome-in-PutLink-clause-does
+returns-in_ok-outcome-in-PutLink-clause-does c =
+    let s = c.args.served.now.state in
+    let o = c.in_ok-outcome-in-PutLink.outcome in
+    let is : command_of c.args.command.now ≡ model.PutLink c.as_str-in-PutLink.result.now c.as_str-in-PutLink-2.result.now = links (command_of c.args.command.now) _ c.as_str-in-PutLink.result.now _ c.as_str-in-PutLink-2.result.now (ap command_of c.in-PutLink.is) c.as_str-in-PutLink.ensures.value c.as_str-in-PutLink-2.ensures.value in
+    does_so c.args.moment s (state_by o) (state_by o) (command_of c.args.command.now) (actions_by o)
+    (subst (λ (q : Command). model.Changes s q (state_by o)) (sym is) c.in_ok-outcome-in-PutLink.ensures.changed) refl c.in_ok-outcome-in-PutLink.ensures.silent.actions
+
+pub returns-in_err-outcome-in-PutLink-clause-refused : goal.returns-in_err-outcome-in-PutLink-clause-refused
+returns-in_err-outcome-in-PutLink-clause-refused c =
+    let s = c.args.served.now.state in
+    let e = c.in_err-outcome-in-PutLink.field-0.0 in
+    let is : command_of c.args.command.now ≡ model.PutLink c.as_str-in-PutLink.result.now c.as_str-in-PutLink-2.result.now = links (command_of c.args.command.now) _ c.as_str-in-PutLink.result.now _ c.as_str-in-PutLink-2.result.now (ap command_of c.in-PutLink.is) c.as_str-in-PutLink.ensures.value c.as_str-in-PutLink-2.ensures.value in
+    refuses_on (model.Refuses s (command_of c.args.command.now)) c.from_residual-in_err-outcome-in-PutLink.result e c.from_residual-in_err-outcome-in-PutLink.ensures.1
+    (subst (λ (q : Command). e ≢ NoMemory → model.Refuses s q (refused_of e)) (sym is) c.in_err-outcome-in-PutLink.ensures.refused)
+
+pub returns-in_ok-outcome-in-PutLink-clause-refused : goal.returns-in_ok-outcome-in-PutLink-clause-refused
+returns-in_ok-outcome-in-PutLink-clause-refused c =
+    let is : command_of c.args.command.now ≡ model.PutLink c.as_str-in-PutLink.result.now c.as_str-in-PutLink-2.result.now = links (command_of c.args.command.now) _ c.as_str-in-PutLink.result.now _ c.as_str-in-PutLink-2.result.now (ap command_of c.in-PutLink.is) c.as_str-in-PutLink.ensures.value c.as_str-in-PutLink-2.ensures.value in
+    subst (λ (q : Command). (r : Refused) → model.Refuses c.args.served.now.state q r → ⊥) (sym is) c.in_ok-outcome-in-PutLink.ensures.refused
+
+pub returns-in_ok-outcome-in-PutLink-clause-reply : goal.returns-in_ok-outcome-in-PutLink-clause-reply
+returns-in_ok-outcome-in-PutLink-clause-reply c =
+    c.in_ok-outcome-in-PutLink.ensures.silent.reply
+    ∙ answers (command_of c.args.command.now) _ c.args.served.now.state.tree (state_by c.in_ok-outcome-in-PutLink.outcome).tree (ap command_of c.in-PutLink.is) refl
+
+pub returns-in_ok-outcome-in-PutLink-clause-based : goal.returns-in_ok-outcome-in-PutLink-clause-based
+returns-in_ok-outcome-in-PutLink-clause-based c = c.in_ok-outcome-in-PutLink.ensures.based
+
+pub returns-in_ok-outcome-in-Remove-clause-does : goal.returns-in_ok-outcome-in-Remove-clause-does
+returns-in_ok-outcome-in-Remove-clause-does c =
+    let s = c.args.served.now.state in
+    let o = c.in_ok-outcome-in-Remove.outcome in
+    let is : command_of c.args.command.now ≡ model.Remove c.as_str-in-Remove.result.now = removes (command_of c.args.command.now) _ c.as_str-in-Remove.result.now (ap command_of c.in-Remove.is) c.as_str-in-Remove.ensures.value in
+    does_so c.args.moment s (state_by o) (state_by o) (command_of c.args.command.now) (actions_by o)
+    (subst (λ (q : Command). model.Changes s q (state_by o)) (sym is) c.in_ok-outcome-in-Remove.ensures.changed) refl c.in_ok-outcome-in-Remove.ensures.silent.actions
+
+pub returns-in_err-outcome-in-Remove-clause-refused : goal.returns-in_err-outcome-in-Remove-clause-refused
+returns-in_err-outcome-in-Remove-clause-refused c =
+    let s = c.args.served.now.state in
+    let e = c.in_err-outcome-in-Remove.field-0.0 in
+    let is : command_of c.args.command.now ≡ model.Remove c.as_str-in-Remove.result.now = removes (command_of c.args.command.now) _ c.as_str-in-Remove.result.now (ap command_of c.in-Remove.is) c.as_str-in-Remove.ensures.value in
+    refuses_on (model.Refuses s (command_of c.args.command.now)) c.from_residual-in_err-outcome-in-Remove.result e c.from_residual-in_err-outcome-in-Remove.ensures.1
+    (subst (λ (q : Command). e ≢ NoMemory → model.Refuses s q (refused_of e)) (sym is) c.in_err-outcome-in-Remove.ensures.refused)
+
+pub returns-in_ok-outcome-in-Remove-clause-refused : goal.returns-in_ok-outcome-in-Remove-clause-refused
+returns-in_ok-outcome-in-Remove-clause-refused c =
+    let is : command_of c.args.command.now ≡ model.Remove c.as_str-in-Remove.result.now = removes (command_of c.args.command.now) _ c.as_str-in-Remove.result.now (ap command_of c.in-Remove.is) c.as_str-in-Remove.ensures.value in
+    subst (λ (q : Command). (r : Refused) → model.Refuses c.args.served.now.state q r → ⊥) (sym is) c.in_ok-outcome-in-Remove.ensures.refused
+
+pub returns-in_ok-outcome-in-Remove-clause-reply : goal.returns-in_ok-outcome-in-Remove-clause-reply
+returns-in_ok-outcome-in-Remove-clause-reply c =
+    c.in_ok-outcome-in-Remove.ensures.silent.reply
+    ∙ answers (command_of c.args.command.now) _ c.args.served.now.state.tree (state_by c.in_ok-outcome-in-Remove.outcome).tree (ap command_of c.in-Remove.is) refl
+
+pub returns-in_ok-outcome-in-Remove-clause-based : goal.returns-in_ok-outcome-in-Remove-clause-based
+returns-in_ok-outcome-in-Remove-clause-based c = c.in_ok-outcome-in-Remove.ensures.based c.args.moment

@@ -17,9 +17,3 @@ pub returns-clause-changed : goal.returns-clause-changed
 returns-clause-changed c =
     puts_to (state_of c.args.state.now) (state_of c.in_ok-changed.changed) (state_of c.put_file.new.self) c.args.path.now c.args.text.now
     c.in_ok-changed.ensures c.in_ok-put_file.ensures.ok c.in_ok-put_file.ensures.rest
-
-pub returns-in_err-check_put-clause-refused : goal.returns-in_err-check_put-clause-refused
-returns-in_err-check_put-clause-refused c =
-    let step : c.in_err-check_put.field-0.0 ≢ NoMemory → model.Refuses (state_of c.args.state.now) (model.PutFile c.args.path.now c.args.text.now) (refused_of c.in_err-check_put.field-0.0) =
-    λ differs. (c.in_err-check_put.ensures differs) in
-    search (rules, step)

@@ -17,9 +17,3 @@ pub returns-clause-changed : goal.returns-clause-changed
 returns-clause-changed c =
     links_to (state_of c.args.state.now) (state_of c.in_ok-changed.changed) (state_of c.put_link.new.self) c.args.path.now c.args.target.now
     c.in_ok-changed.ensures c.in_ok-put_link.ensures.ok c.in_ok-put_link.ensures.rest
-
-pub returns-in_err-check_link-clause-refused : goal.returns-in_err-check_link-clause-refused
-returns-in_err-check_link-clause-refused c =
-    let step : c.in_err-check_link.field-0.0 ≢ NoMemory → model.Refuses (state_of c.args.state.now) (model.PutLink c.args.path.now c.args.target.now) (refused_of c.in_err-check_link.field-0.0) =
-    λ differs. (c.in_err-check_link.ensures differs) in
-    search (rules, step)

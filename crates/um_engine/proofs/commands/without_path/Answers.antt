@@ -17,9 +17,3 @@ pub returns-clause-changed : goal.returns-clause-changed
 returns-clause-changed c =
     removes_to (state_of c.args.state.now) (state_of c.in_ok-changed.changed) (state_of c.remove.new.self) c.args.path.now
     c.in_ok-changed.ensures c.in_ok-remove.ensures.ok c.in_ok-remove.ensures.rest
-
-pub returns-in_err-check_remove-clause-refused : goal.returns-in_err-check_remove-clause-refused
-returns-in_err-check_remove-clause-refused c =
-    let step : c.in_err-check_remove.field-0.0 ≢ NoMemory → model.Refuses (state_of c.args.state.now) (model.Remove c.args.path.now) (refused_of c.in_err-check_remove.field-0.0) =
-    λ differs. (c.in_err-check_remove.ensures differs) in
-    search (rules, step)

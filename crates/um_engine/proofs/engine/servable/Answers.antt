@@ -1,5 +1,5 @@
-use Rattle.std.proofs.Common.{◌≢◌, refl}
-use Rattle.um_model.specs.Servable.{IsServable}
+use Rattle.std.proofs.Common.{◌≢◌, refl, subst, sym}
+use Rattle.um_model.specs.Servable.{IsFew, IsServable}
 use Rattle.um_state.specs.View.{state_of}
 use Rattle.um_wire.specs.declared.refusal.Refusal.TheVariants.{NoMemory}
 use Rattle.um_engine.proofs.OnlyLaws.{served_servable, load_unservable, heavy_unservable, unservable_is}
@@ -22,3 +22,9 @@ pub returns-clause-servable : goal.returns-clause-servable
 returns-clause-servable c =
     let s = state_of c.args.state in
     served_servable c.args.size s c.in_ok-served.served.state s.loaded refl c.in_ok-served.ensures.refused c.in_ok-served.ensures.state c.in_ok-check_room.ensures.room
+
+pub returns-clause-exact : goal.returns-clause-exact
+returns-clause-exact c =
+    let s = state_of c.args.state in
+    let is = served_servable c.args.size s c.in_ok-served.served.state s.loaded refl c.in_ok-served.ensures.refused c.in_ok-served.ensures.state c.in_ok-check_room.ensures.room in
+    c.in_ok-served.ensures.exact (subst IsFew (sym c.in_ok-served.ensures.state) is.few)

@@ -4,6 +4,7 @@ use Rattle.um_model.specs.Refusals.{Refused}
 use Rattle.um_state.specs.View.{state_of}
 use Rattle.um_wire.specs.Refusal.{refused_of}
 use Rattle.um_wire.specs.declared.refusal.Refusal.TheVariants.{NoMemory}
+use Rattle.um_engine.proofs.ExactLaws.{exact_at}
 use Rattle.um_engine.proofs.KnownLaws.{knows_of}
 use Rattle.um_engine.proofs.PlannedLaws.{refuses_on}
 use Rattle.um_engine.proofs.engine.served_of.Goals as goal
@@ -28,3 +29,9 @@ returns-clause-state c = c.in_ok-numbered.ensures.state
 
 pub returns-clause-refused : goal.returns-clause-refused
 returns-clause-refused c = subst (λ t. (r : Refused) → ¬ CausesOfLoad (state_of c.args.state) t r) c.loaded.ensures c.in_ok-known.ensures.refused
+
+pub returns-clause-exact : goal.returns-clause-exact
+returns-clause-exact c =
+    let s = state_of c.args.state in
+    let known = c.in_ok-known.known.value in
+    exact_at c.in_ok-numbered.field-0 known s c.in_ok-numbered.ensures.state c.in_ok-numbered.ensures.known (knows_of known s c.loaded.result.now c.loaded.ensures c.in_ok-known.ensures.knows) c.in_ok-known.ensures.held

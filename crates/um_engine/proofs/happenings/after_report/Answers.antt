@@ -14,14 +14,14 @@ use Rattle.um_engine.proofs.KnownLaws.{serves_for}
 use Rattle.um_engine.proofs.Ticks.{report_is_idle, report_is_over}
 use Rattle.um_engine.proofs.happenings.after_report.Goals as goal
 
-pub returns-in-None : goal.returns-in-None
-returns-in-None c = (
+pub returns-in-None-clause-met : goal.returns-in-None-clause-met
+returns-in-None-clause-met c = (
   report_is_over c.args.moment c.args.served.now.state c.args.number (subst (λ (s : State). model.IsOver s.units c.args.number) c.state.ensures.state (rw c.units-units.ensures at c.in-None.ensures)),
   ap (map action_of) c.new.ensures.items,
 )
 
-pub returns-then-not-awaits_report : goal.returns-then-not-awaits_report
-returns-then-not-awaits_report c =
+pub returns-then-not-awaits_report-clause-met : goal.returns-then-not-awaits_report-clause-met
+returns-then-not-awaits_report-clause-met c =
     let v = c.args.served.now in
     let unit = c.in-Some.unit.now in
     let process : IsProcessOf v.state.units c.args.number unit =
@@ -42,8 +42,8 @@ after_happening-requires c =
     subst (λ (s : State). IsProcessOf s.units c.args.number c.in-Some.unit.now) c.state.ensures.state (rw c.units-units.ensures at c.in-Some.ensures) in
     process_known v.known.graph v.state c.in-Some.unit.now c.args.number (serves_for v.known v.state c.state.ensures.knows) process.has
 
-pub returns : goal.returns
-returns c =
+pub returns-clause-met : goal.returns-clause-met
+returns-clause-met c =
     let v = c.args.served.now in
     let unit = c.in-Some.unit.now in
     let process : IsProcessOf v.state.units c.args.number unit =
@@ -55,5 +55,5 @@ returns c =
     let awaits : Decides c.awaits_report.result (AwaitsReport v.state c.args.number unit) =
     c.awaits_report.ensures v.state (subst (λ g. Serves g v.state) (sym graph) serves)
     (subst (λ (g : GraphView). Contains g.names unit) (sym graph) (process_known v.known.graph v.state unit c.args.number serves process.has)) stands in
-    report_met c.args.moment (standing_of v) c.args.number unit c.in_ok-delta.delta (map action_of c.in_ok-delta.actions.items) process
-    (awaits.0 c.if-not-awaits_report.false) c.in_ok-delta.ensures
+    report_met c.args.moment (standing_of v) c.args.number unit c.in_ok-change.change (map action_of c.in_ok-change.actions.items) process
+    (awaits.0 c.if-not-awaits_report.false) c.in_ok-change.ensures.does

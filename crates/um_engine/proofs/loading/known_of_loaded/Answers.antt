@@ -35,3 +35,6 @@ returns-clause-refused c =
     let k : KnownView = c.in_ok-known.known.value in
     let knows : KnowsFor k (record s { loaded = tree }) = knows_made k s tree c.in_ok-known.ensures.made c.in_ok-known.ensures.lasting c.in_ok-known.ensures.extra in
     free_to_load s tree c.in_ok-known.ensures.few (c.in_ok-check_order.ensures tree (subst (λ (x : KnownView). KnowsFor x (record s { loaded = tree })) (sym c.deref.ensures) knows))
+
+pub returns-clause-held : goal.returns-clause-held
+returns-clause-held c unit among = (c.in_ok-known.ensures.extra unit).0 among

@@ -1,8 +1,9 @@
-use Rattle.std.proofs.Common.{◌∙◌, refl, ap}
+use Rattle.std.proofs.Common.{◌∙◌, ◌≤◌, refl, ap, arith}
+use Rattle.std.proofs.lemmas.Bool.{ltb-false}
 use Rattle.um_model.specs.Machine as model
 use Rattle.um_model.specs.Machine.{State}
 use Rattle.um_wire.specs.declared.refusal.Refusal.TheVariants.{NoMemory}
-use Rattle.um_engine.proofs.PlannedLaws.{refuses_on, served_plan}
+use Rattle.um_engine.proofs.PlannedLaws.{refuses_on, same_without, served_plan}
 use Rattle.um_engine.proofs.planning.carry_out.Goals as goal
 
 pub planned_in-requires-clause-demands : goal.planned_in-requires-clause-demands
@@ -31,3 +32,11 @@ returns-clause-planned c =
 
 pub returns-clause-refused : goal.returns-clause-refused
 returns-clause-refused c = c.in_ok-work.ensures.refused
+
+pub returns-clause-same : goal.returns-clause-same
+returns-clause-same c none =
+    let low : c.len-changes.result ≤ 0 = ltb-false 0 c.len-changes.result none in
+    same_without c.args.served.now.state (c.args.demand, c.args.unit.now) c.args.served.now c.swap.new.self c.in_ok-delta.delta
+    (served_plan c.args.served.now.state (c.args.demand, c.args.unit.now) c.args.served.now c.swap.new.self c.in_ok-work.work c.clock-moment.result c.in_ok-delta.delta refl
+    (c.clock-moment.ensures ∙ ap (λ (s : State). s.clock) c.state.ensures.state) c.in_ok-work.ensures.works c.in_ok-work.ensures.moment c.in_ok-work.ensures.planned
+    c.in_ok-delta.ensures.after c.swap.ensures.state) refl c.swap.ensures.state (omega (arith, low, c.len-changes.ensures))

@@ -37,21 +37,33 @@ returns-in_err-changed-clause-refused c =
     refuses_on (model.Refuses c.args.served.now.state (model.ForUnit wanted.verb wanted.asked.now wanted.mode)) c.from_residual-in_err-changed.result NoMemory c.from_residual-in_err-changed.ensures.1
     (λ differs. absurd (differs refl))
 
-pub returns-in_err-carry_out-clause-refused : goal.returns-in_err-carry_out-clause-refused
-returns-in_err-carry_out-clause-refused c =
+pub returns-in_err-changes-clause-refused : goal.returns-in_err-changes-clause-refused
+returns-in_err-changes-clause-refused c =
     let wanted = c.args.wanted.now in
     let same : c.in_ok-changed.changed.state ≡ c.args.served.now.state = c.in_ok-changed.ensures.state ∙ (c.in_ok-state.ensures ∙ c.state.ensures.state) in
-    let e = c.in_err-carry_out.field-0.0 in
-    refuses_on (model.Refuses c.args.served.now.state (model.ForUnit wanted.verb wanted.asked.now wanted.mode)) c.from_residual-in_err-carry_out.result e c.from_residual-in_err-carry_out.ensures.1
-    (subst (λ (s : State). e ≢ NoMemory → model.Refuses s (model.ForUnit wanted.verb wanted.asked.now wanted.mode) (refused_of e)) same c.in_err-carry_out.ensures.refused)
+    let e = c.in_err-changes.field-0.0 in
+    refuses_on (model.Refuses c.args.served.now.state (model.ForUnit wanted.verb wanted.asked.now wanted.mode)) c.from_residual-in_err-changes.result e c.from_residual-in_err-changes.ensures.1
+    (subst (λ (s : State). e ≢ NoMemory → model.Refuses s (model.ForUnit wanted.verb wanted.asked.now wanted.mode) (refused_of e)) same c.in_err-changes.ensures.refused)
+
+pub returns-then-changes-clause-planned : goal.returns-then-changes-clause-planned
+returns-then-changes-clause-planned c =
+    let same : c.in_ok-changed.changed.state ≡ c.args.served.now.state = c.in_ok-changed.ensures.state ∙ (c.in_ok-state.ensures ∙ c.state.ensures.state) in
+    subst (λ (s : State). HasPlan s (c.args.demand, c.args.unit.now) c.carry_out.new.served.state) same c.in_ok-changes.ensures.planned
+
+pub returns-then-changes-clause-refused : goal.returns-then-changes-clause-refused
+returns-then-changes-clause-refused c =
+    let wanted = c.args.wanted.now in
+    let same : c.in_ok-changed.changed.state ≡ c.args.served.now.state = c.in_ok-changed.ensures.state ∙ (c.in_ok-state.ensures ∙ c.state.ensures.state) in
+    subst (λ (s : State). (r : Refused) → ¬ model.Refuses s (model.ForUnit wanted.verb wanted.asked.now wanted.mode) r) same c.in_ok-changes.ensures.refused
 
 pub returns-clause-planned : goal.returns-clause-planned
 returns-clause-planned c =
     let same : c.in_ok-changed.changed.state ≡ c.args.served.now.state = c.in_ok-changed.ensures.state ∙ (c.in_ok-state.ensures ∙ c.state.ensures.state) in
-    subst (λ (s : State). HasPlan s (c.args.demand, c.args.unit.now) c.carry_out.new.served.state) same c.in_ok-carry_out.ensures.planned
+    subst (HasPlan c.args.served.now.state (c.args.demand, c.args.unit.now)) (c.in_ok-changes.ensures.same c.if-changes.false ∙ same)
+    (subst (λ (s : State). HasPlan s (c.args.demand, c.args.unit.now) c.carry_out.new.served.state) same c.in_ok-changes.ensures.planned)
 
 pub returns-clause-refused : goal.returns-clause-refused
 returns-clause-refused c =
     let wanted = c.args.wanted.now in
     let same : c.in_ok-changed.changed.state ≡ c.args.served.now.state = c.in_ok-changed.ensures.state ∙ (c.in_ok-state.ensures ∙ c.state.ensures.state) in
-    subst (λ (s : State). (r : Refused) → ¬ model.Refuses s (model.ForUnit wanted.verb wanted.asked.now wanted.mode) r) same c.in_ok-carry_out.ensures.refused
+    subst (λ (s : State). (r : Refused) → ¬ model.Refuses s (model.ForUnit wanted.verb wanted.asked.now wanted.mode) r) same c.in_ok-changes.ensures.refused

@@ -18,7 +18,7 @@ loop-neighbour-preserved c =
     let row = c.neighbours-row.result.now in
     let before : Taking = (state_of u.now, c.loop-neighbour.list.items) in
     let after : Taking = (state_of w.now, c.take_next.new.list.items) in
-    let whole : Taking = taken_all v.graph row row (state_of v.now, c.args.list.now.items) in
+    let whole : Taking = taken_all v.graph row (state_of v.now, c.args.list.now.items) in
     record {
       taken =
           next_taken v.graph u.graph row c.loop-neighbour.neighbour-index absent before after whole (omega arith) keeps.graph

@@ -7,8 +7,8 @@ use Rattle.um_falling.proofs.along.take_all.Given as goal
 -- what is taken by the neighbours that are left is what is taken by all
 abbrev pub invariant-loop-neighbour : goal.invariant-loop-neighbour
 invariant-loop-neighbour l = record {
-  taken : taken_all l.initial.work.graph l.row (drop l.neighbour-index l.row) (state_of l.work.now, l.list.items)
-      ≡ taken_all l.initial.work.graph l.row l.row (state_of l.initial.work.now, l.initial.list.items);
+  taken : taken_all l.initial.work.graph (drop l.neighbour-index l.row) (state_of l.work.now, l.list.items)
+      ≡ taken_all l.initial.work.graph l.row (state_of l.initial.work.now, l.initial.list.items);
   keeps : Keeps l.initial.work l.work;
   actions : l.work.actions ≡ l.initial.work.actions;
 }

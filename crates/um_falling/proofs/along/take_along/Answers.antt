@@ -25,7 +25,7 @@ units-smaller c =
     let row = row_of g.rows c.in-Some.unit in
     let after : Taking = (state_of c.take_all.new.work.now, c.take_all.new.list.items) in
     let before : Taking = (state_of c.units.work.now, c.pop.new.self.items) in
-    fewer_left g row row (state_of c.units.work.now) c.units.list.items c.pop.new.self.items c.in-Some.unit after c.in-Some.ensures.items
+    fewer_left g row (state_of c.units.work.now) c.units.list.items c.pop.new.self.items c.in-Some.unit after c.in-Some.ensures.items
     (taken_on c.args.work.now c.units.work c.units.invariant.keeps c.in-Some.unit before after c.in_ok-take_all.ensures.taken)
 
 pub units-preserved : goal.units-preserved
@@ -39,8 +39,8 @@ units-preserved c =
       going = λ name number tidy_jobs tidy_units.
           goes_on v.graph (state_of v.now) name c.graph.ensures.serves (state_of c.units.work.now) c.units.list.items c.pop.new.self.items c.in-Some.unit after
           (c.units.invariant.going name number tidy_jobs tidy_units) c.in-Some.ensures.items taken;
-      waits = waits_on v.graph row row before after (state_of v.now).pending taken c.units.invariant.waits;
-      subs = subs_on v.graph row row before after (state_of v.now) taken c.units.invariant.subs;
+      waits = waits_on v.graph row before after (state_of v.now).pending taken c.units.invariant.waits;
+      subs = subs_on v.graph row before after (state_of v.now) taken c.units.invariant.subs;
       keeps = keeps_then v c.units.work c.take_all.new.work c.units.invariant.keeps c.in_ok-take_all.ensures.keeps;
       actions = c.in_ok-take_all.ensures.actions ∙ c.units.invariant.actions;
     }

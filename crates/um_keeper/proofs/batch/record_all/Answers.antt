@@ -1,4 +1,4 @@
-use Rattle.std.proofs.Common.{◌≡◌, ◌∙◌, ◌+◌, ◌≤◌, ◌<◌, ◌++◌, ℕ, zero, suc, Bool, true, false, List, [], ◌∷◌, length, map, replicate, inl, inr, sym, ap, subst, arith, append-nil}
+use Rattle.std.proofs.Common.{◌≡◌, ◌∙◌, ◌+◌, ◌-◌, ◌≤◌, ◌<◌, ◌++◌, ℕ, zero, suc, Bool, true, false, List, [], ◌∷◌, length, map, replicate, inl, inr, sym, ap, subst, arith, append-nil}
 use Rattle.std.specs.Prelude.{Err}
 use Rattle.std.proofs.lemmas.Bool.{cases_Bool, true≢false}
 use Rattle.std.proofs.lemmas.List.{length-map}
@@ -14,6 +14,7 @@ use Rattle.um_keeper.specs.Underway.{owed}
 use Rattle.um_keeper.specs.declared.ahead.Ahead.{Ahead}
 use Rattle.um_keeper.proofs.Batching.{same_length, taken_over, need_no_record, no_record_front, unrecorded_meant}
 use Rattle.um_keeper.proofs.Results.{err_from, err_more, ok_from, ok_always}
+use Rattle.um_keeper.proofs.Taking.{takes_all, spent_all, spent_meant}
 use Rattle.um_keeper.proofs.Underway.{then_settled, owed_most}
 use Rattle.um_wire.specs.declared.refusal.Refusal.TheVariants.{Device}
 use Rattle.um_keeper.proofs.batch.record_all.Goals as goal
@@ -53,10 +54,10 @@ returns-clause-stopped g c = err_more c.settle.result (λ needed. record {
   u = state_in c.take_all.new.engine;
   were = c.in_ok-take_all.ensures.ok;
   fails = at_sync (λ none. true≢false (sym needed ∙ ap (λ (a : Ahead). a.unsynced) (c.in_ok-take_all.ensures.unrecorded none).1 ∙ c.requires.synced));
-  sectors = c.in_ok-take_all.ensures.recorded.0;
-  recorded = c.in_ok-take_all.ensures.recorded.1;
+  sectors = c.in_ok-take_all.ensures.takes.takes.sectors;
+  recorded = c.in_ok-take_all.ensures.takes.takes.recorded;
   few = λ room.
-      let calls = c.in_ok-take_all.ensures.recorded.2 (omega (arith, room)) in
+      let calls = (c.in_ok-take_all.ensures.takes.takes.fits (omega (arith, room))).2 in
       let owes = owed_most c.take_all.new.ahead.unsynced in
       omega (arith, c.settle.ensures.calls, owes, calls);
 }) c.settle.ensures.needed
@@ -93,16 +94,37 @@ returns-in_err-take_all-clause-unwritten g c = err_from c.from_residual.result (
     c.in_err-take_all.ensures.unwritten more here)
 
 pub returns-clause-one_sync : goal.returns-clause-one_sync
-returns-clause-one_sync g c = ok_from c.settle.result (λ synced h room some.
-    let fitted = c.in_ok-take_all.ensures.fitted room in
-    let is : c.take_all.new.ahead.unsynced ≡ true = elim (cases_Bool c.take_all.new.ahead.unsynced) [ inl is_so ↦ is_so | inr not_so ↦ absurd (some (c.in_ok-take_all.ensures.clean not_so)) ] in
-    one_more c.take_all.new.ahead.unsynced _ _ _ is (synced (c.take_all.ensures.honest ∙ h)) (fitted.0 h)) c.settle.ensures.syncs
+returns-clause-one_sync g c = ok_from c.settle.result (λ synced h.
+    let made = c.in_ok-take_all.ensures.takes in (
+      made.takes.sectors,
+      made.takes.recorded,
+      λ room some.
+          let is : c.take_all.new.ahead.unsynced ≡ true = elim (cases_Bool c.take_all.new.ahead.unsynced) [ inl is_so ↦ is_so | inr not_so ↦ absurd (some (c.in_ok-take_all.ensures.clean not_so)) ] in
+          one_more c.take_all.new.ahead.unsynced _ _ _ is (synced (c.take_all.ensures.honest ∙ h)) (made.unsynced h room),
+    )) c.settle.ensures.syncs
 
 pub returns-clause-few_calls : goal.returns-clause-few_calls
-returns-clause-few_calls g c = ok_always c.settle.result (λ room.
-    let fitted = c.in_ok-take_all.ensures.fitted room in
+returns-clause-few_calls g c =
     let owes = owed_most c.take_all.new.ahead.unsynced in
-    omega (arith, c.settle.ensures.calls, owes, fitted.1))
+    ok_always c.settle.result (takes_all c.in_ok-take_all.ensures.takes.takes (g.D.Disk.calls c.settle.new.disk) (omega (arith, c.settle.ensures.calls, owes)))
+
+same_low : (n : ℕ) → n ≤ n
+same_low n = omega arith
+
+pub returns-clause-spent : goal.returns-clause-spent
+returns-clause-spent g c = ok_always c.settle.result (λ from free. spent_all c.in_ok-take_all.ensures.takes.takes c.take_all.new.ahead.log.generation from (same_low c.take_all.new.ahead.log.generation) free)
+
+pub returns-clause-spent_meant : goal.returns-clause-spent_meant
+returns-clause-spent_meant g c =
+    let inputs = c.args.inputs.now in
+    let answers = c.take_all.new.answers.items in
+    let size = same_length c.in_ok-take_all.ensures.ok in
+    let counted = length-map inputs input_of in
+    err_from c.settle.result (λ from free. spent_meant [] (length inputs - length answers) (sym (append-nil (map input_of inputs))) (omega (arith, size, counted))
+    (spent_all c.in_ok-take_all.ensures.takes.takes c.take_all.new.ahead.log.generation from (same_low c.take_all.new.ahead.log.generation) free))
+
+pub returns-in_err-take_all-clause-spent_meant : goal.returns-in_err-take_all-clause-spent_meant
+returns-in_err-take_all-clause-spent_meant g c = err_from c.from_residual.result c.in_err-take_all.ensures.spent
 
 pub returns-in_err-take_all-clause-lost : goal.returns-in_err-take_all-clause-lost
 returns-in_err-take_all-clause-lost g c = err_from c.from_residual.result c.in_err-take_all.ensures.lost

@@ -1,20 +1,21 @@
-use Rattle.std.proofs.Common.{◌≡◌, ◌∙◌, ◌<◌, ◌≤◌, ◌+◌, ◌++◌, ℕ, List, [], ◌∷◌, append-nil, length, take, drop, map, replicate, get_or, inl, inr, refl, sym, ap, subst, arith}
+use Rattle.std.proofs.Common.{◌≡◌, ◌∙◌, ◌<◌, ◌≤◌, ◌+◌, ◌-◌, ◌++◌, ℕ, List, [], ◌∷◌, append-nil, length, take, drop, map, get_or, inl, inr, refl, sym, ap, subst, arith}
 use Rattle.std.specs.Prelude.{Err}
 use Rattle.std.proofs.lemmas.List.{take_more, take_all, drop_more, take-append-drop, map-append, nil_from_length, length-drop, length-take, length-map}
 use Rattle.um_engine.specs.Engine.{state_in, size_in}
 use Rattle.um_model.specs.Disk.{During}
 use Rattle.um_model.specs.Machine as model
-use Rattle.um_model.specs.Store.{body_limit, log_end, sector_count}
+use Rattle.um_model.specs.Store.{log_end}
 use Rattle.um_model.specs.declared.layout.Layout.{Layout}
+use Rattle.um_sector.specs.Unsynced.{sync_count}
 use Rattle.um_state.specs.View.{input_of}
 use Rattle.um_state.specs.declared.input.Input.{Input}
-use Rattle.um_keeper.specs.Answering.{Answer, Answered, AreAnswered, all_answered, where_step, taken, IsIdle, NeedsRecord, at_record, NeedNoRecord, HasNoRecord, HaveNoRecord, sectors_for, all_sectors, Recorded, all_recorded, AreSpentAt, most_calls}
+use Rattle.um_keeper.specs.Answering.{Answer, Answered, AreAnswered, all_answered, where_step, taken, IsIdle, NeedsRecord, at_record, NeedNoRecord, HasNoRecord, HaveNoRecord, most_calls, most_snapshot_calls}
 use Rattle.um_keeper.specs.Keeping.{IsBegun, record_calls}
-use Rattle.um_keeper.specs.Underway.{UnderwayIn, owed}
+use Rattle.um_keeper.specs.Underway.{UnderwayIn, TakesUnsynced, owed}
 use Rattle.um_keeper.specs.declared.ahead.Ahead.{Ahead}
-use Rattle.um_keeper.proofs.Batching.{appended, answered_more, same_length, taken_more, idle_left, need_no_record, no_record_left, no_record_more, recorded_with, recorded_without, sectors_left}
+use Rattle.um_keeper.proofs.Batching.{appended, answered_more, same_length, taken_more, idle_left, need_no_record, no_record_left, no_record_more}
 use Rattle.um_keeper.proofs.Results.{err_from}
-use Rattle.um_keeper.proofs.Spent.{spent_at, spent_left, faults_spent}
+use Rattle.um_keeper.proofs.Taking.{unsynced_none, unsynced_without, unsynced_with, unsynced_same, unsynced_still, spent_all, spent_meant}
 use Rattle.um_keeper.proofs.Underway.{still_begun, underway_kept, then_begun}
 use Rattle.um_wire.specs.declared.refusal.Refusal.TheVariants.{Device}
 use Rattle.um_keeper.proofs.batch.take_all.Goals as goal
@@ -35,17 +36,10 @@ fewer now old sectors own left more first total one is most = omega (arith, one,
 
 -- the calls of those behind it
 calls_left : {layout l : Layout} {left more : List model.Input} {input : model.Input} → l ≡ layout → left ≡ input ∷ more → (now old first total : ℕ)
-    → now ≤ old + (sector_count (body_limit l) + 3) + record_calls input → old + most_calls layout left ≤ first + total → now + most_calls layout more ≤ first + total
+    → now ≤ old + most_snapshot_calls l + record_calls input → old + most_calls layout left ≤ first + total → now + most_calls layout more ≤ first + total
 calls_left {layout} {l} {left} {more} {input} same is now old first total one most =
-    fewer now old (sector_count (body_limit layout) + 3) (record_calls input) (most_calls layout left) (most_calls layout more) first total
-    (subst (λ (z : Layout). now ≤ old + (sector_count (body_limit z) + 3) + record_calls input) same one) (ap (most_calls layout) is) most
-
--- where they all have room, so has this one
-one_has_room : (next next' sectors left more end end' : ℕ) → end' ≡ end → left ≡ sectors + more → next + left ≤ end → next + sectors ≤ end'
-one_has_room next next' sectors left more end end' same is room = omega (arith, same, is, room)
-
-rest_has_room : (next now sectors left more end : ℕ) → left ≡ sectors + more → now ≤ next + sectors → next + left ≤ end → now + more ≤ end
-rest_has_room next now sectors left more end is grown room = omega (arith, is, grown, room)
+    fewer now old (most_snapshot_calls layout) (record_calls input) (most_calls layout left) (most_calls layout more) first total
+    (subst (λ (z : Layout). now ≤ old + most_snapshot_calls z + record_calls input) same one) (ap (most_calls layout) is) most
 
 -- what is read of one more
 behind_same : {A : Type 0} (f : A → ℕ) (x y : A) (n : ℕ) → x ≡ y → f y ≡ n → f x ≡ n
@@ -85,13 +79,8 @@ loop-input-init g c =
       idle = λ here. (refl, refl, refl, here);
       unrecorded = λ rest here. (refl, refl, refl, subst (λ l. HaveNoRecord (state_in first) all (l ++ rest)) none here);
       clean = λ is. (tt, refl);
-      fitted = λ rest room. (
-        (λ h. refl),
-        subst (λ l. a.log.next + all_sectors all (l ++ rest) ≤ log_end a.log.layout a.log.generation) none room,
-        subst (λ l. D.calls c.args.disk.now + all_sectors all rest ≤ D.calls c.args.disk.now + all_sectors all (l ++ rest)) (sym none) (omega arith),
-      );
-      recorded = (0, subst (λ l. Recorded (size_in first) (state_in first) [] l 0 (state_in first)) (sym none) all_recorded, λ room. (omega arith, omega arith));
-      spent = λ from free. (from, free, (λ generation high rest behind. subst (λ l. AreSpentAt a.log.layout generation from all (l ++ rest)) (sym none) behind));
+      takes = subst (λ l. TakesUnsynced (D.honest c.args.disk.now) (sync_count past) (sync_count past) (size_in first) a.log a.log (D.calls c.args.disk.now) (D.calls c.args.disk.now)
+          (state_in first) [] l (state_in first)) (sym none) (unsynced_none (D.honest c.args.disk.now) (sync_count past) (size_in first) a.log (D.calls c.args.disk.now) (state_in first));
       calls = let clean = ap owed c.requires.synced in omega (arith, clean);
       held = c.requires.held;
       sized = refl;
@@ -127,10 +116,6 @@ loop-input-preserved g c =
     let longer = one_longer c.input-item.result (drop (at.input-index + 1) c.args.inputs.now) (drop at.input-index c.args.inputs.now) left in
     let more : (rest : List Answer) → answers ++ rest ≡ at.answers.items ++ (answer ∷ rest) = λ rest. appended at.answers.items answers answer rest c.note.ensures.items in
     let size = same_length inv.answered in
-    let all_of : (n : ℕ) (u : model.State) → Recorded (size_in first) (state_in first) (front ++ input ∷ []) (at.answers.items ++ answer ∷ []) n u
-    → Recorded (size_in first) (state_in first) (map input_of (take (at.input-index + 1) c.args.inputs.now)) answers n u =
-    λ n u here. subst (λ l. Recorded (size_in first) (state_in first) l answers n u) (sym further)
-    (subst (λ l. Recorded (size_in first) (state_in first) (front ++ input ∷ []) l n u) (sym c.note.ensures.items) here) in
     let sum : taken (map input_of (take (at.input-index + 1) c.args.inputs.now)) answers ≡ taken front at.answers.items ++ where_step answer input =
     ap (λ l. taken l answers) further ∙ ap (taken (front ++ input ∷ [])) c.note.ensures.items ∙ taken_more front at.answers.items input [] answer size in
     record {
@@ -161,49 +146,15 @@ loop-input-preserved g c =
                 (no_record_more (state_in first) front at.answers.items input answer size all_before (subst (λ z. HasNoRecord z input answer) s one))),
             (told.unrecorded one).2 ∙ s,
           );
-      fitted = λ rest room.
-          let (syncs, next, calls) = inv.fitted (answer ∷ rest) (subst (λ l. a.log.next + all_sectors all l ≤ log_end layout a.log.generation) (more rest) room) in
-          let sum_of = sectors_left answer rest step in
-          let same_end : log_end at.ahead.log.layout at.ahead.log.generation ≡ log_end layout a.log.generation = ap (λ (z : Layout). log_end z 0) inv.layout in
-          let one = told.fitted (one_has_room at.ahead.log.next 0 (sectors_for answer input) _ _ _ _ same_end sum_of next) in (
-            (λ h. one.0 (inv.honest ∙ h) ∙ syncs h),
-            rest_has_room at.ahead.log.next made.ahead.log.next (sectors_for answer input) _ _ _ sum_of one.1 next,
-            subst (λ l. D.calls made.disk + all_sectors (map input_of (drop (at.input-index + 1) c.args.inputs.now)) rest ≤ D.calls c.args.disk.now + all_sectors all l) (sym (more rest))
-                (rest_has_room (D.calls at.disk) (D.calls made.disk) (sectors_for answer input) _ _ _ sum_of one.2 calls),
-          );
-      recorded =
-          let (sectors, here, most) = inv.recorded in
-          let same_end : log_end at.ahead.log.layout at.ahead.log.generation ≡ log_end layout a.log.generation = ap (λ (z : Layout). log_end z 0) inv.layout in
-          elim told.either [
-            | inl none ↦ (
-              sectors,
-              all_of sectors (state_in made.engine) (subst (Recorded (size_in first) (state_in first) (front ++ input ∷ []) (at.answers.items ++ answer ∷ []) sectors) (sym (told.unrecorded none).2) (recorded_without input answer here none)),
-              λ room.
-                  let (next, calls) = most room in
-                  let still = ap (λ (x : Ahead). x.log.next) (told.unrecorded none).1 in
-                  let none_more = ap (λ d. D.calls d) (told.unrecorded none).0 in
-                  (omega (arith, next, still), omega (arith, calls, none_more)),
-            )
-            | inr some ↦ (
-              sectors + sectors_for answer input,
-              all_of (sectors + sectors_for answer input) (state_in made.engine)
-                  (recorded_with here (subst (λ n. Answered n (state_in at.engine) input answer (state_in made.engine)) inv.sized told.ok) some),
-              λ room.
-                  let (next, calls) = most (omega (arith, room)) in
-                  let one = told.fitted (omega (arith, next, same_end, room)) in
-                  (omega (arith, next, one.1), omega (arith, calls, one.2)),
-            )
-          ];
-      spent = λ from free.
-          let (here, is_free, so_far) = inv.spent from free in (
-            here + sectors_for answer input,
-            told.free here is_free,
-            λ generation high rest behind.
-                let before : at.ahead.log.generation ≤ generation = omega (arith, call.grows, high) in
-                subst (AreSpentAt layout generation from all) (sym (more rest))
-                (so_far generation before (answer ∷ rest)
-                (spent_left layout generation here answer rest step (spent_at input answer is_free inv.layout before told.spent) behind)),
-          );
+      takes = elim told.either [
+        | inl none ↦
+            let same = told.unrecorded none in
+            unsynced_still (ap (λ d. sync_count (D.past d)) same.0) (ap (λ (x : Ahead). x.log) same.1) (ap (λ d. D.calls d) same.0) same.2
+            (unsynced_same further c.note.ensures.items (unsynced_without input answer inv.takes inv.layout none told.spent))
+        | inr some ↦ unsynced_same further c.note.ensures.items (unsynced_with inv.takes inv.layout call.grows
+            (subst (λ n. Answered n (state_in at.engine) input answer (state_in made.engine)) inv.sized told.ok) some
+            (λ room. let (syncs, next, calls, stays) = told.fitted room in ((λ h. syncs (inv.honest ∙ h)), next, calls, stays)) told.rises told.free)
+      ];
       calls = calls_left inv.layout step _ _ _ _ call.calls inv.calls;
       held = call.held;
       sized = call.sized ∙ inv.sized;
@@ -217,9 +168,6 @@ loop-input-preserved g c =
     }
 
 -- ---- behind the last
-
-same_low : (n : ℕ) → n ≤ n
-same_low n = omega arith
 
 pub returns-clause-ok : goal.returns-clause-ok
 returns-clause-ok g c =
@@ -255,36 +203,14 @@ returns-clause-clean g c is =
     let at = c.loop-input in
     subst (λ l. HaveNoRecord (state_in c.args.engine.now) (map input_of l) at.answers.items) (take_all at.input-index c.args.inputs.now c.loop-input-test.false) (at.invariant.clean is).0
 
-pub returns-clause-fitted : goal.returns-clause-fitted
-returns-clause-fitted g c room =
+pub returns-clause-takes : goal.returns-clause-takes
+returns-clause-takes g c =
     let D = g.D.Disk in
     let at = c.loop-input in
-    let a = c.args.ahead.now in
-    let all = map input_of c.args.inputs.now in
-    let same = append-nil at.answers.items in
-    let (syncs, next, calls) = at.invariant.fitted [] (subst (λ l. a.log.next + all_sectors all l ≤ log_end a.log.layout a.log.generation) (sym same) room) in
-    (syncs, fewer_calls (D.calls at.disk) _ _ _ (subst (λ l. D.calls at.disk + all_sectors (map input_of (drop at.input-index c.args.inputs.now)) [] ≤ D.calls c.args.disk.now + all_sectors all l) same calls))
-  where
-    fewer_calls : (now left old all : ℕ) → now + left ≤ old + all → now ≤ old + all
-    fewer_calls now left old all most = omega (arith, most)
-
-pub returns-clause-recorded : goal.returns-clause-recorded
-returns-clause-recorded g c =
-    let at = c.loop-input in
     let first = c.args.engine.now in
-    let (sectors, here, most) = at.invariant.recorded in (
-      sectors,
-      subst (λ l. Recorded (size_in first) (state_in first) (map input_of l) at.answers.items sectors (state_in at.engine)) (take_all at.input-index c.args.inputs.now c.loop-input-test.false) here,
-      λ room. (most room).1,
-    )
-
-pub returns-clause-spent : goal.returns-clause-spent
-returns-clause-spent g c count from free =
-    let at = c.loop-input in
-    let layout = c.args.ahead.now.log.layout in
-    let (here, is_free, so_far) = at.invariant.spent from free in
-    so_far at.ahead.log.generation (same_low at.ahead.log.generation) (replicate count (Err Device))
-    (faults_spent layout at.ahead.log.generation here (map input_of (drop at.input-index c.args.inputs.now)) count)
+    let past = D.past c.args.disk.now in
+    subst (λ l. TakesUnsynced (D.honest c.args.disk.now) (sync_count past) (sync_count (D.past at.disk)) (size_in first) c.args.ahead.now.log at.ahead.log
+    (D.calls c.args.disk.now) (D.calls at.disk) (state_in first) (map input_of l) at.answers.items (state_in at.engine)) (take_all at.input-index c.args.inputs.now c.loop-input-test.false) at.invariant.takes
 
 pub returns-clause-calls : goal.returns-clause-calls
 returns-clause-calls g c = omega (arith, c.loop-input.invariant.calls)
@@ -309,12 +235,12 @@ returns-in_err-answer-clause-stopped g c =
       parts = parts;
       u = state_in at.engine;
       were = inv.answered;
-      sectors = inv.recorded.0;
-      recorded = inv.recorded.1;
+      sectors = inv.takes.takes.sectors;
+      recorded = inv.takes.takes.recorded;
       fails = at_record (subst (λ n. NeedsRecord n (state_in at.engine) input) inv.sized c.in_err-answer.ensures.fault);
       few = λ room.
+          let (none, next, calls) = inv.takes.takes.fits (omega (arith, room)) in
           let same_end : log_end at.ahead.log.layout at.ahead.log.generation ≡ log_end a.log.layout a.log.generation = ap (λ (z : Layout). log_end z 0) inv.layout in
-          let (next, calls) = inv.recorded.2 (omega (arith, room)) in
           let last = c.in_err-answer.ensures.few (omega (arith, room, same_end, next)) in
           omega (arith, calls, last);
     })
@@ -371,9 +297,18 @@ returns-in_err-answer-clause-unwritten g c =
     (c.take_one.ensures.idle (subst (λ z. IsIdle z input) (sym s) idle)).0 ∙ d)
 
 pub returns-in_err-answer-clause-spent : goal.returns-in_err-answer-clause-spent
-returns-in_err-answer-clause-spent g c count from free =
+returns-in_err-answer-clause-spent g c =
     let at = c.loop-input in
+    let inv = at.invariant in
+    let inputs = c.args.inputs.now in
     let layout = c.args.ahead.now.log.layout in
-    let (here, is_free, so_far) = at.invariant.spent from free in
-    so_far c.take_one.new.ahead.log.generation c.take_one.ensures.grows (replicate count (Err Device))
-    (faults_spent layout c.take_one.new.ahead.log.generation here (map input_of (drop at.input-index c.args.inputs.now)) count)
+    let generation = c.take_one.new.ahead.log.generation in
+    let size = same_length inv.answered in
+    let counted = length-map (take at.input-index inputs) input_of in
+    let left = length-map (drop at.input-index inputs) input_of in
+    let short = length-take at.input-index inputs in
+    let long = length-drop at.input-index inputs in
+    let inside = c.loop-input-test.true in
+    err_from c.from_residual.result (λ from free.
+    spent_meant (map input_of (drop at.input-index inputs)) (length inputs - length at.answers.items) (ap (map input_of) (sym (take-append-drop at.input-index inputs)) ∙ map-append input_of (take at.input-index inputs) (drop at.input-index inputs))
+    (omega (arith, size, counted, left, short, long, inside)) (spent_all inv.takes.takes generation from c.take_one.ensures.grows free))

@@ -1,13 +1,12 @@
-use Rattle.std.proofs.Common.{◌≡◌, ◌+◌, ◌≤◌, ◌++◌, ℕ, List, length, take, drop, map, false, IsTrue, vec_len, vec_capacity}
+use Rattle.std.proofs.Common.{◌≡◌, ◌+◌, ◌≤◌, ◌++◌, List, length, take, drop, map, false, IsTrue, vec_len, vec_capacity}
 use Rattle.std.specs.List.{AllByRecursion}
 use Rattle.um_engine.specs.Engine.{standing_in, state_in, size_in}
 use Rattle.um_model.specs.Disk.{During}
-use Rattle.um_model.specs.Store.{log_end}
 use Rattle.um_sector.specs.Unsynced.{sync_count}
 use Rattle.um_state.specs.View.{input_of}
-use Rattle.um_keeper.specs.Answering.{Answer, AreAnswered, taken, IsIdle, HaveNoRecord, all_sectors, Recorded, AreSpentAt, most_calls, state_before_all}
+use Rattle.um_keeper.specs.Answering.{Answer, AreAnswered, taken, IsIdle, HaveNoRecord, most_calls, state_before_all}
 use Rattle.um_keeper.specs.Keeping.{MayHold, IsBegun}
-use Rattle.um_keeper.specs.Underway.{UnderwayIn, KeptIn, owed, IsFreeAt}
+use Rattle.um_keeper.specs.Underway.{UnderwayIn, KeptIn, owed, TakesUnsynced}
 use Rattle.um_keeper.proofs.batch.take_all.Given as goal
 
 abbrev pub invariant-loop-input : goal.invariant-loop-input
@@ -30,16 +29,8 @@ invariant-loop-input g l =
       unrecorded : (rest : List Answer) → HaveNoRecord (state_in first) all (l.answers.items ++ rest)
           → (l.disk ≡ l.fn.disk) × (l.ahead ≡ l.fn.ahead) × (state_in l.engine ≡ state_in first) × HaveNoRecord (state_in first) left rest;
       clean : l.ahead.unsynced ≡ false → HaveNoRecord (state_in first) front l.answers.items × (state_in l.engine ≡ state_in first);
-      fitted : (rest : List Answer) → l.fn.ahead.log.next + all_sectors all (l.answers.items ++ rest) ≤ log_end layout l.fn.ahead.log.generation
-          → (IsTrue (D.honest l.fn.disk) → sync_count (D.past l.disk) ≡ sync_count (D.past l.fn.disk))
-          × (l.ahead.log.next + all_sectors left rest ≤ log_end layout l.fn.ahead.log.generation)
-          × (D.calls l.disk + all_sectors left rest ≤ D.calls l.fn.disk + all_sectors all (l.answers.items ++ rest));
-      recorded : (sectors : ℕ) × Recorded (size_in first) (state_in first) front l.answers.items sectors (state_in l.engine)
-          × (l.fn.ahead.log.next + sectors ≤ log_end layout l.fn.ahead.log.generation
-          → (l.ahead.log.next ≤ l.fn.ahead.log.next + sectors) × (D.calls l.disk ≤ D.calls l.fn.disk + sectors));
-      spent : (from : ℕ) → IsFreeAt l.fn.ahead.log from → (now : ℕ) × IsFreeAt l.ahead.log now
-          × ((generation : ℕ) → l.ahead.log.generation ≤ generation → (rest : List Answer) → AreSpentAt layout generation now left rest
-          → AreSpentAt layout generation from all (l.answers.items ++ rest));
+      takes : TakesUnsynced (D.honest l.fn.disk) (sync_count (D.past l.fn.disk)) (sync_count (D.past l.disk)) (size_in first) l.fn.ahead.log l.ahead.log
+          (D.calls l.fn.disk) (D.calls l.disk) (state_in first) front l.answers.items (state_in l.engine);
       calls : D.calls l.disk + owed l.ahead.unsynced + most_calls layout left ≤ D.calls l.fn.disk + most_calls layout all;
       held : MayHold l.ahead.log.layout (size_in l.engine) (state_in l.engine);
       sized : size_in l.engine ≡ size_in first;

@@ -6,13 +6,13 @@ use Rattle.um_model.specs.Disk.{During}
 use Rattle.um_model.specs.InputSpellings.{input_spelling}
 use Rattle.um_model.specs.Store.{part_count}
 use Rattle.um_state.specs.View.{input_of}
-use Rattle.um_keeper.specs.Answering.{Answered, accepted, where_step, sectors_for, state_before_all}
+use Rattle.um_keeper.specs.Answering.{Answered, accepted, where_step, record_sectors, state_before_all}
 use Rattle.um_keeper.specs.Keeping.{IsBegun}
 use Rattle.um_keeper.specs.Underway.{UnderwayIn, IsFreeAt}
 use Rattle.um_sector.specs.Unsynced.{sync_count}
 use Rattle.um_keeper.specs.declared.ahead.Ahead.{Ahead}
 use Rattle.um_keeper.proofs.Batching.{answered_refused, back_append, done_answered}
-use Rattle.um_keeper.proofs.Kept.{calls_at_most}
+use Rattle.um_keeper.proofs.Kept.{calls_at_most, rises_at_most}
 use Rattle.um_keeper.proofs.Results.{the_other}
 use Rattle.um_keeper.proofs.Spent.{free_at_more}
 use Rattle.um_keeper.proofs.Underway.{still_longer, underway_stayed, underway_refused, cause_of, step_on}
@@ -36,6 +36,9 @@ returns-then-is_idle-clause-free g c from free = free_at_more (part_count (lengt
 pub returns-then-is_idle-clause-either : goal.returns-then-is_idle-clause-either
 returns-then-is_idle-clause-either g c = inl (c.is_idle.ensures.lacks c.if-is_idle.true)
 
+pub returns-then-is_idle-clause-rises : goal.returns-then-is_idle-clause-rises
+returns-then-is_idle-clause-rises g c = inl (refl, omega arith)
+
 -- ---- one that is accepted
 
 pub returns-in-Ok-clause-either : goal.returns-in-Ok-clause-either
@@ -49,6 +52,9 @@ returns-in-Ok-clause-back g c =
     let before = c.args.backs.now.items in
     let after = standing_in c.take_step.new.engine in
     ap (λ l. state_before_all l after) c.keep.ensures.items ∙ back_append before (_ ∷ []) after ∙ ap (state_before_all before) c.in-Ok.ensures.back
+
+pub returns-in-Ok-clause-rises : goal.returns-in-Ok-clause-rises
+returns-in-Ok-clause-rises g c = rises_at_most c.args.ahead.now.log c.take_step.new.ahead.log c.requires.held c.in-Ok.ensures.rises
 
 pub returns-in-Ok-clause-calls : goal.returns-in-Ok-clause-calls
 returns-in-Ok-clause-calls g c = calls_at_most c.requires.held _ _ _ c.take_step.ensures.calls
@@ -95,7 +101,7 @@ returns-else-is_fault-clause-calls g c = calls_at_most c.requires.held _ _ _ c.t
 pub returns-else-is_fault-clause-free : goal.returns-else-is_fault-clause-free
 returns-else-is_fault-clause-free g c from free =
     let same = the_other (λ d. false≢true (sym c.if-is_fault.false ∙ c.is_fault.ensures.1 d)) c.in-Err.ensures.kept in
-    let n = sectors_for (Err c.in-Err.refusal) (input_of c.args.input.now) in
+    let n = record_sectors (input_of c.args.input.now) in
     subst (λ (a : Ahead). IsFreeAt a.log (from + n)) (sym same.1) (free_at_more n free)
 
 pub returns-else-is_fault-clause-fitted : goal.returns-else-is_fault-clause-fitted
@@ -103,7 +109,13 @@ returns-else-is_fault-clause-fitted g c fits =
     let same = the_other (λ d. false≢true (sym c.if-is_fault.false ∙ c.is_fault.ensures.1 d)) c.in-Err.ensures.kept in
     let next = ap (λ (a : Ahead). a.log.next) same.1 in
     let calls = ap (λ d. g.D.Disk.calls d) same.0 in
-    ((λ h. ap (λ d. sync_count (g.D.Disk.past d)) same.0), omega (arith, next), omega (arith, calls))
+    ((λ h. ap (λ d. sync_count (g.D.Disk.past d)) same.0), omega (arith, next), omega (arith, calls), ap (λ (a : Ahead). a.log.generation) same.1)
+
+pub returns-else-is_fault-clause-rises : goal.returns-else-is_fault-clause-rises
+returns-else-is_fault-clause-rises g c =
+    let same = the_other (λ d. false≢true (sym c.if-is_fault.false ∙ c.is_fault.ensures.1 d)) c.in-Err.ensures.kept in
+    let calls = ap (λ d. g.D.Disk.calls d) same.0 in
+    inl (ap (λ (a : Ahead). a.log.generation) same.1, omega (arith, calls))
 
 pub returns-else-is_fault-clause-either : goal.returns-else-is_fault-clause-either
 returns-else-is_fault-clause-either g c = inl tt

@@ -1,4 +1,4 @@
-use Rattle.std.proofs.Common.{◌∙◌, [], ◌∷◌, ◌++◌, inl, inr, sym, ap, subst, arith}
+use Rattle.std.proofs.Common.{◌∙◌, [], ◌∷◌, ◌++◌, inl, inr, refl, sym, ap, subst, arith}
 use Rattle.std.proofs.lemmas.Bool.{false≢true, true≢false}
 use Rattle.um_engine.specs.Engine.{standing_in, reply_in, actions_in, state_after}
 use Rattle.um_engine.specs.OfStore.{is_of_store}
@@ -7,7 +7,7 @@ use Rattle.um_state.specs.View.{input_of}
 use Rattle.um_keeper.specs.Underway.{UnderwayIn}
 use Rattle.um_wire.specs.declared.refusal.Refusal.TheVariants.{Device}
 use Rattle.um_keeper.proofs.Offered.{own_or_memory}
-use Rattle.um_keeper.proofs.Results.{err_same, err_is, ok_from, ok_always}
+use Rattle.um_keeper.proofs.Results.{err_same, err_is, if_ok_from, ok_from, ok_always}
 use Rattle.um_keeper.proofs.Underway.{still_longer, underway_stayed, step_on, owed_most}
 use Rattle.um_keeper.proofs.batch.take_step.Goals as goal
 
@@ -43,6 +43,9 @@ returns-then-has_effect-clause-calls g c = let owes = owed_most c.record.new.ahe
 pub returns-clause-during : goal.returns-clause-during
 returns-clause-during g c h s before under = still_longer under (input_of c.args.input.now ∷ [])
 
+pub returns-clause-rises : goal.returns-clause-rises
+returns-clause-rises g c = inl (refl, omega arith)
+
 pub returns-clause-either : goal.returns-clause-either
 returns-clause-either g c = inl (c.in_ok-next.ensures.effect.0 (sym c.has_effect.ensures ∙ c.if-has_effect.false))
 
@@ -51,3 +54,8 @@ returns-clause-under g c h s before under =
     let still = (c.in_ok-next.ensures.nothing (sym c.has_effect.ensures ∙ c.if-has_effect.false)).0 in
     subst (UnderwayIn s (before ++ input_of c.args.input.now ∷ []) (g.D.Disk.past c.args.disk.now) c.args.ahead.now) (sym (ap (λ (x : Standing). x.state) c.commit-reply.ensures.state ∙ still))
     (underway_stayed under (step_on c.requires.held c.in_ok-next.ensures.ok still))
+
+-- the reply is that of the plan
+pub returns-then-has_effect-clause-accepted : goal.returns-then-has_effect-clause-accepted
+returns-then-has_effect-clause-accepted g c =
+    if_ok_from c.record.result _ _ (λ made is r refused. c.in_ok-next.ensures.accepted r (sym is.0 ∙ refused)) c.record.ensures.ok

@@ -1,12 +1,14 @@
-use Rattle.std.proofs.Common.{◌≡◌, ◌≤◌, ◌∙◌, List, ℕ, [], ◌∷◌, ap, sym, subst, arith}
+use Rattle.std.proofs.Common.{◌≡◌, ◌≤◌, ◌+◌, ◌∙◌, List, ℕ, [], ◌∷◌, ap, sym, subst, arith}
 use Rattle.std.specs.Prelude.{length, IfSome}
 use Rattle.um_model.specs.Disk.{seen, Past, Sector, Image, Images, During}
-use Rattle.um_sector.specs.Runs.{IsLaid, MaybeLaid}
+use Rattle.um_sector.specs.Runs.{IsLaid, MaybeLaid, more}
+use Rattle.um_sector.proofs.RunLaws.{more-more}
 use Rattle.um_model.specs.Machine.{empty_state}
 use Rattle.um_model.specs.StateSpellings.{state_spelling}
-use Rattle.um_model.specs.Store.{superblock, log_start, IsNewest, IsFree}
+use Rattle.um_model.specs.Store.{superblock, sector_count, log_start, IsNewest, IsFree}
 use Rattle.um_model.specs.declared.layout.Slot.TheVariants.{A}
 use Rattle.um_laws.proofs.DiskLaws.{at_end, followed, weaker}
+use Rattle.um_keeper.specs.Keeping.{snapshot_calls}
 use Rattle.um_keeper.specs.Creating.{blank, unsynced, NoneOrEmpty, IsEmptyStore}
 use Rattle.um_keeper.proofs.Wiping.{IsZeroed, while_zeroed, while_made, wiped_none, wiped_free, empty_room, made, made_maybe}
 use Rattle.um_keeper.proofs.creating.lay.Goals as goal
@@ -101,3 +103,16 @@ returns-clause-ok g c h =
     let newest = some _ c.in_ok-write_first.ensures.ok h2 (wiped_none c.args.layout (seen p2) w) (wiped_free c.args.layout (seen p2) w) in
     made_all c.args.layout p1 p3 p0 p4 c.args.body.now c.requires.empty newest zero
     (subst (λ (s : Sector). IsLaid (seen p3) 0 (s ∷ []) (seen p4)) c.superblock.ensures (c.in_ok-write_run_synced.ensures.ok h3)) (c.in_ok-write_run_synced.ensures.settled h3)
+
+pub returns-clause-all_calls : goal.returns-clause-all_calls
+returns-clause-all_calls g c =
+    let calls = g.D.Disk.calls in
+    let first = calls c.args.disk.now in
+    let log = c.args.layout.log_sectors + 2 in
+    let body = snapshot_calls empty_state in
+    let spelled : sector_count (length c.args.body.now) + 3 ≡ body = ap (λ (b : List ℕ). sector_count (length b) + 3) c.requires.empty in
+    let laid : calls c.write_first.new.disk ≡ more (calls c.wipe.new.disk) (sector_count (length c.args.body.now) + 3) =
+    subst (λ x. IfSome x (λ y. calls c.write_first.new.disk ≡ more (calls c.wipe.new.disk) (sector_count (length c.args.body.now) + 3))) c.in-Some.is c.in_ok-write_first.ensures.all_calls in
+    let wiped_by = c.in_ok-wipe.ensures.all_calls ∙ ap (λ n. more n log) c.in_ok-unformat.ensures.all_calls ∙ more-more first 2 log in
+    c.in_ok-write_run_synced.ensures.all_calls
+    ∙ ap (λ n. more n 2) (laid ∙ ap (more (calls c.wipe.new.disk)) spelled ∙ ap (λ n. more n body) wiped_by ∙ more-more first (2 + log) body) ∙ more-more first (2 + log + body) 2

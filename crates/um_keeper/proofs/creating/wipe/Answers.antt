@@ -1,7 +1,8 @@
-use Rattle.std.proofs.Common.{◌≡◌, ◌+◌, ◌∙◌, ℕ, subst, arith}
+use Rattle.std.proofs.Common.{◌≡◌, ◌+◌, ◌∙◌, ℕ, ap, subst, arith}
 use Rattle.std.specs.Prelude.{replicate}
 use Rattle.um_model.specs.Disk.{seen}
-use Rattle.um_sector.specs.Runs.{IsLaid}
+use Rattle.um_sector.specs.Runs.{IsLaid, more}
+use Rattle.um_sector.proofs.RunLaws.{more-more}
 use Rattle.um_model.specs.Store.{log_start}
 use Rattle.um_keeper.specs.Creating.{blank}
 use Rattle.um_keeper.proofs.Results.{ok_from}
@@ -49,3 +50,11 @@ returns-clause-ok g c =
     (subst (λ (n : ℕ). IsLaid (seen p1) n (replicate 1 blank) (seen p2)) c.slot_start-2.ensures (c.in_ok-write_blank-2.ensures.ok h1))
     (subst (λ (n : ℕ). IsLaid (seen p2) n (replicate c.args.layout.log_sectors blank) (seen p3)) c.log_start.ensures (laid (c.write_blank-2.ensures.honest ∙ h1))))
     c.write_blank-3.ensures.ok
+
+pub returns-clause-all_calls : goal.returns-clause-all_calls
+returns-clause-all_calls g c =
+    let first = g.D.Disk.calls c.args.disk.now in
+    let log = c.args.layout.log_sectors in
+    let e : 2 + log ≡ log + 2 = omega arith in
+    ok_from c.write_blank-3.result (λ last. last ∙ ap (λ n. more n log) (c.in_ok-write_blank-2.ensures.all_calls ∙ ap (λ n. more n 1) c.in_ok-write_blank.ensures.all_calls)
+    ∙ more-more first 2 log ∙ ap (more first) e) c.write_blank-3.ensures.all_calls

@@ -1,11 +1,11 @@
-use Rattle.std.proofs.Common.{◌≡◌, ◌∙◌, ◌-◌, ◌^◌, inl, inr, ⊎_elim, sym, subst}
+use Rattle.std.proofs.Common.{◌≡◌, ◌∙◌, ◌-◌, ◌^◌, inl, inr, sym, subst}
 use Rattle.um_engine.specs.Engine.{state_in}
 use Rattle.um_model.specs.Disk.{seen, IsSettled, after, synced}
 use Rattle.um_laws.proofs.DiskLaws.{settled_after_sync}
 use Rattle.um_log.specs.Greatest.{IsGreatest}
 use Rattle.um_keeper.specs.Opening.{IsUnread, IsUntaken, unread, spent, IsTakenUp, IsRead, StaysFor}
 use Rattle.um_keeper.proofs.Results.{err_same, if_ok_from, if_err_from, if_err_all, or_more}
-use Rattle.um_keeper.proofs.Reopening.{sync_unwritten, stays_of, next_of, greatest_of}
+use Rattle.um_keeper.proofs.Reopening.{sync_unwritten, stays_of, next_of}
 use Rattle.um_keeper.proofs.opening.recover.Goals as goal
 
 -- ---- refusals before anything is written
@@ -18,10 +18,8 @@ pub returns-in_err-found-clause-unwritten : goal.returns-in_err-found-clause-unw
 returns-in_err-found-clause-unwritten g c =
     if_err_all c.from_residual-in_err-found.result _ (λ e h. inl (inr (c.take_up.ensures.past (c.sync.ensures.honest ∙ h) ∙ c.in_ok-sync.ensures.past h)))
 
-pub returns-in-Err-clause-unwritten : goal.returns-in-Err-clause-unwritten
-returns-in-Err-clause-unwritten g c h =
-    let h1 = c.sync.ensures.honest ∙ h in
-    inl (inr (c.greatest_but_last.ensures.past (c.take_up.ensures.honest ∙ h1) ∙ (c.take_up.ensures.past h1 ∙ c.in_ok-sync.ensures.past h)))
+pub returns-then-found-clause-unwritten : goal.returns-then-found-clause-unwritten
+returns-then-found-clause-unwritten g c h = inl (inr (c.take_up.ensures.past (c.sync.ensures.honest ∙ h) ∙ c.in_ok-sync.ensures.past h))
 
 pub returns-in_err-found-clause-err : goal.returns-in_err-found-clause-err
 returns-in_err-found-clause-err g c =
@@ -32,16 +30,13 @@ returns-in_err-found-clause-err g c =
     c.in_err-found.ensures.err)
 
 -- what was taken up, of the disk as it was given
-pub returns-in-Err-clause-err : goal.returns-in-Err-clause-err
-returns-in-Err-clause-err g c =
+pub returns-then-found-clause-err : goal.returns-then-found-clause-err
+returns-then-found-clause-err g c = inr (λ h.
     let p0 = g.D.Disk.past c.args.disk.now in
     let found = c.in_ok-found.found in
-    ⊎_elim (λ device. inl (inr device))
-    (λ last. inr (λ h.
     let h1 = c.sync.ensures.honest ∙ h in
     let synced_it : g.D.Disk.past c.sync.new.self ≡ after synced p0 = c.in_ok-sync.ensures.past h in
-    subst (IsUntaken (g.D.Disk.size c.args.disk.now) (seen p0)) (sym last.0)
-    (spent (record {
+    spent (record {
       layout = found.layout;
       slot = found.home.slot;
       generation = found.home.generation;
@@ -49,100 +44,91 @@ returns-in-Err-clause-err g c =
       taken =
           subst (λ n. IsTakenUp n (seen p0) found.layout found.home.slot found.home.generation (state_in found.engine)) c.sync.ensures.size
           (subst (λ p. IsTakenUp (g.D.Disk.size c.sync.new.self) (seen p) found.layout found.home.slot found.home.generation (state_in found.engine)) synced_it (c.in_ok-found.ensures.found h1));
-      last = subst (λ p. IsGreatest found.layout (seen p) found.home.generation (2 ^ 64 - 1)) (c.take_up.ensures.past h1 ∙ synced_it) (greatest_of found.layout found.log.layout found.home.generation found.log.generation found.log.number found.log.next (2 ^ 64 - 1) (g.D.Disk.past c.take_up.new.disk) (g.D.Disk.past c.sync.new.self)
-          c.in_ok-found.ensures.of.0 c.in_ok-found.ensures.of.1 (c.take_up.ensures.past h1) (c.in_ok-found.ensures.behind h1) (last.1 (c.take_up.ensures.honest ∙ h1)));
-    }))))
-    c.in-Err.ensures.err
+      last = subst (λ n. IsGreatest found.layout (seen p0) found.home.generation n) c.if-found.true
+          (subst (λ p. IsGreatest found.layout (seen p) found.home.generation found.greatest) synced_it (c.in_ok-found.ensures.greatest h1));
+    }))
 
 -- ---- the state is written
 
-pub returns-in-Ok-clause-stays : goal.returns-in-Ok-clause-stays
-returns-in-Ok-clause-stays g c =
+pub returns-clause-stays : goal.returns-clause-stays
+returns-clause-stays g c =
     if_ok_from c.renew.result _ _
     (λ held facts h.
     let p0 = g.D.Disk.past c.args.disk.now in
     let found = c.in_ok-found.found in
-    let greatest = c.in-Ok.greatest in
     let h1 = c.sync.ensures.honest ∙ h in
     let h2 = c.take_up.ensures.honest ∙ h1 in
     let synced_it : g.D.Disk.past c.sync.new.self ≡ after synced p0 = c.in_ok-sync.ensures.past h in
-    let same = c.greatest_but_last.ensures.past h2 ∙ (c.take_up.ensures.past h1 ∙ synced_it) in
+    let same = c.take_up.ensures.past h1 ∙ synced_it in
     subst (λ l. StaysFor l (state_in held.engine) p0 (g.D.Disk.past c.renew.new.disk)) (sym facts.2)
     (subst (λ s. StaysFor found.layout s p0 (g.D.Disk.past c.renew.new.disk)) (sym facts.0)
-    (stays_of (g.D.Disk.size c.greatest_but_last.new.disk) found.layout found.home.slot found.home.generation greatest (state_in found.engine) p0 (g.D.Disk.past c.greatest_but_last.new.disk) (g.D.Disk.past c.renew.new.disk) same
-    (subst (λ n. IsTakenUp n (seen p0) found.layout found.home.slot found.home.generation (state_in found.engine)) (sym (c.greatest_but_last.ensures.size ∙ c.take_up.ensures.size))
+    (stays_of (g.D.Disk.size c.take_up.new.disk) found.layout found.home.slot found.home.generation found.greatest (state_in found.engine) p0 (g.D.Disk.past c.take_up.new.disk) (g.D.Disk.past c.renew.new.disk) same
+    (subst (λ n. IsTakenUp n (seen p0) found.layout found.home.slot found.home.generation (state_in found.engine)) (sym c.take_up.ensures.size)
     (subst (λ p. IsTakenUp (g.D.Disk.size c.sync.new.self) (seen p) found.layout found.home.slot found.home.generation (state_in found.engine)) synced_it (c.in_ok-found.ensures.found h1)))
-    (subst (λ p. IsGreatest found.layout (seen p) found.home.generation greatest) (c.take_up.ensures.past h1 ∙ synced_it) (greatest_of found.layout found.log.layout found.home.generation found.log.generation found.log.number found.log.next greatest (g.D.Disk.past c.take_up.new.disk) (g.D.Disk.past c.sync.new.self)
-    c.in_ok-found.ensures.of.0 c.in_ok-found.ensures.of.1 (c.take_up.ensures.past h1) (c.in_ok-found.ensures.behind h1) (c.in-Ok.ensures.greatest h2)))
-    (c.renew.ensures.during (c.greatest_but_last.ensures.honest ∙ h2)))))
+    (subst (λ p. IsGreatest found.layout (seen p) found.home.generation found.greatest) synced_it (c.in_ok-found.ensures.greatest h1))
+    (c.renew.ensures.during h2))))
     c.renew.ensures.held
 
-pub returns-in-Ok-clause-unwritten : goal.returns-in-Ok-clause-unwritten
-returns-in-Ok-clause-unwritten g c =
+pub returns-clause-unwritten : goal.returns-clause-unwritten
+returns-clause-unwritten g c =
     if_err_from c.renew.result _ _
     (λ e lost h.
     let p0 = g.D.Disk.past c.args.disk.now in
     let found = c.in_ok-found.found in
-    let greatest = c.in-Ok.greatest in
     let h1 = c.sync.ensures.honest ∙ h in
     let h2 = c.take_up.ensures.honest ∙ h1 in
     let synced_it : g.D.Disk.past c.sync.new.self ≡ after synced p0 = c.in_ok-sync.ensures.past h in
-    let same = c.greatest_but_last.ensures.past h2 ∙ (c.take_up.ensures.past h1 ∙ synced_it) in
+    let same = c.take_up.ensures.past h1 ∙ synced_it in
     inr (
       lost,
       record {
         layout = found.layout;
         state = state_in found.engine;
         stays =
-            stays_of (g.D.Disk.size c.greatest_but_last.new.disk) found.layout found.home.slot found.home.generation greatest (state_in found.engine) p0 (g.D.Disk.past c.greatest_but_last.new.disk) (g.D.Disk.past c.renew.new.disk) same
-            (subst (λ n. IsTakenUp n (seen p0) found.layout found.home.slot found.home.generation (state_in found.engine)) (sym (c.greatest_but_last.ensures.size ∙ c.take_up.ensures.size))
+            stays_of (g.D.Disk.size c.take_up.new.disk) found.layout found.home.slot found.home.generation found.greatest (state_in found.engine) p0 (g.D.Disk.past c.take_up.new.disk) (g.D.Disk.past c.renew.new.disk) same
+            (subst (λ n. IsTakenUp n (seen p0) found.layout found.home.slot found.home.generation (state_in found.engine)) (sym c.take_up.ensures.size)
             (subst (λ p. IsTakenUp (g.D.Disk.size c.sync.new.self) (seen p) found.layout found.home.slot found.home.generation (state_in found.engine)) synced_it (c.in_ok-found.ensures.found h1)))
-            (subst (λ p. IsGreatest found.layout (seen p) found.home.generation greatest) (c.take_up.ensures.past h1 ∙ synced_it) (greatest_of found.layout found.log.layout found.home.generation found.log.generation found.log.number found.log.next greatest (g.D.Disk.past c.take_up.new.disk) (g.D.Disk.past c.sync.new.self)
-            c.in_ok-found.ensures.of.0 c.in_ok-found.ensures.of.1 (c.take_up.ensures.past h1) (c.in_ok-found.ensures.behind h1) (c.in-Ok.ensures.greatest h2)))
-            (c.renew.ensures.during (c.greatest_but_last.ensures.honest ∙ h2));
+            (subst (λ p. IsGreatest found.layout (seen p) found.home.generation found.greatest) synced_it (c.in_ok-found.ensures.greatest h1))
+            (c.renew.ensures.during h2);
       },
     ))
     c.renew.ensures.err
 
-pub returns-in-Ok-clause-ok : goal.returns-in-Ok-clause-ok
-returns-in-Ok-clause-ok g c =
+pub returns-clause-ok : goal.returns-clause-ok
+returns-clause-ok g c =
     if_ok_from c.renew.result _ _
     (λ held keeps h.
     let p0 = g.D.Disk.past c.args.disk.now in
     let found = c.in_ok-found.found in
-    let greatest = c.in-Ok.greatest in
     let h1 = c.sync.ensures.honest ∙ h in
     let h2 = c.take_up.ensures.honest ∙ h1 in
     let synced_it : g.D.Disk.past c.sync.new.self ≡ after synced p0 = c.in_ok-sync.ensures.past h in
-    let same = c.greatest_but_last.ensures.past h2 ∙ (c.take_up.ensures.past h1 ∙ synced_it) in
-    keeps (c.greatest_but_last.ensures.honest ∙ h2) (subst IsSettled (sym same) (settled_after_sync p0))
-    (subst (λ n. IsTakenUp n (seen (g.D.Disk.past c.greatest_but_last.new.disk)) found.layout found.home.slot found.home.generation (state_in found.engine)) (sym (c.greatest_but_last.ensures.size ∙ c.take_up.ensures.size))
+    let same = c.take_up.ensures.past h1 ∙ synced_it in
+    keeps h2 (subst IsSettled (sym same) (settled_after_sync p0))
+    (subst (λ n. IsTakenUp n (seen (g.D.Disk.past c.take_up.new.disk)) found.layout found.home.slot found.home.generation (state_in found.engine)) (sym c.take_up.ensures.size)
     (subst (λ p. IsTakenUp (g.D.Disk.size c.sync.new.self) (seen p) found.layout found.home.slot found.home.generation (state_in found.engine))
-    (sym (c.greatest_but_last.ensures.past h2 ∙ c.take_up.ensures.past h1)) (c.in_ok-found.ensures.found h1)))
-    (subst (λ p. IsGreatest found.layout (seen p) found.home.generation greatest) (sym (c.greatest_but_last.ensures.past h2)) (greatest_of found.layout found.log.layout found.home.generation found.log.generation found.log.number found.log.next greatest (g.D.Disk.past c.take_up.new.disk) (g.D.Disk.past c.sync.new.self)
-    c.in_ok-found.ensures.of.0 c.in_ok-found.ensures.of.1 (c.take_up.ensures.past h1) (c.in_ok-found.ensures.behind h1) (c.in-Ok.ensures.greatest h2))))
+    (sym (c.take_up.ensures.past h1)) (c.in_ok-found.ensures.found h1)))
+    (subst (λ p. IsGreatest found.layout (seen p) found.home.generation found.greatest) (sym (c.take_up.ensures.past h1)) (c.in_ok-found.ensures.greatest h1)))
     c.renew.ensures.ok
 
-pub returns-in-Ok-clause-taken : goal.returns-in-Ok-clause-taken
-returns-in-Ok-clause-taken g c =
+pub returns-clause-taken : goal.returns-clause-taken
+returns-clause-taken g c =
     if_ok_from c.renew.result _ _
     (λ held facts h.
     let p0 = g.D.Disk.past c.args.disk.now in
     let found = c.in_ok-found.found in
-    let greatest = c.in-Ok.greatest in
     let h1 = c.sync.ensures.honest ∙ h in
     let h2 = c.take_up.ensures.honest ∙ h1 in
     let synced_it : g.D.Disk.past c.sync.new.self ≡ after synced p0 = c.in_ok-sync.ensures.past h in
-    next_of (g.D.Disk.size c.args.disk.now) (seen p0) found.layout held.log.layout found.home.slot held.home.slot found.home.generation greatest held.home.generation (state_in found.engine) (state_in held.engine)
+    next_of (g.D.Disk.size c.args.disk.now) (seen p0) found.layout held.log.layout found.home.slot held.home.slot found.home.generation found.greatest held.home.generation (state_in found.engine) (state_in held.engine)
     facts.0 facts.2 facts.3 facts.4
-    (subst (λ p. IsGreatest found.layout (seen p) found.home.generation greatest) (c.take_up.ensures.past h1 ∙ synced_it) (greatest_of found.layout found.log.layout found.home.generation found.log.generation found.log.number found.log.next greatest (g.D.Disk.past c.take_up.new.disk) (g.D.Disk.past c.sync.new.self)
-    c.in_ok-found.ensures.of.0 c.in_ok-found.ensures.of.1 (c.take_up.ensures.past h1) (c.in_ok-found.ensures.behind h1) (c.in-Ok.ensures.greatest h2)))
+    (subst (λ p. IsGreatest found.layout (seen p) found.home.generation found.greatest) synced_it (c.in_ok-found.ensures.greatest h1))
     (subst (λ n. IsTakenUp n (seen p0) found.layout found.home.slot found.home.generation (state_in found.engine)) c.sync.ensures.size
     (subst (λ p. IsTakenUp (g.D.Disk.size c.sync.new.self) (seen p) found.layout found.home.slot found.home.generation (state_in found.engine)) synced_it (c.in_ok-found.ensures.found h1))))
     c.renew.ensures.held
 
-pub returns-in-Ok-clause-opened : goal.returns-in-Ok-clause-opened
-returns-in-Ok-clause-opened g c =
+pub returns-clause-opened : goal.returns-clause-opened
+returns-clause-opened g c =
     if_ok_from c.renew.result _ _
     (λ held facts h.
     let p0 = g.D.Disk.past c.args.disk.now in
@@ -151,5 +137,5 @@ returns-in-Ok-clause-opened g c =
     let synced_it : g.D.Disk.past c.sync.new.self ≡ after synced p0 = c.in_ok-sync.ensures.past h in
     subst (λ l. IsRead l (seen p0) held.opened) (sym facts.2)
     (subst (IsRead found.layout (seen p0)) (sym facts.7)
-    (subst (λ p. IsRead found.layout (seen p) (record { generation = found.home.generation; records = found.log.number })) synced_it (c.in_ok-found.ensures.read h1))))
+    (subst (λ p. IsRead found.layout (seen p) found.opened) synced_it (c.in_ok-found.ensures.read h1))))
     c.renew.ensures.held

@@ -19,7 +19,7 @@ returns-clause-during g c h settled taken top =
     let s = state_in c.args.found.engine in
     let body : c.deref.result.now ≡ state_spelling s = c.deref.ensures.value ∙ c.in-Ok.ensures.bytes ∙ ap state_spelling c.state.ensures in
     let fits = subst FitState c.state.ensures c.in-Ok.ensures.fits in
-    renewed (g.D.Disk.past c.args.disk.now) (g.D.Disk.size c.args.disk.now) c.args.found.layout c.args.found.home.slot c.args.found.home.generation c.args.greatest s settled taken top c.deref.result.now body
+    renewed (g.D.Disk.past c.args.disk.now) (g.D.Disk.size c.args.disk.now) c.args.found.layout c.args.found.home.slot c.args.found.home.generation c.args.found.greatest s settled taken top c.deref.result.now body
     fits (subst (λ n. IsServable n s) c.requires.kept.size_is c.requires.kept.servable) (g.D.Disk.past c.write_other.new.disk) (c.write_other.ensures.during_newest h)
 
 pub unreachable-requires : goal.unreachable-requires
@@ -36,7 +36,7 @@ returns-in-Ok-Some-clause-during g c h settled taken top =
     let s = state_in c.args.found.engine in
     let body : c.deref.result.now ≡ state_spelling s = c.deref.ensures.value ∙ c.in-Ok.ensures.bytes ∙ ap state_spelling c.state.ensures in
     let fits = subst FitState c.state.ensures c.in-Ok.ensures.fits in
-    renewed (g.D.Disk.past c.args.disk.now) (g.D.Disk.size c.args.disk.now) c.args.found.layout c.args.found.home.slot c.args.found.home.generation c.args.greatest s settled taken top c.deref.result.now body
+    renewed (g.D.Disk.past c.args.disk.now) (g.D.Disk.size c.args.disk.now) c.args.found.layout c.args.found.home.slot c.args.found.home.generation c.args.found.greatest s settled taken top c.deref.result.now body
     fits (subst (λ n. IsServable n s) c.requires.kept.size_is c.requires.kept.servable) (g.D.Disk.past c.write_other.new.disk) (c.write_other.ensures.during_newest h)
 
 pub returns-in-Ok-Some-clause-ok : goal.returns-in-Ok-Some-clause-ok
@@ -46,7 +46,7 @@ returns-in-Ok-Some-clause-ok g c h settled taken top =
     let past = g.D.Disk.past c.write_other.new.disk in
     let body : c.deref.result.now ≡ state_spelling s = c.deref.ensures.value ∙ c.in-Ok.ensures.bytes ∙ ap state_spelling c.state.ensures in
     let fits = subst FitState c.state.ensures c.in-Ok.ensures.fits in
-    let have = have_newest (g.D.Disk.past c.args.disk.now) (g.D.Disk.size c.args.disk.now) layout c.args.found.home.slot c.args.found.home.generation c.args.greatest s settled taken top in
+    let have = have_newest (g.D.Disk.past c.args.disk.now) (g.D.Disk.size c.args.disk.now) layout c.args.found.home.slot c.args.found.home.generation c.args.found.greatest s settled taken top in
     let on = at_some _ c.write_other.result c.in-Ok-Some.field-0 c.in-Ok-Some.home c.write_other.ensures.ok_newest c.in-Ok-Some.is c.in-Ok-Some.field-0-is h c.args.found.home.generation taken.body top.least have in
     let kept = keeps_anew (g.met.D.Disk.seen_is_image c.write_other.new.disk (c.write_other.ensures.honest ∙ h))
     (subst (λ b. GoesOn layout past c.in-Ok-Some.home.slot c.in-Ok-Some.home.generation b [] c.in-Ok-Some.home.generation 0 (log_start layout c.in-Ok-Some.home.generation)) body on)

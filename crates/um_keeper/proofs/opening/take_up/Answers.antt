@@ -1,4 +1,4 @@
-use Rattle.std.proofs.Common.{◌≡◌, ◌∙◌, ◌+◌, ⊎_elim, inl, inr, ℕ, List, length, Ok, refl, sym, ap, subst, arith}
+use Rattle.std.proofs.Common.{IsTrue, ◌≡◌, ◌↔◌, ◌∙◌, ◌+◌, ⊎_elim, inl, inr, ℕ, List, length, Ok, refl, sym, ap, subst, arith}
 use Rattle.std.specs.Prelude.{IfSome}
 use Rattle.um_engine.specs.Engine.{state_in, size_in}
 use Rattle.um_model.specs.Disk.{seen}
@@ -10,6 +10,8 @@ use Rattle.um_model.specs.declared.layout.Layout.{Layout}
 use Rattle.um_model.specs.Disk.{Past}
 use Rattle.um_keeper.specs.Opening.{IsStart, Replays, IsNoInput, IsUnread, IsBehind, no_state, no_input}
 use Rattle.um_keeper.proofs.Results.{err_same, or_more}
+use Rattle.um_keeper.proofs.Telling.{remain_there, cut_off_told, damaged_told}
+use Rattle.um_slot.specs.Reading.{IsDamaged}
 use Rattle.um_keeper.proofs.Reopening.{newest_there, header_unread}
 use Rattle.um_keeper.proofs.opening.take_up.Goals as goal
 
@@ -92,9 +94,9 @@ returns-in-Ok-clause-found g c h =
       newest = subst (λ (p : Past). sectors.IsNewest layout (seen p) home.slot home.generation c.in_ok-snapshot.snapshot.body.items) (c.read_layout.ensures.past h) (c.in_ok-snapshot.ensures.ok h1);
       start = state_in engine;
       starts = subst (λ (b : List ℕ). IsStart layout b (state_in engine)) c.deref.ensures.value starts;
-      replays = subst (λ (n : ℕ). Replays n (sectors.records_of layout home.generation (seen p0)) (state_in engine) (state_in c.replay.new.engine)) size
+      replays = subst (λ (n : ℕ). Replays n (sectors.records_of layout home.generation (seen p0)) (state_in engine) (state_in c.replay_all.new.engine)) size
           (replays_there layout c.new-log.result.layout home.generation c.new-log.result.generation p0 (g.D.Disk.past c.newest.new.disk) c.new-log.ensures.of.0 c.new-log.ensures.of.1
-          (c.newest.ensures.past h1 ∙ c.read_layout.ensures.past h) (size_in engine) (state_in engine) (state_in c.replay.new.engine) (c.in-Ok.ensures.ok h2));
+          (c.newest.ensures.past h1 ∙ c.read_layout.ensures.past h) (size_in engine) (state_in engine) (state_in c.replay_all.new.engine) (c.in-Ok.ensures.ok h2));
     }
 
 pub returns-in-Ok-clause-behind : goal.returns-in-Ok-clause-behind
@@ -102,17 +104,34 @@ returns-in-Ok-clause-behind g c h =
     let h1 = c.read_layout.ensures.honest ∙ h in
     let h2 = c.newest.ensures.honest ∙ h1 in
     behind_there c.in_ok-layout.layout c.new-log.result.layout c.in_ok-snapshot.snapshot.home.generation c.new-log.result.generation (g.D.Disk.past c.args.disk.now) (g.D.Disk.past c.newest.new.disk)
-    c.new-log.ensures.of.0 c.new-log.ensures.of.1 (c.newest.ensures.past h1 ∙ c.read_layout.ensures.past h) c.replay.new.log.number c.replay.new.log.next (c.in-Ok.ensures.all h2)
+    c.new-log.ensures.of.0 c.new-log.ensures.of.1 (c.newest.ensures.past h1 ∙ c.read_layout.ensures.past h) c.replay_all.new.log.number c.replay_all.new.log.next (c.in-Ok.ensures.all h2)
+
+-- what remains behind the records, of the disk as it was given
+pub returns-in-Ok-clause-greatest : goal.returns-in-Ok-clause-greatest
+returns-in-Ok-clause-greatest g c h =
+    let h1 = c.read_layout.ensures.honest ∙ h in
+    let h2 = c.newest.ensures.honest ∙ h1 in
+    (remain_there c.in_ok-layout.layout c.new-log.result.layout c.in_ok-snapshot.snapshot.home.generation c.new-log.result.generation (g.D.Disk.past c.args.disk.now) (g.D.Disk.past c.newest.new.disk)
+    c.new-log.ensures.of.0 c.new-log.ensures.of.1 (c.newest.ensures.past h1 ∙ c.read_layout.ensures.past h) c.in-Ok.remains (c.in-Ok.ensures.remains h2)).greatest
 
 pub returns-in-Ok-clause-read : goal.returns-in-Ok-clause-read
 returns-in-Ok-clause-read g c h =
     let layout = c.in_ok-layout.layout in
-    let home = c.in_ok-snapshot.snapshot.home in
+    let snapshot = c.in_ok-snapshot.snapshot in
+    let home = snapshot.home in
     let p0 = g.D.Disk.past c.args.disk.now in
+    let h1 = c.read_layout.ensures.honest ∙ h in
+    let h2 = c.newest.ensures.honest ∙ h1 in
+    let remains = remain_there layout c.new-log.result.layout home.generation c.new-log.result.generation p0 (g.D.Disk.past c.newest.new.disk)
+    c.new-log.ensures.of.0 c.new-log.ensures.of.1 (c.newest.ensures.past h1 ∙ c.read_layout.ensures.past h) c.in-Ok.remains (c.in-Ok.ensures.remains h2) in
     record {
-      newest = record { slot = home.slot; generation = home.generation; body = c.in_ok-snapshot.snapshot.body.items };
-      is_newest = newest_there p0 (g.D.Disk.past c.read_layout.new.disk) layout home.slot home.generation c.in_ok-snapshot.snapshot.body.items (c.read_layout.ensures.past h)
-          (c.in_ok-snapshot.ensures.ok (c.read_layout.ensures.honest ∙ h));
+      newest = record { slot = home.slot; generation = home.generation; body = snapshot.body.items };
+      is_newest = newest_there p0 (g.D.Disk.past c.read_layout.new.disk) layout home.slot home.generation snapshot.body.items (c.read_layout.ensures.past h)
+          (c.in_ok-snapshot.ensures.ok h1);
       generation_is = refl;
       records_are = (returns-in-Ok-clause-behind g c h).count;
+      cut_off_is = cut_off_told layout home.generation (seen p0) c.in-Ok.remains remains c.cut_off_of.result c.cut_off_of.ensures.some c.cut_off_of.ensures.none;
+      damaged_is = damaged_told layout home.generation (seen p0) c.in-Ok.remains remains home.slot snapshot.is_other_damaged
+          (subst (λ (p : Past). IsTrue snapshot.is_other_damaged ↔ IsDamaged layout (seen p (sectors.slot_start layout (sectors.other home.slot)))) (c.read_layout.ensures.past h)
+          (c.in_ok-snapshot.ensures.damaged h1)) c.damaged_of.result c.damaged_of.ensures.some c.damaged_of.ensures.none;
     }

@@ -1,4 +1,4 @@
-use Rattle.std.proofs.Common.{◌∙◌, ◌++◌, ◌+◌, ◌∷◌, [], ℕ, List, Ok, length, refl, ap, subst, arith}
+use Rattle.std.proofs.Common.{◌∙◌, ◌++◌, ◌+◌, ◌≤◌, ◌∷◌, [], ℕ, List, Ok, length, refl, ap, subst, arith}
 use Rattle.um_laws.proofs.DiskLaws.{weaker}
 use Rattle.um_model.specs.Disk.{During}
 use Rattle.um_model.specs.Store.{part_count}
@@ -7,6 +7,7 @@ use Rattle.um_state.specs.View.{input_of}
 use Rattle.um_keeper.proofs.Batching.{begun_longer}
 use Rattle.um_keeper.proofs.Kept.{held_at}
 use Rattle.um_keeper.proofs.Spent.{free_behind}
+use Rattle.um_keeper.proofs.Taking.{rises_more}
 use Rattle.um_keeper.proofs.Underway.{still_longer, then_begun, during_recorded, underway_recorded, step_on}
 use Rattle.um_keeper.proofs.recording.write.Goals as goal
 
@@ -66,3 +67,7 @@ returns-in-Ok-true-clause-filled g c from free =
     free_behind _ c.write.ensures.of.0 c.write.ensures.of.1
     ((c.write.ensures.next (c.in-Ok-true.is ∙ ap Ok c.in-Ok-true.field-0-test)).0 ∙ ap (λ (b : List ℕ). c.make_room.new.ahead.log.next + part_count (length b)) (c.deref.ensures.value ∙ c.in_ok-bytes.ensures.bytes))
     (c.make_room.ensures.free from free)
+
+pub returns-in-Ok-true-clause-rises : goal.returns-in-Ok-true-clause-rises
+returns-in-Ok-true-clause-rises g c = rises_more c.args.ahead.now.log c.make_room.new.ahead.log c.write.new.self _ _ c.in_ok-make_room.ensures.rises c.write.ensures.of.1
+    (subst (λ (b : List ℕ). g.D.Disk.calls c.write.new.disk ≤ g.D.Disk.calls c.make_room.new.disk + part_count (length b)) (c.deref.ensures.value ∙ c.in_ok-bytes.ensures.bytes) c.write.ensures.calls)

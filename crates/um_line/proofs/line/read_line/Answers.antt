@@ -1,5 +1,5 @@
 use Rattle.std.proofs.Common.{IfOk, map, string_bytes, sym, subst, ◌∙◌}
-use Rattle.um_line.specs.Line.{IsLineBy, IsServeLine}
+use Rattle.um_line.specs.Line.{IsLineBy, IsServeLine, IsCtlLine}
 use Rattle.um_line.proofs.line.read_line.Goals as goal
 
 pub returns-in-Serve : goal.returns-in-Serve
@@ -7,3 +7,9 @@ returns-in-Serve c =
     let named = sym c.subcommand_of.ensures ∙ c.in-Serve.is in
     subst (λ s. IfOk c.read_serve.result (IsLineBy s (map string_bytes c.args.words.now))) (sym named)
     (subst (λ ws. IfOk c.read_serve.result (IsServeLine ws)) c.behind-in-Serve.ensures c.read_serve.ensures)
+
+pub returns-in-Ctl : goal.returns-in-Ctl
+returns-in-Ctl c =
+    let named = sym c.subcommand_of.ensures ∙ c.in-Ctl.is in
+    subst (λ s. IfOk c.read_ctl.result (IsLineBy s (map string_bytes c.args.words.now))) (sym named)
+    (subst (λ ws. IfOk c.read_ctl.result (IsCtlLine ws)) c.behind-in-Ctl.ensures c.read_ctl.ensures)

@@ -6,4 +6,5 @@ returns c =
     let boot = added _ _ _ _ c.in_ok-command.ensures c.described-command.ensures in
     let socket = added _ _ _ _ c.in_ok-command-2.ensures boot in
     let dir = added _ _ _ _ c.in_ok-command-3.ensures socket in
-    let runner = added _ _ _ _ c.in_ok-command-4.ensures dir in added_last _ _ _ _ c.with_word.ensures runner
+    let runner = added _ _ _ _ c.in_ok-command-4.ensures dir in
+    let start = added _ _ _ _ c.in_ok-command-5.ensures runner in added_last _ _ _ _ c.with_word.ensures start

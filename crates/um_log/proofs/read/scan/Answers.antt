@@ -1,8 +1,8 @@
 use Rattle.std.specs.Prelude.{Option, Some, None, ◌≡◌, ◌+◌, ◌<◌, ◌≤◌, ◌++◌, ℕ, List, length}
 use Rattle.std.specs.Option.{IfSome}
 use Rattle.std.proofs.Common.{◌∙◌, sym, subst, arith}
-use Rattle.um_model.specs.Disk.{Past, Image, seen}
-use Rattle.um_model.specs.Store.{log_start, part_count, IsRecord, AreRecords, HasRecords}
+use Rattle.um_model.specs.Disk.{Past, seen}
+use Rattle.um_model.specs.Store.{log_start, part_count, AreRecords, HasRecords}
 use Rattle.um_model.specs.declared.layout.Layout.{Layout}
 use Rattle.um_log.specs.declared.read.Record.{Record}
 use Rattle.um_log.specs.Reading.{ReadsNext, bytes_of, places_of}

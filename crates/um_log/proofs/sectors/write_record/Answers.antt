@@ -1,7 +1,7 @@
 use Rattle.std.proofs.Common.{◌≡◌, ◌+◌, ◌*◌, ◌<◌, ◌∙◌, ℕ, List, length, take, drop, take_all, refl, sym, ap, subst, arith}
 use Rattle.std.proofs.lemmas.List.{drop-drop}
 use Rattle.um_model.specs.Disk.{Sector, seen}
-use Rattle.um_model.specs.Store.{log_sector, part_count, part_of}
+use Rattle.um_model.specs.Store.{log_sector, part_count}
 use Rattle.um_sector.specs.Runs.{IsLaid}
 use Rattle.um_sector.proofs.RunLaws.{laid_start, laid_write, run_start, run_step, wrote_syncs}
 use Rattle.um_log.specs.Appending.{record_run}

@@ -31,8 +31,10 @@ returns-clause-adopts g c =
     (D.past (disk_in old)) (D.past (disk_in new)) (log_in old) (log_in new) (inputs_in c.claim_live.new.inputs.items) (map reply_of c.submit.new.replies.items)
     (honest c.args.children.now) (honest c.claim_live.new.children) (honest c.submit.new.children) (whole c.end_all.new.children) (whole c.submit.new.children) (whole c.claim_live.new.children)
     c.requires.live (few_live (state_in new) new.holds.servable.few) c.requires.marked
-    (subst (λ xs. Heard lost c.args.moment (λ n. true) (honest c.args.children.now) (whole c.claim_live.new.children) (past c.args.children.now ++ ForgotOthers live ∷ []) heard live (inputs_in xs)
-    (inputs_in c.claim_live.new.inputs.items)) c.requires.no_inputs c.claim_live.ensures.hears)
+    (subst (λ n. Heard lost c.args.moment (λ m. true) (honest c.args.children.now) (whole c.claim_live.new.children) (past c.args.children.now ++ ForgotOthers live n ∷ []) heard live []
+    (inputs_in c.claim_live.new.inputs.items)) (c.next-next.ensures ∙ ap (λ s. s.next) c.state.ensures)
+    (subst (λ xs. Heard lost c.args.moment (λ n. true) (honest c.args.children.now) (whole c.claim_live.new.children) (past c.args.children.now ++ ForgotOthers live c.next-next.result ∷ []) heard live
+    (inputs_in xs) (inputs_in c.claim_live.new.inputs.items)) c.requires.no_inputs c.claim_live.ensures.hears))
     (subst (λ r. Submits here r (inputs_in c.claim_live.new.inputs.items) (map reply_of c.submit.new.replies.items) (honest c.claim_live.new.children) (whole c.submit.new.children)
     (now_in old heard c.args.marks.now [] (D.past (disk_in old))) (now_in new grown c.submit.new.marks [] (D.past (disk_in new)))) c.in_ok-submit.was c.submit.ensures.submits)
     (λ h w. subst (λ units. Ends units live grown (past c.end_all.new.children)) (c.units.ensures ∙ ap (λ s. s.units) c.state-2.ensures) (c.end_all.ensures.ends h w))
@@ -56,8 +58,10 @@ returns-in_err-submit-clause-adopts g c =
     (D.past (disk_in old)) (D.past (disk_in new)) (log_in old) (log_in new) (inputs_in c.claim_live.new.inputs.items) (map reply_of c.submit.new.replies.items)
     (honest c.args.children.now) (honest c.claim_live.new.children) (whole c.submit.new.children) (whole c.submit.new.children) (whole c.claim_live.new.children)
     c.requires.live
-    (subst (λ xs. Heard lost c.args.moment (λ n. true) (honest c.args.children.now) (whole c.claim_live.new.children) (past c.args.children.now ++ ForgotOthers live ∷ []) heard live (inputs_in xs)
-    (inputs_in c.claim_live.new.inputs.items)) c.requires.no_inputs c.claim_live.ensures.hears)
+    (subst (λ n. Heard lost c.args.moment (λ m. true) (honest c.args.children.now) (whole c.claim_live.new.children) (past c.args.children.now ++ ForgotOthers live n ∷ []) heard live []
+    (inputs_in c.claim_live.new.inputs.items)) (c.next-next.ensures ∙ ap (λ s. s.next) c.state.ensures)
+    (subst (λ xs. Heard lost c.args.moment (λ n. true) (honest c.args.children.now) (whole c.claim_live.new.children) (past c.args.children.now ++ ForgotOthers live c.next-next.result ∷ []) heard live
+    (inputs_in xs) (inputs_in c.claim_live.new.inputs.items)) c.requires.no_inputs c.claim_live.ensures.hears))
     (subst (λ r. Submits here r (inputs_in c.claim_live.new.inputs.items) (map reply_of c.submit.new.replies.items) (honest c.claim_live.new.children) (whole c.submit.new.children)
     (now_in old heard c.args.marks.now [] (D.past (disk_in old))) (now_in new grown c.submit.new.marks [] (D.past (disk_in new)))) (sym same) c.submit.ensures.submits)
     (same ∙ c.in_err-submit.was ∙ ap Err (subst (λ r. IfErr r (λ e. e ≡ Device)) c.in_err-submit.was alone))

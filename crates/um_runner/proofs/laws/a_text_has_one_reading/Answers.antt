@@ -1,3 +1,4 @@
+use Rattle.um_runner.proofs.EntryTexts.{written_back}
 use Rattle.um_runner.proofs.RunnerLaws.{one_pid, one_status, one_end, claim_read}
 use Rattle.um_runner.proofs.laws.a_text_has_one_reading.Goals as goal
 
@@ -12,3 +13,6 @@ returns-clause-end c = one_end
 
 pub returns-clause-claim : goal.returns-clause-claim
 returns-clause-claim c = claim_read
+
+pub returns-clause-entries : goal.returns-clause-entries
+returns-clause-entries c = written_back

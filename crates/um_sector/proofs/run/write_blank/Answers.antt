@@ -1,9 +1,9 @@
 use Rattle.std.specs.Prelude.{◌≡◌, ◌<◌, ℕ, [], length, replicate, slice_index_or}
 use Rattle.std.proofs.lemmas.List.{get_or-replicate, length-replicate}
-use Rattle.std.proofs.Common.{◌+◌, refl, sym, ◌∙◌, subst, take, arith}
-use Rattle.um_model.specs.Disk.{seen}
+use Rattle.std.proofs.Common.{◌+◌, refl, sym, ◌∙◌, ap, subst, take, arith}
+use Rattle.um_model.specs.Disk.{seen, one_more}
 use Rattle.um_sector.specs.Runs.{IsLaid}
-use Rattle.um_sector.proofs.RunLaws.{laid_start, laid_write, run_start, run_step}
+use Rattle.um_sector.proofs.RunLaws.{laid_start, laid_write, run_start, run_step, more-add_one}
 use Rattle.um_sector.specs.Noted.{blank}
 use Rattle.um_sector.proofs.run.write_blank.Goals as goal
 
@@ -20,6 +20,7 @@ loop-i-init g c =
     record {
       during = λ h. run_start past c.args.at (replicate c.args.count blank);
       laid = λ h. laid_start (seen past) c.args.at;
+      calls = refl;
       failures = refl;
       size = refl;
       honest = refl;
@@ -36,6 +37,7 @@ loop-i-preserved g c = record {
       (below c.args.count c.loop-i.i c.loop-i-test.true) (zeros c.args.count c.loop-i.i c.loop-i-test.true) (c.loop-i.invariant.during h) (c.write.ensures.past (c.loop-i.invariant.honest ∙ h));
   laid = λ h. subst (λ p. IsLaid (seen (g.D.Disk.past c.args.disk.now)) c.args.at (take (c.loop-i.i + 1) (replicate c.args.count blank)) (seen p)) (sym (c.in_ok-write.ensures.past (c.loop-i.invariant.honest ∙ h)))
       (laid_write (seen (g.D.Disk.past c.args.disk.now)) c.args.at (replicate c.args.count blank) (seen (g.D.Disk.past c.loop-i.disk)) c.loop-i.i _ (below c.args.count c.loop-i.i c.loop-i-test.true) (zeros c.args.count c.loop-i.i c.loop-i-test.true) (c.loop-i.invariant.laid h));
+  calls = c.write.ensures.calls ∙ ap one_more c.loop-i.invariant.calls ∙ sym (more-add_one (g.D.Disk.calls c.args.disk.now) c.loop-i.i);
   failures = c.in_ok-write.ensures.failures ∙ c.loop-i.invariant.failures;
   size = c.write.ensures.size ∙ c.loop-i.invariant.size;
   honest = c.write.ensures.honest ∙ c.loop-i.invariant.honest;

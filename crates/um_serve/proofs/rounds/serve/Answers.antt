@@ -38,11 +38,11 @@ loop-preserved g c =
     let start = place_in (D.honest (disk_in first)) first in
     let there = place_in (D.honest (disk_in old)) old in
     let same : there ≡ start = same_place inv.place.size inv.place.layout inv.disk inv.failed in
-    let begun = served (g.G.Gate.past c.args.gate.now.gate) (g.M.Moments.given c.args.clock.now) c.args.gate.now.backlog c.args.gate.now.was_busy c.args.gate.now.turned
+    let begun = served (g.G.Gate.past c.args.gate.now.gate) (g.M.Moments.given c.args.clock.now) c.args.gate.now.backlog c.args.gate.now.was_busy c.args.gate.now.turned c.args.gate.now.has_lost
     (now_in first (g.C.Children.past c.args.manager.now.children) c.args.manager.now.marks c.args.manager.now.sessions.items (D.past (disk_in first))) in
-    let before = served (g.G.Gate.past c.loop.gate.gate) (g.M.Moments.given c.loop.clock) c.loop.gate.backlog c.loop.gate.was_busy c.loop.gate.turned
+    let before = served (g.G.Gate.past c.loop.gate.gate) (g.M.Moments.given c.loop.clock) c.loop.gate.backlog c.loop.gate.was_busy c.loop.gate.turned c.loop.gate.has_lost
     (now_in old (g.C.Children.past c.loop.manager.children) c.loop.manager.marks c.loop.manager.sessions.items (D.past (disk_in old))) in
-    let after = served (g.G.Gate.past c.round.new.self.gate) (g.M.Moments.given c.round.new.clock) c.round.new.self.backlog c.round.new.self.was_busy c.round.new.self.turned
+    let after = served (g.G.Gate.past c.round.new.self.gate) (g.M.Moments.given c.round.new.clock) c.round.new.self.backlog c.round.new.self.was_busy c.round.new.self.turned c.round.new.self.has_lost
     (now_in m.keeper (g.C.Children.past m.children) m.marks m.sessions.items (D.past (disk_in m.keeper))) in
     let known = trust (g.C.Children.honest c.args.manager.now.children) (g.C.Children.whole c.loop.manager.children) (g.G.Gate.honest c.args.gate.now.gate) (g.G.Gate.whole c.loop.gate.gate) (g.M.Moments.honest c.args.clock.now) (g.M.Moments.whole c.loop.clock) in
     let here = trust (g.C.Children.honest c.loop.manager.children) (g.C.Children.whole m.children) (g.G.Gate.honest c.loop.gate.gate) (g.G.Gate.whole c.round.new.self.gate) (g.M.Moments.honest c.loop.clock) (g.M.Moments.whole c.round.new.clock) in
@@ -106,11 +106,11 @@ returns-in-Err-clause-serves g c =
     let start = place_in (D.honest (disk_in first)) first in
     let there = place_in (D.honest (disk_in old)) old in
     let same : there ≡ start = same_place inv.place.size inv.place.layout inv.disk inv.failed in
-    let begun = served (g.G.Gate.past c.args.gate.now.gate) (g.M.Moments.given c.args.clock.now) c.args.gate.now.backlog c.args.gate.now.was_busy c.args.gate.now.turned
+    let begun = served (g.G.Gate.past c.args.gate.now.gate) (g.M.Moments.given c.args.clock.now) c.args.gate.now.backlog c.args.gate.now.was_busy c.args.gate.now.turned c.args.gate.now.has_lost
     (now_in first (g.C.Children.past c.args.manager.now.children) c.args.manager.now.marks c.args.manager.now.sessions.items (D.past (disk_in first))) in
-    let before = served (g.G.Gate.past c.loop.gate.gate) (g.M.Moments.given c.loop.clock) c.loop.gate.backlog c.loop.gate.was_busy c.loop.gate.turned
+    let before = served (g.G.Gate.past c.loop.gate.gate) (g.M.Moments.given c.loop.clock) c.loop.gate.backlog c.loop.gate.was_busy c.loop.gate.turned c.loop.gate.has_lost
     (now_in old (g.C.Children.past c.loop.manager.children) c.loop.manager.marks c.loop.manager.sessions.items (D.past (disk_in old))) in
-    let after = served (g.G.Gate.past c.round.new.self.gate) (g.M.Moments.given c.round.new.clock) c.round.new.self.backlog c.round.new.self.was_busy c.round.new.self.turned
+    let after = served (g.G.Gate.past c.round.new.self.gate) (g.M.Moments.given c.round.new.clock) c.round.new.self.backlog c.round.new.self.was_busy c.round.new.self.turned c.round.new.self.has_lost
     (now_in m.keeper (g.C.Children.past m.children) m.marks m.sessions.items (D.past (disk_in m.keeper))) in
     let known = trust (g.C.Children.honest c.args.manager.now.children) (g.C.Children.whole c.loop.manager.children) (g.G.Gate.honest c.args.gate.now.gate) (g.G.Gate.whole c.loop.gate.gate) (g.M.Moments.honest c.args.clock.now) (g.M.Moments.whole c.loop.clock) in
     let here = trust (g.C.Children.honest c.loop.manager.children) (g.C.Children.whole m.children) (g.G.Gate.honest c.loop.gate.gate) (g.G.Gate.whole c.round.new.self.gate) (g.M.Moments.honest c.loop.clock) (g.M.Moments.whole c.round.new.clock) in
@@ -136,9 +136,9 @@ returns-clause-life g c = λ working.
     let D = g.D.Disk in
     let first = c.args.manager.now.keeper in
     let last = c.loop.manager.keeper in
-    let begun = served (g.G.Gate.past c.args.gate.now.gate) (g.M.Moments.given c.args.clock.now) c.args.gate.now.backlog c.args.gate.now.was_busy c.args.gate.now.turned
+    let begun = served (g.G.Gate.past c.args.gate.now.gate) (g.M.Moments.given c.args.clock.now) c.args.gate.now.backlog c.args.gate.now.was_busy c.args.gate.now.turned c.args.gate.now.has_lost
     (now_in first (g.C.Children.past c.args.manager.now.children) c.args.manager.now.marks c.args.manager.now.sessions.items (D.past (disk_in first))) in
-    let ended = served (g.G.Gate.past c.loop.gate.gate) (g.M.Moments.given c.loop.clock) c.loop.gate.backlog c.loop.gate.was_busy c.loop.gate.turned
+    let ended = served (g.G.Gate.past c.loop.gate.gate) (g.M.Moments.given c.loop.clock) c.loop.gate.backlog c.loop.gate.was_busy c.loop.gate.turned c.loop.gate.has_lost
     (now_in last (g.C.Children.past c.loop.manager.children) c.loop.manager.marks c.loop.manager.sessions.items (D.past (disk_in last))) in
     let known = trust (g.C.Children.honest c.args.manager.now.children) (g.C.Children.whole c.loop.manager.children) (g.G.Gate.honest c.args.gate.now.gate) (g.G.Gate.whole c.loop.gate.gate) (g.M.Moments.honest c.args.clock.now) (g.M.Moments.whole c.loop.clock) in
     let all = returns-clause-serves g c in
@@ -149,9 +149,9 @@ returns-in-Err-clause-life g c = λ working.
     let D = g.D.Disk in
     let first = c.args.manager.now.keeper in
     let m = c.round.new.manager in
-    let begun = served (g.G.Gate.past c.args.gate.now.gate) (g.M.Moments.given c.args.clock.now) c.args.gate.now.backlog c.args.gate.now.was_busy c.args.gate.now.turned
+    let begun = served (g.G.Gate.past c.args.gate.now.gate) (g.M.Moments.given c.args.clock.now) c.args.gate.now.backlog c.args.gate.now.was_busy c.args.gate.now.turned c.args.gate.now.has_lost
     (now_in first (g.C.Children.past c.args.manager.now.children) c.args.manager.now.marks c.args.manager.now.sessions.items (D.past (disk_in first))) in
-    let ended = served (g.G.Gate.past c.round.new.self.gate) (g.M.Moments.given c.round.new.clock) c.round.new.self.backlog c.round.new.self.was_busy c.round.new.self.turned
+    let ended = served (g.G.Gate.past c.round.new.self.gate) (g.M.Moments.given c.round.new.clock) c.round.new.self.backlog c.round.new.self.was_busy c.round.new.self.turned c.round.new.self.has_lost
     (now_in m.keeper (g.C.Children.past m.children) m.marks m.sessions.items (D.past (disk_in m.keeper))) in
     let later = trust (g.C.Children.honest c.args.manager.now.children) (g.C.Children.whole m.children) (g.G.Gate.honest c.args.gate.now.gate) (g.G.Gate.whole c.round.new.self.gate) (g.M.Moments.honest c.args.clock.now) (g.M.Moments.whole c.round.new.clock) in
     let all = returns-in-Err-clause-serves g c in

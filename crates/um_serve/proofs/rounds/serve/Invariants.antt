@@ -11,9 +11,9 @@ invariant-loop g l = record {
       × Serves
       (trust (g.C.Children.honest l.initial.manager.children) (g.C.Children.whole l.manager.children) (g.G.Gate.honest l.initial.gate.gate) (g.G.Gate.whole l.gate.gate) (g.M.Moments.honest l.initial.clock) (g.M.Moments.whole l.clock))
       (place_in (g.D.Disk.honest (disk_in l.initial.manager.keeper)) l.initial.manager.keeper) all (Ok tt)
-      (served (g.G.Gate.past l.initial.gate.gate) (g.M.Moments.given l.initial.clock) l.initial.gate.backlog l.initial.gate.was_busy l.initial.gate.turned
+      (served (g.G.Gate.past l.initial.gate.gate) (g.M.Moments.given l.initial.clock) l.initial.gate.backlog l.initial.gate.was_busy l.initial.gate.turned l.initial.gate.has_lost
       (now_in l.initial.manager.keeper (g.C.Children.past l.initial.manager.children) l.initial.manager.marks l.initial.manager.sessions.items (g.D.Disk.past (disk_in l.initial.manager.keeper))))
-      (served (g.G.Gate.past l.gate.gate) (g.M.Moments.given l.clock) l.gate.backlog l.gate.was_busy l.gate.turned
+      (served (g.G.Gate.past l.gate.gate) (g.M.Moments.given l.clock) l.gate.backlog l.gate.was_busy l.gate.turned l.gate.has_lost
       (now_in l.manager.keeper (g.C.Children.past l.manager.children) l.manager.marks l.manager.sessions.items (g.D.Disk.past (disk_in l.manager.keeper))));
   whole : IsTrue (g.C.Children.whole l.manager.children) → IsTrue (g.C.Children.whole l.initial.manager.children);
   honest : g.C.Children.honest l.manager.children ≡ g.C.Children.honest l.initial.manager.children;

@@ -1,9 +1,9 @@
 use Rattle.std.proofs.Common.{◌≡◌, ◌+◌, ◌*◌, ◌<◌, ◌∙◌, ℕ, List, length, take, drop, take_all, refl, sym, ap, subst, arith}
 use Rattle.std.proofs.lemmas.List.{drop-drop}
-use Rattle.um_model.specs.Disk.{Sector, seen}
+use Rattle.um_model.specs.Disk.{Sector, seen, one_more}
 use Rattle.um_model.specs.Store.{filled, sector_count}
-use Rattle.um_sector.specs.Runs.{IsLaid}
-use Rattle.um_sector.proofs.RunLaws.{laid_start, laid_write, run_start, run_step}
+use Rattle.um_sector.specs.Runs.{IsLaid, more}
+use Rattle.um_sector.proofs.RunLaws.{laid_start, laid_write, run_start, run_step, more-add_one, more-le}
 use Rattle.um_slot.specs.Snapshots.{body_sector, body_run}
 use Rattle.um_slot.proofs.Writing.{body_count, body_each}
 use Rattle.um_slot.proofs.sectors.write_body.Goals as goal
@@ -25,7 +25,7 @@ loop-i-init g c =
       rest = refl;
       during = λ h. run_start past c.args.at (body_run c.args.body.now);
       laid = λ h. laid_start (seen past) c.args.at;
-      calls = omega arith;
+      calls = refl;
       failures = refl;
       size = refl;
       honest = refl;
@@ -53,7 +53,7 @@ loop-i-preserved g c =
           below is (c.loop-i.invariant.during h) (c.write.ensures.past (c.loop-i.invariant.honest ∙ h));
       laid = λ h. subst (λ p. IsLaid (seen (g.D.Disk.past c.args.disk.now)) c.args.at (take (i + 1) (body_run body)) (seen p)) (sym (c.in_ok-write.ensures.past (c.loop-i.invariant.honest ∙ h)))
           (laid_write (seen (g.D.Disk.past c.args.disk.now)) c.args.at (body_run body) (seen (g.D.Disk.past c.loop-i.disk)) i c.sector_of.result below is (c.loop-i.invariant.laid h));
-      calls = omega (arith, c.write.ensures.calls, c.loop-i.invariant.calls);
+      calls = c.write.ensures.calls ∙ ap one_more c.loop-i.invariant.calls ∙ sym (more-add_one (g.D.Disk.calls c.args.disk.now) i);
       failures = c.in_ok-write.ensures.failures ∙ c.loop-i.invariant.failures;
       size = c.write.ensures.size ∙ c.loop-i.invariant.size;
       honest = c.write.ensures.honest ∙ c.loop-i.invariant.honest;
@@ -64,3 +64,16 @@ returns-clause-ok g c h =
     let body = c.args.body.now in
     subst (λ r. IsLaid (seen (g.D.Disk.past c.args.disk.now)) c.args.at r (seen (g.D.Disk.past c.loop-i.disk)))
     (take_all c.loop-i.i (body_run body) (omega (arith, body_count body, c.loop-i-test.false, c.div_ceil-i-end.ensures))) (c.loop-i.invariant.laid h)
+
+pub returns-in_err-write-clause-calls : goal.returns-in_err-write-clause-calls
+returns-in_err-write-clause-calls g c =
+    omega (arith, c.write.ensures.calls, c.loop-i.invariant.calls, more-le (g.D.Disk.calls c.args.disk.now) c.loop-i.i, c.loop-i-test.true, c.div_ceil-i-end.ensures)
+
+pub returns-clause-calls : goal.returns-clause-calls
+returns-clause-calls g c =
+    omega (arith, c.loop-i.invariant.calls, more-le (g.D.Disk.calls c.args.disk.now) c.loop-i.i, c.loop-i.auto.i-end, c.div_ceil-i-end.ensures)
+
+pub returns-clause-all_calls : goal.returns-clause-all_calls
+returns-clause-all_calls g c =
+    let all : c.loop-i.i ≡ sector_count (length c.args.body.now) = omega (arith, c.loop-i-test.false, c.loop-i.auto.i-end, c.div_ceil-i-end.ensures) in
+    c.loop-i.invariant.calls ∙ ap (more (g.D.Disk.calls c.args.disk.now)) all

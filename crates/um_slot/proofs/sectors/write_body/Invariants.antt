@@ -1,6 +1,6 @@
-use Rattle.std.specs.Prelude.{◌≡◌, ◌+◌, ◌*◌, ◌≤◌, take, drop, IsTrue}
+use Rattle.std.specs.Prelude.{◌≡◌, ◌*◌, take, drop, IsTrue}
 use Rattle.um_model.specs.Disk.{seen, During}
-use Rattle.um_sector.specs.Runs.{IsLaid, AfterRun}
+use Rattle.um_sector.specs.Runs.{IsLaid, AfterRun, more}
 use Rattle.um_slot.specs.Snapshots.{body_run}
 use Rattle.um_slot.proofs.sectors.write_body.Given as goal
 
@@ -11,7 +11,7 @@ invariant-loop-i g l =
       rest : l.rest ≡ drop (512 * l.i) l.body;
       during : IsTrue (g.D.Disk.honest l.fn.disk) → During (past l.fn.disk) (past l.disk) (AfterRun (past l.fn.disk) l.at (body_run l.body));
       laid : IsTrue (g.D.Disk.honest l.fn.disk) → IsLaid (seen (past l.fn.disk)) l.at (take l.i (body_run l.body)) (seen (past l.disk));
-      calls : g.D.Disk.calls l.disk ≤ g.D.Disk.calls l.fn.disk + l.i;
+      calls : g.D.Disk.calls l.disk ≡ more (g.D.Disk.calls l.fn.disk) l.i;
       failures : g.D.Disk.failures l.disk ≡ g.D.Disk.failures l.fn.disk;
       size : g.D.Disk.size l.disk ≡ g.D.Disk.size l.fn.disk;
       honest : g.D.Disk.honest l.disk ≡ g.D.Disk.honest l.fn.disk;

@@ -1,7 +1,5 @@
-use Rattle.std.proofs.Common.{subst, arith}
+use Rattle.std.proofs.Common.{arith}
 use Rattle.um_model.specs.Disk.{seen}
-use Rattle.um_model.specs.Store.{IsNewest}
-use Rattle.um_model.specs.declared.layout.Slot.TheVariants.{A}
 use Rattle.um_laws.proofs.DiskLaws.{started}
 use Rattle.um_slot.proofs.Snapshots.{first_newest, kept_free}
 use Rattle.um_slot.proofs.Writing.{first_kept}

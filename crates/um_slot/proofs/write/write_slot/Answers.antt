@@ -1,7 +1,9 @@
-use Rattle.std.specs.Prelude.{List, ℕ, [], ◌∷◌, ◌+◌, ◌≡◌}
-use Rattle.std.proofs.Common.{◌∙◌, refl, ap, subst}
+use Rattle.std.specs.Prelude.{List, ℕ, [], ◌∷◌, ◌+◌, ◌≡◌, length}
+use Rattle.std.proofs.Common.{◌∙◌, refl, ap, subst, arith}
+use Rattle.um_model.specs.Store.{sector_count}
+use Rattle.um_sector.proofs.RunLaws.{more-more}
 use Rattle.um_model.specs.Disk.{Sector, seen, During}
-use Rattle.um_sector.specs.Runs.{IsLaid, MaybeLaid, AfterRun}
+use Rattle.um_sector.specs.Runs.{IsLaid, MaybeLaid, AfterRun, more}
 use Rattle.um_slot.specs.Snapshots.{body_run}
 use Rattle.um_slot.proofs.Writing.{first_run, both_runs, header_done, done_maybe}
 use Rattle.um_slot.proofs.write.write_slot.Goals as goal
@@ -58,3 +60,10 @@ returns-clause-beside g c h =
     done_maybe c.args.layout c.args.to.slot c.args.to.generation c.args.body.now c.requires.fits (seen old) (seen mid)
     (moved (λ n r. IsLaid (seen old) (n + 1) r (seen mid)) c.slot_start-start.ensures refl (c.in_ok-write_body_synced.ensures.ok h)) (seen new)
     (moved (λ n r. IsLaid (seen mid) n r (seen new)) c.slot_start-start.ensures (ap (λ (s : Sector). s ∷ []) c.header_sector.ensures) (c.in_ok-write_run_synced.ensures.ok (c.write_body_synced.ensures.honest ∙ h)))
+
+pub returns-clause-all_calls : goal.returns-clause-all_calls
+returns-clause-all_calls g c =
+    let first = g.D.Disk.calls c.args.disk.now in
+    let body = sector_count (length c.args.body.now) in
+    let e : body + 1 + 2 ≡ body + 3 = omega arith in
+    c.in_ok-write_run_synced.ensures.all_calls ∙ ap (λ n. more n 2) c.in_ok-write_body_synced.ensures.all_calls ∙ more-more first (body + 1) 2 ∙ ap (more first) e

@@ -16,6 +16,6 @@ returns-then-self-len-clause-taken g c =
       take n left,
       cut w.at n w.bytes.items,
       λ h t.
-          c.write.ensures.past h t ∙ ap (λ bs. g.G.Gate.past c.args.gate.now ++ wrote c.args.number (take n bs) ∷ []) offered
+          c.write.ensures.past h t ∙ ap (λ bs. g.G.Gate.past c.args.gate.now ++ wrote c.args.number bs (take n bs) ∷ []) offered
           ∙ ap (λ es. g.G.Gate.past c.args.gate.now ++ es) (offers_all c.args.number left (take n left) (omega (arith, w.bytes.ok.0))),
     )

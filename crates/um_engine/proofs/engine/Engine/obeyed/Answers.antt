@@ -18,6 +18,9 @@ returns-in_err-outcome-clause-refused c =
 pub with_rows-requires : goal.with_rows-requires
 with_rows-requires c = (subst (IsBasedOn c.args.self.now.served c.args.moment) c.in-Rows.is c.in_ok-outcome.ensures.based).0
 
+pub with_tables-requires : goal.with_tables-requires
+with_tables-requires c = subst (IsBasedOn c.args.self.now.served c.args.moment) c.in-Tables.is c.in_ok-outcome.ensures.based
+
 pub returns-in-Rows-clause-obeys : goal.returns-in-Rows-clause-obeys
 returns-in-Rows-clause-obeys c =
     let s = standing_in c.args.self.now in
@@ -43,7 +46,7 @@ pub returns-in-Tables-clause-obeys : goal.returns-in-Tables-clause-obeys
 returns-in-Tables-clause-obeys c =
     let s = standing_in c.args.self.now in
     let command = command_of c.args.command.now in
-    let o = Tables c.in-Tables.served c.in-Tables.reply in
+    let o = Tables c.in-Tables.served c.in-Tables.reply c.in-Tables.trees in
     obeys_by c.args.self.now.size c.args.moment s command o c.in_ok-outcome.ensures.refused
     (subst (λ p. model.Does c.args.moment (state_of s) command (actions_by p) (state_by p)) c.in-Tables.is c.in_ok-outcome.ensures.does) c.with_tables.result
     (subst (λ p. reply_by p ≡ model.reply_after (model.Commanded command) (state_of s).tree (state_by p).tree) c.in-Tables.is c.in_ok-outcome.ensures.reply)
@@ -53,7 +56,7 @@ pub returns-in-Tables-clause-refused : goal.returns-in-Tables-clause-refused
 returns-in-Tables-clause-refused c =
     let s = standing_in c.args.self.now in
     let command = command_of c.args.command.now in
-    let o = Tables c.in-Tables.served c.in-Tables.reply in
+    let o = Tables c.in-Tables.served c.in-Tables.reply c.in-Tables.trees in
     declines_by c.args.self.now.size c.args.moment s command o c.in_ok-outcome.ensures.refused
     (subst (λ p. model.Does c.args.moment (state_of s) command (actions_by p) (state_by p)) c.in-Tables.is c.in_ok-outcome.ensures.does) c.with_tables.result
     c.with_tables.ensures.refused

@@ -1,21 +1,12 @@
-use Rattle.std.proofs.Common.{◌≡◌, ◌↔◌, ℕ, List, Contains, Result, Ok, Err, option_copied, refl, sym, subst}
-use Rattle.std.specs.Prelude.{IfErr}
-use Rattle.std.specs.Result.{IsErrAnd}
+use Rattle.std.proofs.Common.{◌↔◌, ℕ, List, Contains, option_copied, refl, sym, subst}
 use Rattle.um_model.specs.Dependencies.{IsKnown}
 use Rattle.um_model.specs.Tree.{without_run}
 use Rattle.um_state.specs.View.{state_of}
-use Rattle.um_wire.specs.declared.refusal.Refusal.{Refusal}
 use Rattle.um_wire.specs.declared.refusal.Refusal.TheVariants as refusals
-use Rattle.um_model.specs.declared.refusals.Limit.TheVariants as limits
 use Rattle.um_engine.specs.Known.{IsFull, IsGraphFor, IsHeldWith, KnownView}
+use Rattle.um_engine.proofs.KnownLaws.{full_on}
 use Rattle.um_engine.proofs.SameUnitsLaws.{full_by}
 use Rattle.um_engine.proofs.known.Known.of.Goals as goal
-
--- a call that gives on a refusal
-full_on : {X : Type 0} (Full : Type 0) (result : Result X Refusal) (e : Refusal) → IsErrAnd result (λ f. f ≡ e) → (¬ (e ≡ refusals.NoMemory) → (e ≡ refusals.TooLarge limits.Units) × Full)
-    → IfErr result (λ f. ¬ (f ≡ refusals.NoMemory) → (f ≡ refusals.TooLarge limits.Units) × Full)
-full_on Full (Ok x) e on full = absurd on
-full_on Full (Err f) e on full = subst (λ (r : Refusal). ¬ (r ≡ refusals.NoMemory) → (r ≡ refusals.TooLarge limits.Units) × Full) (sym on) full
 
 pub returns-in_err-extra-clause-refused : goal.returns-in_err-extra-clause-refused
 returns-in_err-extra-clause-refused c =

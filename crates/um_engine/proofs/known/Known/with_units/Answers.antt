@@ -2,7 +2,7 @@ use Rattle.std.proofs.Common.{◌≡◌, ℕ, List, Contains, Option, option_map
 use Rattle.um_wire.specs.declared.refusal.Refusal.TheVariants as refusals
 use Rattle.um_model.specs.declared.refusals.Limit.TheVariants as limits
 use Rattle.um_graph.specs.Graph.{IsGraphOf}
-use Rattle.um_engine.specs.Known.{AreLasting, IsFull, IsGraphFor}
+use Rattle.um_engine.specs.Known.{AreLasting, AreMarked, IsFull, IsGraphFor}
 use Rattle.um_engine.proofs.KnownLaws.{lasting_known}
 use Rattle.um_engine.proofs.known.Known.with_units.Goals as goal
 
@@ -27,3 +27,10 @@ returns-clause-lasting c =
     lasting_known c.args.tree.now c.args.extra.items c.in_ok-graph.graph lasting
     (subst (λ xs. IsGraphOf c.args.tree.now (Contains xs) c.in_ok-graph.graph) c.as_slice.ensures.value c.in_ok-graph.ensures.graph)
     (subst (λ xs. AreLasting c.args.tree.now xs lasting) c.as_slice-2.ensures.value c.in_ok-lasting.ensures)
+
+pub invariant_of-result : goal.invariant_of-result
+invariant_of-result c = (
+  c.in_ok-names.ensures,
+  c.in_ok-passing.ensures,
+  subst (λ xs. AreMarked c.in_ok-graph.graph.names xs c.in_ok-is_extra.is_extra.items) c.deref.ensures.value c.in_ok-is_extra.ensures,
+)

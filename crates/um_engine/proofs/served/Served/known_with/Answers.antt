@@ -22,7 +22,7 @@ returns-then-fits-clause-known c =
     let s = state_of c.self.inside.state in
     let known = c.self.inside.known.value in
     let named = c.args.named.now in
-    let fits = fits_here known c.deref.result.now s s named c.deref.ensures refl c.self.invariant.1 (c.fits.ensures c.if-fits.true) in
+    let fits = fits_here known c.deref.result.now s s named c.deref.ensures refl c.self.invariant.1 (c.fits.ensures.graph c.if-fits.true) in
     subst (λ (k : KnownView). IsGraphFor c.args.self.now.state.loaded (IsHeldOr c.args.self.now.state named) k.graph) (sym c.in_ok-clone.ensures.cases)
     (subst (λ (v : ServedView). IsGraphFor v.state.loaded (IsHeldOr v.state named) known.graph) c.self.view_is fits)
 
@@ -30,7 +30,7 @@ pub returns-then-fits-clause-refused : goal.returns-then-fits-clause-refused
 returns-then-fits-clause-refused c = λ r crowded.
     let s = state_of c.self.inside.state in
     let named = c.args.named.now in
-    let fits = fits_here c.self.inside.known.value c.deref.result.now s s named c.deref.ensures refl c.self.invariant.1 (c.fits.ensures c.if-fits.true) in
+    let fits = fits_here c.self.inside.known.value c.deref.result.now s s named c.deref.ensures refl c.self.invariant.1 (c.fits.ensures.graph c.if-fits.true) in
     let here = subst (λ (v : ServedView). IsCrowded v.state.loaded (IsHeldOr v.state named) r) (sym c.self.view_is) crowded in
     fits.few here.many
 

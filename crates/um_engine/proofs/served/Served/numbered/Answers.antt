@@ -16,4 +16,4 @@ invariant_of-result c =
     let same = c.in_ok-number.ensures.state (none_apart c.args.known.value (state_of c.args.state) c.requires c.names.result.now names) in
     let tree = c.weight.ensures.weight ∙ ap tree_weight c.tree.ensures in
     let loaded = c.weight-2.ensures.weight ∙ ap tree_weight c.loaded.ensures in
-    (c.in_ok-number.ensures.names ∙ names, subst (KnowsFor c.args.known.value) (sym same) c.requires, omega (arith, tree, loaded))
+    ((c.in_ok-number.ensures.common, c.in_ok-number.ensures.names ∙ names), subst (KnowsFor c.args.known.value) (sym same) c.requires, omega (arith, tree, loaded))

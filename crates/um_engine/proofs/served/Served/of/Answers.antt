@@ -4,6 +4,7 @@ use Rattle.um_state.specs.View.{state_of}
 use Rattle.um_wire.specs.Refusal.{refused_of}
 use Rattle.um_wire.specs.declared.refusal.Refusal.TheVariants.{NoMemory}
 use Rattle.um_engine.specs.Known.{IsFull}
+use Rattle.um_engine.proofs.ExactLaws.{exact_at}
 use Rattle.um_engine.proofs.KnownLaws.{knows_made, knows_of}
 use Rattle.um_engine.proofs.PlannedLaws.{refuses_on}
 use Rattle.um_engine.proofs.served.Served.of.Goals as goal
@@ -33,3 +34,11 @@ pub returns-clause-refused : goal.returns-clause-refused
 returns-clause-refused c = λ r crowded.
     let s = state_of c.args.state in
     c.in_ok-known.ensures.few (subst (λ tree. IsFull tree (IsHeld s)) (sym c.loaded.ensures) crowded.many)
+
+pub returns-clause-exact : goal.returns-clause-exact
+returns-clause-exact c =
+    let s = state_of c.args.state in
+    let known = c.in_ok-known.known.value in
+    exact_at c.in_ok-served.served known s c.in_ok-served.ensures.state c.in_ok-served.ensures.known
+    (knows_of known s c.loaded.result.now c.loaded.ensures
+    (knows_made known s c.loaded.result.now c.in_ok-known.ensures.made c.in_ok-known.ensures.lasting c.in_ok-known.ensures.extra)) (λ x among. (c.in_ok-known.ensures.extra x).0 among)

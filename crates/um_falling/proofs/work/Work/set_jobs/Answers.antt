@@ -1,8 +1,9 @@
 use Rattle.std.proofs.Common.{◌∙◌, ap, map, subst, sym}
 use Rattle.um_model.specs.Standing.{Standing}
 use Rattle.um_state.specs.View.{state_of, action_of}
+use Rattle.um_state.specs.Working.{jobs_set}
 use Rattle.um_falling.specs.Over.{Serves}
-use Rattle.um_falling.specs.Work.{Keeps}
+use Rattle.um_falling.specs.Work.{Keeps, WorkView}
 use Rattle.um_falling.proofs.WorkLaws.{keeps_set, seen_as, serves_jobs_set, jobs_set_by}
 use Rattle.um_falling.proofs.work.Work.set_jobs.Goals as goal
 
@@ -16,6 +17,9 @@ pub returns-clause-state : goal.returns-clause-state
 returns-clause-state c =
     jobs_set_by c.args.self.now c.self.inside.graph.now c.self.inside.rows.base c.self.inside.rows.now c.self.inside.moment (map action_of c.self.inside.actions.items) c.self.view_is c.self.invariant.0
     c.args.unit c.args.jobs c.set_jobs.new.self.now c.set_jobs.ensures.now
+
+pub returns-clause-now : goal.returns-clause-now
+returns-clause-now c = c.set_jobs.ensures.now ∙ ap (λ (w : WorkView). jobs_set w.now c.args.unit c.args.jobs) c.self.view_is
 
 pub returns-clause-keeps : goal.returns-clause-keeps
 returns-clause-keeps c =

@@ -1,4 +1,4 @@
-use Rattle.std.proofs.Common.{map}
+use Rattle.std.proofs.Common.{◌≤◌, length, map, sym}
 use Rattle.um_model.specs.Machine.{State}
 use Rattle.um_model.specs.Service.{AreTidyUnits, state_of_unit}
 use Rattle.std.proofs.Common.{subst}
@@ -11,6 +11,10 @@ pub returns-clause-state : goal.returns-clause-state
 returns-clause-state c =
     told_by c.args.self.now c.self.inside.graph.now c.self.inside.rows.base c.self.inside.rows.now c.self.inside.moment (map action_of c.self.inside.actions.items) c.self.view_is c.self.invariant.0
     (λ (s : State) name. state_of_unit s.units name) c.args.unit c.unit.result c.unit.ensures.state
+
+pub returns-clause-past : goal.returns-clause-past
+returns-clause-past c = λ past.
+    c.unit.ensures.past (subst (λ ns. length ns ≤ c.args.unit) (sym c.self.invariant.0) (subst (λ (w : WorkView). length w.graph.names ≤ c.args.unit) (sym c.self.view_is) past))
 
 pub returns-clause-tidy : goal.returns-clause-tidy
 returns-clause-tidy c = subst (λ (w : WorkView). AreTidyUnits (state_of w.now).units) c.self.view_is c.unit.ensures.tidy

@@ -1,9 +1,6 @@
-use Rattle.std.proofs.Common.{◌∙◌, [], ◌∷◌, length, inr, sym, ap, subst, arith}
-use Rattle.um_model.specs.Disk.{During}
-use Rattle.um_model.specs.Stands.{IsStoreOf}
+use Rattle.std.proofs.Common.{◌∙◌, [], ◌∷◌, length, inl, inr, ap, arith}
 use Rattle.um_state.specs.View.{input_of}
-use Rattle.um_keeper.proofs.Results.{if_err_from, or_more, ok_from, err_more}
-use Rattle.um_keeper.specs.Keepers.{disk_in, layout_in, state_in}
+use Rattle.um_keeper.proofs.Results.{if_err_from, ok_from, err_more}
 use Rattle.um_keeper.proofs.Kept.{still, not_begun, record_short, room_begun, room_and_record}
 use Rattle.um_keeper.proofs.keeper.Keeper.record.Goals as goal
 
@@ -26,11 +23,13 @@ pub returns-in-Err-clause-kept : goal.returns-in-Err-clause-kept
 returns-in-Err-clause-kept g c = inr (λ h. still (c.args.self.now.kept c.requires.working h))
 
 pub returns-in-Ok-make_room-clause-kept : goal.returns-in-Ok-make_room-clause-kept
-returns-in-Ok-make_room-clause-kept g c =
-    let past = g.D.Disk.past in
-    let first = c.args.self.now in
-    if_err_from c.append.result _ _ (λ e. or_more (λ same h.
-    subst (λ d. During (past (disk_in first)) (past d) (λ image. IsStoreOf (layout_in first) image (state_in first))) (sym same) (c.make_room.ensures.during h))) c.append.ensures.unwritten
+returns-in-Ok-make_room-clause-kept g c = if_err_from c.append.result _ _ (λ e device. inl device) c.append.ensures.refused
+
+pub returns-in-Ok-make_room-clause-refused : goal.returns-in-Ok-make_room-clause-refused
+returns-in-Ok-make_room-clause-refused g c = if_err_from c.append.result _ _ (λ e device. inl (inr device)) c.append.ensures.refused
+
+pub returns-in-Ok-make_room-clause-unwritten : goal.returns-in-Ok-make_room-clause-unwritten
+returns-in-Ok-make_room-clause-unwritten g c = if_err_from c.append.result _ _ (λ e device. inl device) c.append.ensures.refused
 
 pub returns-in-Ok-make_room-clause-filled : goal.returns-in-Ok-make_room-clause-filled
 returns-in-Ok-make_room-clause-filled g c = ok_from c.append.result (λ further from free. further from (c.make_room.ensures.free from free)) c.append.ensures.filled

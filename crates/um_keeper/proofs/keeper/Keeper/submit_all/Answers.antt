@@ -1,4 +1,4 @@
-use Rattle.std.proofs.Common.{◌≡◌, ◌∙◌, ◌+◌, ◌-◌, ◌≤◌, ℕ, List, true, append-nil, length, map, replicate, Err, inl, inr, refl, sym, ap, subst, arith, rules}
+use Rattle.std.proofs.Common.{◌≡◌, ◌∙◌, ◌++◌, ◌-◌, ℕ, List, true, length, map, replicate, Err, inl, inr, refl, sym, ap, subst, arith, rules}
 use Rattle.std.proofs.lemmas.Bool.{true≢false}
 use Rattle.std.proofs.lemmas.List.{length-map}
 use Rattle.um_engine.specs.Engine as machine
@@ -12,14 +12,14 @@ use Rattle.um_model.specs.declared.layout.Slot.{Slot}
 use Rattle.um_sector.specs.Unsynced.{sync_count}
 use Rattle.um_state.specs.View.{input_of}
 use Rattle.um_state.specs.declared.input.Input.{Input}
-use Rattle.um_keeper.specs.Answering.{AreAnswered, FellBack, FellThere, NeedNoRecord, HaveNoRecord, all_sectors, AreSpentAt, taken, state_before_all}
+use Rattle.um_keeper.specs.Answering.{Answer, AreAnswered, FellBack, FellThere, NeedNoRecord, HaveNoRecord, Recorded, AreSpentAt, AreSpentAsMeant, as_told, TakesCalls, denied, taken, state_before_all}
 use Rattle.um_keeper.specs.Keepers.{disk_in, standing_in, state_in, size_in, layout_in, log_generation_in, next_in}
 use Rattle.um_keeper.specs.Keeping.{Keeps, IsBegun}
 use Rattle.um_keeper.proofs.Batching.{numbers_asked, denied_new, no_fault, need_no_record, fell_whole, fell_back, fell_there, fell_told, fell_during, fell_unrecorded}
 use Rattle.um_keeper.proofs.Kept.{stores, stores_at, keeps_for}
 use Rattle.um_keeper.proofs.Offered.{each_stays, fell_stays, list_goes_on}
 use Rattle.um_keeper.proofs.Results.{of_first}
-use Rattle.um_keeper.proofs.Spent.{free_at, spent_denied}
+use Rattle.um_keeper.proofs.Spent.{free_at}
 use Rattle.um_wire.specs.declared.refusal.Refusal.TheVariants.{Device}
 use Rattle.um_keeper.proofs.keeper.Keeper.submit_all.Goals as goal
 
@@ -70,11 +70,9 @@ returns-in-Ok-clause-device g c = inr (no_fault c.in-Ok.ensures.ok, c.in-Ok.ensu
 
 pub returns-in-Ok-clause-spent : goal.returns-in-Ok-clause-spent
 returns-in-Ok-clause-spent g c from free =
-    let layout = layout_in c.args.self.now in
-    let last = c.record_all.new.ahead.log.generation in
-    let answers = c.record_all.new.answers.items in
-    subst (λ i. AreSpentAt layout last from (map input_of i) answers) c.deref.ensures.value
-    (subst (AreSpentAt layout last from (map input_of c.deref.result.now)) (append-nil answers) (c.record_all.ensures.spent 0 from (free_at free)))
+    let first = c.args.self.now in
+    as_told (subst (λ i. AreSpentAt (layout_in first) c.record_all.new.ahead.log.generation (size_in first) from (state_in first) (map input_of i) c.record_all.new.answers.items) c.deref.ensures.value
+    (c.in-Ok.ensures.spent from (free_at free)))
 
 pub returns-in-Ok-clause-unrecorded : goal.returns-in-Ok-clause-unrecorded
 returns-in-Ok-clause-unrecorded g c none =
@@ -89,21 +87,25 @@ returns-in-Ok-clause-no_call g c works none =
     c.in-Ok.ensures.unrecorded (subst (λ i. HaveNoRecord s (map input_of i) answers) (sym c.deref.ensures.value) none)
 
 pub returns-in-Ok-clause-one_sync : goal.returns-in-Ok-clause-one_sync
-returns-in-Ok-clause-one_sync g c works h room =
+returns-in-Ok-clause-one_sync g c works h =
     let first = c.args.self.now in
     let s = state_in first in
     let answers = c.record_all.new.answers.items in
-    let fits = subst (λ i. next_in first + all_sectors (map input_of i) answers ≤ log_end (layout_in first) (log_generation_in first)) (sym c.deref.ensures.value) room in (
-      (λ none. ap (λ d. sync_count (g.D.Disk.past d)) (c.in-Ok.ensures.unrecorded (subst (λ i. HaveNoRecord s (map input_of i) answers) (sym c.deref.ensures.value) none))),
-      (λ some. c.in-Ok.ensures.one_sync h fits (λ none. some (subst (λ i. HaveNoRecord s (map input_of i) answers) c.deref.ensures.value none))),
+    let (sectors, recorded, synced) = c.in-Ok.ensures.one_sync h in (
+      sectors,
+      subst (λ i. Recorded (size_in first) s (map input_of i) answers sectors (machine.state_in c.record_all.new.engine)) c.deref.ensures.value recorded,
+      λ room. (
+        (λ none. ap (λ d. sync_count (g.D.Disk.past d)) (c.in-Ok.ensures.unrecorded (subst (λ i. HaveNoRecord s (map input_of i) answers) (sym c.deref.ensures.value) none))),
+        (λ some. synced room (λ none. some (subst (λ i. HaveNoRecord s (map input_of i) answers) c.deref.ensures.value none))),
+      ),
     )
 
 pub returns-in-Ok-clause-few_calls : goal.returns-in-Ok-clause-few_calls
-returns-in-Ok-clause-few_calls g c works room =
+returns-in-Ok-clause-few_calls g c works =
     let first = c.args.self.now in
-    let answers = c.record_all.new.answers.items in
-    subst (λ i. g.D.Disk.calls c.record_all.new.disk ≤ g.D.Disk.calls (disk_in first) + all_sectors (map input_of i) answers + 1) c.deref.ensures.value
-    (c.in-Ok.ensures.few_calls (subst (λ i. next_in first + all_sectors (map input_of i) answers ≤ log_end (layout_in first) (log_generation_in first)) (sym c.deref.ensures.value) room))
+    let calls = g.D.Disk.calls in
+    subst (λ i. TakesCalls (layout_in first) (next_in first) (log_generation_in first) c.record_all.new.ahead.log.generation (calls (disk_in first)) (calls c.record_all.new.disk)
+    (size_in first) (state_in first) (map input_of i) c.record_all.new.answers.items (machine.state_in c.record_all.new.engine)) c.deref.ensures.value c.in-Ok.ensures.few_calls
 
 -- ---- where the disk failed
 
@@ -176,10 +178,11 @@ returns-clause-device g c =
 
 pub returns-clause-spent : goal.returns-clause-spent
 returns-clause-spent g c from free =
-    let layout = layout_in c.args.self.now in
-    let last = c.record_all.new.ahead.log.generation in
+    let first = c.args.self.now in
     let meant = c.record_all.new.answers.items in
-    let left = c.len-count.result - length meant in
-    subst (λ i. AreSpentAt layout last from (map input_of i) c.deny.new.answers.items) c.deref.ensures.value
-    (subst (AreSpentAt layout last from (map input_of c.deref.result.now)) (sym c.deny.ensures)
-    (spent_denied layout last from (map input_of c.deref.result.now) meant (replicate left (Err Device)) (c.record_all.ensures.spent left from (free_at free))))
+    let n : c.len-count.result ≡ length c.args.inputs.items = search rules in
+    let same = ap (λ (l : List Input). length l) c.deref.ensures.value ∙ sym n in
+    let spent : List Input → List Answer → Type 0 =
+    λ i l. AreSpentAsMeant (layout_in first) c.record_all.new.ahead.log.generation (size_in first) from (state_in first) (map input_of i) l in
+    subst (λ i. spent i c.deny.new.answers.items) c.deref.ensures.value
+    (subst (spent c.deref.result.now) (ap (λ n. map denied meant ++ replicate (n - length meant) (Err Device)) same ∙ sym c.deny.ensures) (c.in-Err.ensures.spent_meant from (free_at free)))

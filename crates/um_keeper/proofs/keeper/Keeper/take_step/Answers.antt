@@ -1,7 +1,7 @@
 use Rattle.std.proofs.Common.{◌∙◌, [], ◌∷◌, inr, sym, ap}
 use Rattle.um_model.specs.Standing.{Standing}
 use Rattle.um_state.specs.View.{input_of}
-use Rattle.um_keeper.proofs.Results.{err_same, if_err_all}
+use Rattle.um_keeper.proofs.Results.{err_same, if_ok_from, if_err_all}
 use Rattle.um_keeper.proofs.Kept.{still, not_begun, stores, stores_at, stores_for, if_ok, new_numbers}
 use Rattle.um_keeper.proofs.Offered.{own_or_memory}
 use Rattle.um_keeper.proofs.keeper.Keeper.take_step.Goals as goal
@@ -30,3 +30,8 @@ returns-clause-stored g c f h = stores_for (c.args.self.now.kept f h) (ap (λ s.
 
 pub returns-in_err-next-clause-kept : goal.returns-in_err-next-clause-kept
 returns-in_err-next-clause-kept g c = if_err_all c.from_residual.result _ (λ e. inr (λ h. still (c.args.self.now.kept c.requires.working h)))
+
+-- the reply is that of the plan
+pub returns-then-has_effect-clause-accepted : goal.returns-then-has_effect-clause-accepted
+returns-then-has_effect-clause-accepted g c =
+    if_ok_from c.record.result _ _ (λ receipt is r refused. c.in_ok-next.ensures.accepted r (sym is.0 ∙ refused)) c.record.ensures.ok

@@ -1,9 +1,7 @@
-use Rattle.std.specs.Option.{IfSome}
-use Rattle.std.specs.Prelude.{◌+◌, ◌<◌, ◌≤◌, length}
-use Rattle.std.proofs.Common.{◌≡◌, ◌∙◌, subst, arith}
+use Rattle.std.proofs.Common.{subst, arith}
 use Rattle.um_model.specs.Disk.{seen}
-use Rattle.um_model.specs.Store.{part_count, stops}
-use Rattle.um_log.specs.Reading.{ReadsRecord, Fits}
+use Rattle.um_model.specs.Store.{stops}
+use Rattle.um_log.specs.Reading.{ReadsRecord}
 use Rattle.um_log.proofs.Scanning.{none_behind}
 use Rattle.um_log.proofs.write.Log.read_next.Goals as goal
 

@@ -1,4 +1,4 @@
-use Rattle.std.specs.Prelude.{◌≡◌, ◌+◌, ◌++◌, ◌∷◌, [], ℕ, List, length}
+use Rattle.std.specs.Prelude.{◌≡◌, ◌+◌, ◌++◌, ◌∷◌, [], ℕ, length}
 use Rattle.std.proofs.Common.{subst, arith}
 use Rattle.um_log.specs.Ahead.{GoesOnAhead}
 use Rattle.um_log.specs.Appending.{record_run}

@@ -1,5 +1,6 @@
 use Rattle.std.proofs.Common.{◌≡◌, ◌∙◌, ap}
 use Rattle.um_model.specs.Machine.{State}
+use Rattle.um_model.specs.Standing.{Standing}
 use Rattle.um_model.specs.Jobs.{no_jobs, with_jobs}
 use Rattle.um_state.specs.View.{state_of}
 use Rattle.um_state.proofs.PutLaws.{jobs_put_well}
@@ -13,3 +14,9 @@ returns-in-Some-clause-ok c =
     let s : State = record (state_with x.tree x.loaded x.boot x.clock x.next) { units = x.units.held; pending = x.pending.held } in
     let put = c.swap.ensures.held ∙ named_put no_jobs with_jobs jobs_put_well x.pending c.numbers.result.now c.numbers.ensures.names c.args.unit.now c.in-Some.i c.in-Some.ensures.number c.args.jobs in
     (λ k. record s { pending = put k }) ∙ ap (λ z. record (state_of z) { pending = with_jobs (state_of z).pending c.args.unit.now c.args.jobs }) c.self.view_is
+
+pub returns-in-Some-clause-numbers : goal.returns-in-Some-clause-numbers
+returns-in-Some-clause-numbers c = λ there. record {
+  common = ap (λ (z : Standing). z.common) c.self.view_is;
+  names = ap (λ (z : Standing). z.names) c.self.view_is;
+}

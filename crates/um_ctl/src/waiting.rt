@@ -1,0 +1,142 @@
+//! How long the client waits, and a connection that waits no longer.
+
+ghost use Rattle.std.specs.Prelude.{◌≡◌};
+
+use std::io::{ErrorKind, Read, Write};
+use std::os::unix::net::UnixStream;
+use std::time::{Clock, Duration, Instant};
+use std::{io, thread};
+
+/// Between two connections it waits so many milliseconds.
+const APART: u64 = 50;
+
+/// How long the client waits, in seconds from its first connection.
+#[derive(Clone, Copy, Debug, PartialEq, Eq)]
+pub struct Patience {
+    /// So long it connects again where nobody is there to read the request. None: it doesn't.
+    pub retry: Option<u32>,
+    /// So long it waits for the reply, retries included. None: for ever.
+    pub timeout: Option<u32>,
+}
+
+/// A patience, and when it began.
+#[derive(Clone, Copy)]
+pub(crate) struct Waiting {
+    pub patience: Patience,
+    /// None where the system told no time.
+    begun: Option<Instant>,
+}
+
+impl Waiting {
+    /// It begins now.
+    pub fn starting<R: Clock>(rt: &R, patience: Patience) -> Waiting
+        ensures { result.patience ≡ patience }
+    {
+        Waiting {
+            patience,
+            begun: Instant::now(rt).ok(),
+        }
+    }
+
+    /// How long ago it began.
+    fn spent<R: Clock>(self, rt: &R) -> io::Result<Duration> {
+        match self.begun {
+            Some(begun) => begun.elapsed(rt),
+            None => Err(io::Error::from(ErrorKind::Unsupported)),
+        }
+    }
+
+    /// How much longer a reply is waited for, more than nothing; None for ever. `TimedOut` where the time is up.
+    fn left<R: Clock>(self, rt: &R) -> io::Result<Option<Duration>> {
+        let Some(seconds) = self.patience.timeout else {
+            return Ok(None);
+        };
+        let whole = Duration::from_secs(u64::from(seconds));
+        match whole.checked_sub(self.spent(rt)?) {
+            Some(left) if !left.is_zero() => Ok(Some(left)),
+            _ => Err(io::Error::from(ErrorKind::TimedOut)),
+        }
+    }
+
+    /// Whether the time for connecting again isn't up.
+    pub fn may_retry<R: Clock>(self, rt: &R) -> bool {
+        match (self.patience.retry, self.spent(rt)) {
+            (Some(seconds), Ok(spent)) => spent < Duration::from_secs(u64::from(seconds)),
+            _ => false,
+        }
+    }
+
+    /// Waits until it connects again. `TimedOut` where the time for the reply is up.
+    pub fn pause<R: Clock>(self, rt: &R) -> io::Result<()> {
+        let apart = Duration::from_millis(APART);
+        let wait = match self.left(rt)? {
+            Some(left) => left.min(apart),
+            None => apart,
+        };
+        thread::sleep(rt, wait);
+        Ok(())
+    }
+}
+
+/// A connection of which no read and no write waits longer than the patience is.
+#[derive(Drop)]
+pub(crate) struct Timed<'a, 'b, R> {
+    stream: &'a UnixStream,
+    rt: &'b R,
+    waiting: Waiting,
+    /// A byte came.
+    pub has_heard: bool,
+}
+
+impl<'a, 'b, R> Timed<'a, 'b, R> {
+    /// Nothing came yet.
+    pub fn over(stream: &'a UnixStream, rt: &'b R, waiting: Waiting) -> Timed<'a, 'b, R> {
+        Timed {
+            stream,
+            rt,
+            waiting,
+            has_heard: false,
+        }
+    }
+}
+
+/// What a wait that was too long tells.
+fn in_time(error: io::Error) -> io::Error {
+    match error.kind() {
+        ErrorKind::WouldBlock => io::Error::from(ErrorKind::TimedOut),
+        _ => error,
+    }
+}
+
+impl<'a, 'b, R: Clock> Read for Timed<'a, 'b, R> {
+    fn read(&mut self, buf: &mut [u8]) -> io::Result<usize> {
+        if let Some(left) = self.waiting.left(self.rt)? {
+            self.stream.set_read_timeout(Some(left))?;
+        }
+        let mut stream = self.stream;
+        match stream.read(buf) {
+            Ok(count) => {
+                self.has_heard |= count > 0;
+                Ok(count)
+            }
+            Err(error) => Err(in_time(error)),
+        }
+    }
+}
+
+impl<'a, 'b, R: Clock> Write for Timed<'a, 'b, R> {
+    fn write(&mut self, buf: &[u8]) -> io::Result<usize> {
+        if let Some(left) = self.waiting.left(self.rt)? {
+            self.stream.set_write_timeout(Some(left))?;
+        }
+        let mut stream = self.stream;
+        match stream.write(buf) {
+            Ok(count) => Ok(count),
+            Err(error) => Err(in_time(error)),
+        }
+    }
+
+    fn flush(&mut self) -> io::Result<()> {
+        Ok(())
+    }
+}

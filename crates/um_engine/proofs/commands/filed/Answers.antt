@@ -1,0 +1,67 @@
+use Rattle.std.proofs.Common.{◌≡◌, ◌≢◌, ◌∙◌, None, true≢false, ap, refl, sym, subst}
+use Rattle.std.specs.FinMap as map
+use Rattle.um_falling.specs.Work.{WorkView}
+use Rattle.um_model.specs.Live.{HoldsNoMore}
+use Rattle.um_model.specs.Machine as model
+use Rattle.um_model.specs.Machine.{State}
+use Rattle.um_model.specs.Refusals.{Refused}
+use Rattle.um_model.specs.Tree.{File, put_cause}
+use Rattle.um_state.specs.View.{state_of}
+use Rattle.um_wire.specs.Refusal.{refused_of}
+use Rattle.um_wire.specs.declared.refusal.Refusal.TheVariants.{NoMemory}
+use Rattle.um_engine.proofs.KnownLaws.{put_holds_no_more}
+use Rattle.um_engine.proofs.PlannedLaws.{refuses_on}
+use Rattle.um_engine.proofs.PutLaws.{file_free, file_stands, file_differs}
+use Rattle.um_engine.proofs.commands.filed.Goals as goal
+
+pub returns-in_err-check_put-clause-refused : goal.returns-in_err-check_put-clause-refused
+returns-in_err-check_put-clause-refused c =
+    let e = c.in_err-check_put.field-0.0 in
+    refuses_on (model.Refuses c.args.served.now.state (model.PutFile c.args.path.now c.args.text.now)) c.from_residual.result e c.from_residual.ensures.1
+    (subst (λ (x : State). e ≢ NoMemory → model.Refuses x (model.PutFile c.args.path.now c.args.text.now) (refused_of e)) c.state-state.ensures.state c.in_err-check_put.ensures.refused)
+
+pub returns-then-has_entry-clause-changed : goal.returns-then-has_entry-clause-changed
+returns-then-has_entry-clause-changed c =
+    file_stands c.args.served.now.state c.args.path.now c.args.text.now (subst (λ (x : State). put_cause x.tree c.args.path.now c.args.text.now ≡ None) c.state-state.ensures.state c.in_ok-check_put.ensures.ok) (state_of c.in_ok-work.field-0.now)
+    (ap (λ (t : _). map.get t c.args.path.now) (sym (c.tree.ensures ∙ ap (λ (x : State). x.tree) c.state-state.ensures.state)) ∙ c.has_entry.ensures.0 c.if-has_entry.true)
+    (ap (λ (z : WorkView). state_of z.now) c.in_ok-work.ensures.begins)
+
+pub returns-then-has_entry-clause-silent : goal.returns-then-has_entry-clause-silent
+returns-then-has_entry-clause-silent c = record { reply = refl; actions = ap (λ (z : WorkView). z.actions) c.in_ok-work.ensures.begins }
+
+pub returns-then-has_entry-clause-based : goal.returns-then-has_entry-clause-based
+returns-then-has_entry-clause-based c = (c.in_ok-work.ensures.works, ap (λ (z : WorkView). z.moment) c.in_ok-work.ensures.begins)
+
+pub returns-then-has_entry-clause-refused : goal.returns-then-has_entry-clause-refused
+returns-then-has_entry-clause-refused c = file_free c.args.served.now.state c.args.path.now c.args.text.now (subst (λ (x : State). put_cause x.tree c.args.path.now c.args.text.now ≡ None) c.state-state.ensures.state c.in_ok-check_put.ensures.ok)
+
+pub returns-in_err-changed-clause-refused : goal.returns-in_err-changed-clause-refused
+returns-in_err-changed-clause-refused c =
+    let e = c.in_err-changed.field-0.0 in
+    refuses_on (model.Refuses c.args.served.now.state (model.PutFile c.args.path.now c.args.text.now)) c.from_residual-in_err-changed.result e c.from_residual-in_err-changed.ensures.1
+    (subst (λ (x : State). e ≢ NoMemory → model.Refuses x (model.PutFile c.args.path.now c.args.text.now) (refused_of e)) c.state-state.ensures.state c.in_err-changed.ensures.refused)
+
+pub kept-requires : goal.kept-requires
+kept-requires c =
+    let u = state_of c.in_ok-changed.changed in
+    subst (λ (s : State). HoldsNoMore s u) c.state-state.ensures.state (put_holds_no_more (state_of c.state-state.result.now) u _ _ c.in_ok-changed.ensures.changed)
+
+pub returns-clause-changed : goal.returns-clause-changed
+returns-clause-changed c =
+    subst (model.Changes c.args.served.now.state (model.PutFile c.args.path.now c.args.text.now)) (sym c.in_ok-kept.ensures)
+    (subst (λ (x : State). model.Changes x (model.PutFile c.args.path.now c.args.text.now) (state_of c.in_ok-changed.changed)) c.state-state.ensures.state c.in_ok-changed.ensures.changed)
+
+pub returns-clause-silent : goal.returns-clause-silent
+returns-clause-silent c = record { reply = refl; actions = refl }
+
+pub returns-clause-refused : goal.returns-clause-refused
+returns-clause-refused c =
+    subst (λ (x : State). (r : Refused) → ¬ model.Refuses x (model.PutFile c.args.path.now c.args.text.now) r) c.state-state.ensures.state c.in_ok-changed.ensures.refused
+
+pub returns-clause-based : goal.returns-clause-based
+returns-clause-based c =
+    let s = c.args.served.now.state in
+    let tree = c.tree.ensures ∙ ap (λ (x : State). x.tree) c.state-state.ensures.state in
+    let other : ¬ (map.get s.tree c.args.path.now ≡ _) = λ there. true≢false (sym (c.has_entry.ensures.1 (ap (λ (t : _). map.get t c.args.path.now) tree ∙ there)) ∙ c.if-has_entry.false) in
+    λ same. file_differs s c.args.path.now c.args.text.now (subst (λ (x : State). put_cause x.tree c.args.path.now c.args.text.now ≡ None) c.state-state.ensures.state c.in_ok-check_put.ensures.ok)
+    (state_of c.in_ok-changed.changed) other (subst (λ (x : State). model.Changes x (model.PutFile c.args.path.now c.args.text.now) (state_of c.in_ok-changed.changed)) c.state-state.ensures.state c.in_ok-changed.ensures.changed) (sym (ap (λ (x : State). x.tree) c.in_ok-kept.ensures) ∙ same)

@@ -1,0 +1,24 @@
+ghost use Rattle.std.specs.Prelude.{◌≡◌, ◌↔◌, ◌<◌, suc, IsTrue};
+ghost use Rattle.um_model.specs.Store.{part_count};
+
+use crate::sectors::PART_BYTES;
+
+/// What a part of a record says of itself.
+#[derive(Clone, Copy, Debug)]
+pub struct Part {
+    pub generation: u64,
+    pub number: u64,
+    pub part: u32,
+    /// The length of the whole record, in bytes.
+    pub size: u32,
+    ghost below: { part < part_count size },
+}
+
+impl Part {
+    /// Whether it is the last part of its record.
+    pub fn is_last(&self) -> bool
+        ensures { IsTrue result ↔ (suc self.now.part ≡ part_count self.now.size) }
+    {
+        self.part + 1 == self.size.div_ceil(PART_BYTES)
+    }
+}
