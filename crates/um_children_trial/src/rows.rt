@@ -123,6 +123,16 @@ fn comes(rt: &HostRuntime, path: &str) -> bool {
     is_there(rt, path)
 }
 
+/// Waits until nothing stands at the path.
+fn wait_until_gone(rt: &HostRuntime, path: &str) {
+    for _ in 0..POLLS {
+        if !is_there(rt, path) {
+            return;
+        }
+        thread::sleep(rt, Duration::from_millis(10));
+    }
+}
+
 const EXIT: &str = "ExecStart=/bin/sh -c 'exit 3'";
 
 const NOT_THERE: &str = "ExecStart=/nonexistent";
@@ -244,7 +254,7 @@ fn claimed(
 
 const TWO: &str = "ExecStart=/bin/sh -c 'echo x >>two; sleep 1'";
 
-/// A number that two runners claim.
+/// A number that two runners claim. The second one's entries are handed over once the first has taken its own, whose place they would take.
 fn claimed_twice(
     rt: &HostRuntime,
     orders: &mut Orders,
@@ -255,7 +265,9 @@ fn claimed_twice(
     let number = first.as_ref().number();
     let second = others.order(TWO)?;
     let same = number == second.as_ref().number();
+    let entries = format!(in rt.alloc(); "{TWICE}/{}.env", number.get())?;
     children.spawn(Box::into_inner(first))?;
+    wait_until_gone(rt, entries.as_str());
     children.spawn(Box::into_inner(second))?;
     let fate = fate_of(rt, children, number, true)?;
     let size = fs::metadata(rt, "two")?.len();
