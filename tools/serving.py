@@ -194,8 +194,8 @@ class Server:
         return self.run("ctl", "--socket", self.socket, *words, **how)
 
     def files(self):
-        """The names of the files of processes."""
-        return sorted(os.listdir(self.dir)) if os.path.isdir(self.dir) else []
+        """The names of the files of processes: all that stands in their folder but the socket by which runners wake the manager."""
+        return sorted(it for it in os.listdir(self.dir) if it != "news") if os.path.isdir(self.dir) else []
 
     def live_pids(self):
         """The pids of processes that were started and have no status."""

@@ -1,7 +1,7 @@
 -- How a number stands by the files of its runner, and what is told of it.
 -- No manual page has this: the runner's files are the project's own (docs/FORMATS.md, "The files of a process").
 -- Children through runners stand on this file.
-use Rattle.std.specs.Prelude.{Bool, true, false, Option, Some, None, if◌then◌else◌}
+use Rattle.std.specs.Prelude.{◌&&◌, Bool, true, false, not, Option, Some, None, Result, Ok, is_none, if◌then◌else◌}
 use Rattle.um_model.specs.declared.children.Fate.{Fate}
 use Rattle.um_model.specs.declared.children.Fate.TheVariants as fate
 use Rattle.um_model.specs.declared.service.Signal.{Signal}
@@ -50,6 +50,16 @@ is_settled Silent kept = false
 is_settled Taken kept = false
 is_settled (Ended end) kept = false
 is_settled Barred kept = false
+
+-- its runner is to tell what becomes of it, and no signal waits: nobody else changes what is told of it
+abbrev pub waits_for_runner : Standing → Option Signal → Bool
+waits_for_runner standing kept = not (is_final standing) && is_none kept
+
+-- a fate was told of which a runner is to tell more: the process is starting, or runs
+abbrev pub goes_on : {E : Type 0} → Result Fate E → Bool
+goes_on (Ok fate.Starting) = true
+goes_on (Ok fate.Executed) = true
+goes_on other = false
 
 -- of two signals the one that no process outlives
 abbrev pub stronger : Option Signal → Signal → Signal

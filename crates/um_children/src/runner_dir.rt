@@ -2,6 +2,7 @@ ghost use Rattle.std.specs.Prelude.{◌≡◌, [], true, false, Ok, IfOk};
 ghost use Rattle.std.proofs.lemmas.Bool.{false≢true};
 ghost use Rattle.um_children.specs.History.{is_absent};
 ghost use Rattle.um_children.specs.Faults.{CountsFault};
+ghost use Rattle.um_children.specs.Standings.{goes_on};
 
 use crate::children::Children;
 use crate::commands::finding_command;
@@ -44,6 +45,8 @@ pub struct RunnerDir<'a, R: Files + Processes + Clock> {
     last: u64,
     /// The next round may tell or do something even where no file comes.
     is_restless: bool,
+    /// And it should come soon, since no runner may wake the manager for that.
+    is_pressed: bool,
     failures: u64,
     /// What failed in the last call that did.
     cause: Option<Cause>,
@@ -71,6 +74,7 @@ impl<'a, R: Files + Processes + Clock> Drop for RunnerDir<'a, R> {
             watch: _,
             last: _,
             is_restless: _,
+            is_pressed: _,
             failures: _,
             cause: _cause,
             silences: _silences,
@@ -148,6 +152,7 @@ impl<'a, R: Files + Processes + Clock> RunnerDir<'a, R> {
             watch: Watch::NEW,
             last: u64::MAX,
             is_restless: true,
+            is_pressed: true,
             failures: 0,
             cause: None,
             silences: BTreeMap::new(alloc),
@@ -174,6 +179,14 @@ impl<'a, R: Files + Processes + Clock> RunnerDir<'a, R> {
         ensures { self.now.is_restless ≡ true → result ≡ true }
     {
         self.is_restless || self.watch.has_changed(self.rt, self.folder.as_str())
+    }
+
+    /// Whether the next round of fates should come soon, though no runner may wake the manager: a call of the last round failed, a signal waits for its
+    /// pid, an end or an absence is told again, or one was started or signalled behind it.
+    pub fn is_pressed(&self) -> bool
+        ensures { result ≡ self.now.is_pressed }
+    {
+        self.is_pressed
     }
 
     /// The folder.
@@ -243,6 +256,7 @@ impl<'a, R: Files + Processes + Clock> RunnerDir<'a, R> {
         ensures same { IfOk result (λ value. answer ≡ Ok value) }
         ensures failures { CountsFault result self.old.failures self.new.failures }
         ensures restless { self.new.is_restless ≡ self.old.is_restless }
+        ensures pressed { self.new.is_pressed ≡ self.old.is_pressed }
     {
         match answer {
             Ok(value) => Ok(value),
@@ -268,6 +282,7 @@ impl<'a, R: Files + Processes + Clock> RunnerDir<'a, R> {
         if number.get() <= self.last {
             self.watch.look(self.rt, self.folder.as_str());
             self.is_restless = false;
+            self.is_pressed = false;
         }
         self.last = number.get();
     }
@@ -299,6 +314,7 @@ impl<'a, R: Files + Processes + Clock> RunnerDir<'a, R> {
         ensures claim { claim ≡ false → IfOk result (λ fate. is_absent fate ≡ false) }
         ensures failures { self.new.failures ≡ self.old.failures }
         ensures restless { self.new.is_restless ≡ false → result ≡ Ok Fate.Executed }
+        ensures pressed { self.new.is_pressed ≡ false → goes_on result ≡ true }
     {
         self.begin(number);
         self.silent = None;
@@ -308,6 +324,7 @@ impl<'a, R: Files + Processes + Clock> RunnerDir<'a, R> {
             return Ok(Fate::Executed);
         }
         let was_restless = mem::replace(&mut self.is_restless, true);
+        let was_pressed = mem::replace(&mut self.is_pressed, true);
         let (known, is_refused) = self.learn(number, before, claim)?;
         if is_refused {
             self.unsignalled = Some(number);
@@ -318,6 +335,7 @@ impl<'a, R: Files + Processes + Clock> RunnerDir<'a, R> {
         // where there is no memory for it the files are read again
         let is_kept = known == before || self.known.insert(number.get(), known).is_ok();
         self.is_restless = was_restless || !is_kept || !known.is_settled();
+        self.is_pressed = was_pressed || !is_kept || !known.waits_for_runner();
         Ok(known.standing.fate(claim))
     }
 
@@ -424,6 +442,7 @@ impl<'a, R: Files + Processes + Clock> Children for RunnerDir<'a, R> {
 
     fn spawn(&mut self, order: SpawnOrder) -> Result<(), ChildFault> {
         self.is_restless = true;
+        self.is_pressed = true;
         if order.is_too_long(self.alloc)? {
             return Err(ChildFault::TooLong);
         }
@@ -433,6 +452,7 @@ impl<'a, R: Files + Processes + Clock> Children for RunnerDir<'a, R> {
 
     fn signal(&mut self, number: ProcessNumber, signal: Signal) -> Result<(), ChildFault> {
         self.is_restless = true;
+        self.is_pressed = true;
         let answer = self.deliver(number, signal);
         self.count(answer)
     }

@@ -2,7 +2,7 @@
 
 ghost use Rattle.std.specs.Prelude.{◌≡◌, false};
 ghost use Rattle.um_children.specs.History.{is_absent};
-ghost use Rattle.um_children.specs.Standings.{by_pid, claimed, fate_of, is_final, is_settled, stronger};
+ghost use Rattle.um_children.specs.Standings.{by_pid, claimed, fate_of, is_final, is_settled, stronger, waits_for_runner};
 
 use um_model::{End, Fate, Signal};
 use um_runner::{Claimant, Claiming, Told};
@@ -50,6 +50,14 @@ impl Known {
         ensures { result ≡ is_settled self.standing self.kept }
     {
         matches!(self.standing, Standing::Running(_)) && self.kept.is_none()
+    }
+
+    /// Whether all that can change what is told of it, or what is done for it, is a file that its runner is to make, and wakes the manager for: it
+    /// hasn't ended, nor has the manager claimed it, and no signal waits.
+    pub fn waits_for_runner(self) -> bool
+        ensures { result ≡ waits_for_runner self.standing self.kept }
+    {
+        !self.standing.is_final() && self.kept.is_none()
     }
 }
 

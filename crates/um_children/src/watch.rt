@@ -9,8 +9,11 @@ use std::{fs, io};
 /// file may come at the same time.
 const YOUNG_MILLIS: u128 = 20;
 
-/// After so many milliseconds the files are read again, whatever the folder's time says: that of some file systems goes on in whole seconds.
+/// After so many milliseconds the files are read again where the folder's time is one of whole seconds, as that of some file systems is alone.
 const OLD_MILLIS: u128 = 1_000;
+
+/// And after so many whatever that time says.
+const AGED_MILLIS: u128 = 60_000;
 
 /// What was seen of the folder's time.
 #[derive(Clone, Copy, Debug)]
@@ -41,9 +44,22 @@ fn settled_time<R: Files + Clock>(rt: &R, folder: &str) -> io::Result<Option<Sys
     Ok(if is_old { Some(time) } else { None })
 }
 
-/// Whether files that were read so long ago have to be read again, whatever the folder's time says.
-fn is_old(age: Duration) -> bool {
-    age.as_millis() >= OLD_MILLIS
+/// Whether the time is one of whole seconds: the folder's may be so again while files come.
+fn is_coarse(time: SystemTime) -> bool {
+    match time.duration_since(SystemTime::UNIX_EPOCH) {
+        Ok(since) => since.subsec_nanos() == 0,
+        Err(_) => true,
+    }
+}
+
+/// Whether files that were read so long ago have to be read again, where this is the folder's time.
+fn is_old(age: Duration, time: SystemTime) -> bool {
+    let most = if is_coarse(time) {
+        OLD_MILLIS
+    } else {
+        AGED_MILLIS
+    };
+    age.as_millis() >= most
 }
 
 impl Watch {
@@ -65,10 +81,10 @@ impl Watch {
         self.is_gone
     }
 
-    /// Whether the files were read too long ago to go by the folder's time.
-    fn is_overdue<R: Clock>(&self, rt: &R) -> bool {
+    /// Whether the files were read too long ago to go by the folder's time, where that is this one.
+    fn is_overdue<R: Clock>(&self, rt: &R, time: SystemTime) -> bool {
         match (self.read, Instant::now(rt)) {
-            (Some(read), Ok(now)) => is_old(now.duration_since(read)),
+            (Some(read), Ok(now)) => is_old(now.duration_since(read), time),
             _ => true,
         }
     }
@@ -77,13 +93,21 @@ impl Watch {
     pub fn has_changed<R: Files + Clock>(&self, rt: &R, folder: &str) -> bool {
         match (self.time, folder_time(rt, folder)) {
             // it wasn't young at that look, and so whatever came since has a later time, if the file system's times are fine
-            (Some(seen), Ok(time)) => time != seen || self.is_overdue(rt),
+            (Some(seen), Ok(time)) => time != seen || self.is_overdue(rt, time),
             _ => true,
         }
     }
 
-    /// Looks at the folder's time: files that were read before have to be read again, unless it is as at the last look and they were
-    /// read within a second.
+    /// Whether files that were read before have to be read again, where this is the folder's time.
+    fn has_to_read<R: Clock>(&self, rt: &R, time: Option<SystemTime>) -> bool {
+        match time {
+            Some(time) => self.time != Some(time) || self.is_overdue(rt, time),
+            None => true,
+        }
+    }
+
+    /// Looks at the folder's time: files that were read before have to be read again, unless it is as at the last look and they were read within a
+    /// minute, or within a second where it is one of whole seconds.
     pub fn look<R: Files + Clock>(&mut self, rt: &R, folder: &str) {
         let seen = settled_time(rt, folder);
         self.is_gone = match &seen {
@@ -91,7 +115,7 @@ impl Watch {
             Err(error) => error.kind() == ErrorKind::NotFound,
         };
         let time = seen.unwrap_or(None);
-        if time.is_none() || time != self.time || self.is_overdue(rt) {
+        if self.has_to_read(rt, time) {
             self.changes = self.changes.wrapping_add(1);
             self.read = match Instant::now(rt) {
                 Ok(now) => Some(now),

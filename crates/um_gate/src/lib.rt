@@ -4,11 +4,14 @@
 mod clock;
 mod fake;
 mod gate;
+mod listener;
+mod news;
 mod note;
 mod socket;
 
 pub use clock::{FakeMoments, Moments, SystemMoments, system_moment};
 pub use fake::FakeGate;
 pub use gate::{CONNECTIONS, Gate, MOST_BYTES, Open};
+pub use listener::look_at_socket;
 pub use note::Note;
-pub use socket::{SocketGate, look_at_socket};
+pub use socket::SocketGate;

@@ -3,27 +3,25 @@
 ghost use Rattle.std.specs.Prelude.{◌≡◌, ◌≤◌, [], length, false, true, IfOk, IfSome, vec_capacity};
 
 use crate::gate::{CONNECTIONS, Gate, MOST_BYTES, Open};
+use crate::listener::listener_at;
+use crate::news::News;
 use mio::net::{UnixListener, UnixStream};
 use mio::{Events, Interest, Poll, Token};
 use std::alloc::{AllocError, Global};
-use std::fs::{DirBuilder, Files, Permissions};
+use std::fs::Files;
 use std::io::{ErrorKind, Read, Write};
 use std::net::Net;
-use std::os::unix::fs::{DirBuilderExt, FileTypeExt, PermissionsExt};
 use std::time::Duration;
 use std::{fs, io, mem};
-
-/// The owner alone may connect.
-const MODE: u32 = 0o600;
-
-/// The owner alone may go into the folder in which the socket is made.
-const FOLDER_MODE: u32 = 0o700;
 
 /// As many events are told by one wait at most.
 const EVENTS: usize = 128;
 
 /// The listener's events have this token; those of a connection its number.
 const LISTENER: usize = CONNECTIONS;
+
+/// And those of the socket of news this one.
+const NEWS: usize = CONNECTIONS + 1;
 
 /// What stands under the number of a connection.
 #[derive(Drop)]
@@ -45,93 +43,12 @@ pub struct SocketGate {
     listener: UnixListener,
     /// The last accept took a client: another one may wait behind it, of which no event tells any more.
     has_accepted: bool,
+    /// The socket at which the gate is woken; None before it was made.
+    news: Option<News>,
     places: Vec<Place>,
     /// Where a read puts its bytes first.
     buffer: Vec<u8>,
     ghost full: { length buffer.items ≡ 4096 },
-}
-
-/// Whether somebody answers at the socket at the path.
-fn is_answered<R: Net>(rt: &R, path: &str) -> io::Result<bool> {
-    match UnixStream::connect(rt, path) {
-        Ok(_) => Ok(true),
-        Err(e) => match e.kind() {
-            // so many wait to be accepted that the system takes no more
-            ErrorKind::WouldBlock => Ok(true),
-            ErrorKind::ConnectionRefused | ErrorKind::NotFound => Ok(false),
-            _ => Err(e),
-        },
-    }
-}
-
-/// Sees whether a socket may be made at the path: nothing stands there, or a socket at which nobody answers. It changes nothing.
-///
-/// `AddrInUse` where somebody answers, `AlreadyExists` where what stands there is no socket, or another error where the system refuses the look.
-pub fn look_at_socket<R: Files + Net>(rt: &R, path: &str) -> io::Result<()> {
-    match fs::symlink_metadata(rt, path) {
-        Ok(about) if about.file_type().is_socket() => {}
-        Ok(_) => {
-            let message = "what stands there is no socket";
-            return Err(io::Error::new(ErrorKind::AlreadyExists, message));
-        }
-        Err(e) if e.kind() == ErrorKind::NotFound => return Ok(()),
-        Err(e) => return Err(e),
-    }
-    if is_answered(rt, path)? {
-        let message = "somebody serves this socket";
-        return Err(io::Error::new(ErrorKind::AddrInUse, message));
-    }
-    Ok(())
-}
-
-/// Removes the folder, with a socket in it, that is left of the making of one, as where a server was killed meanwhile.
-fn clear<R: Files>(rt: &R, folder: &str, inside: &str) {
-    // what stays is in the way when the folder is made, and told then
-    if let Ok(about) = fs::symlink_metadata(rt, inside) {
-        if about.file_type().is_socket() {
-            let _ = fs::remove_file(rt, inside);
-        }
-    }
-    let _ = fs::remove_dir(rt, folder);
-}
-
-/// Makes the folder in which a socket is made.
-fn make_folder<R: Files>(rt: &R, folder: &str) -> io::Result<()> {
-    match DirBuilder::new().mode(FOLDER_MODE).create(rt, folder) {
-        Err(e) if e.kind() == ErrorKind::AlreadyExists => {
-            let message =
-                "it is made in a folder at this path with .new behind, where something else stands";
-            Err(io::Error::new(ErrorKind::AlreadyExists, message))
-        }
-        made => made,
-    }
-}
-
-/// A listener at the path inside a folder of its own, to which nobody else comes before its mode is set; then it is moved to its path, over a
-/// socket at which nobody answers.
-fn listener_by<R: Files + Net>(
-    rt: &R,
-    folder: &str,
-    inside: &str,
-    path: &str,
-) -> io::Result<UnixListener> {
-    make_folder(rt, folder)?;
-    let listener = UnixListener::bind(rt, inside)?;
-    fs::set_permissions(rt, inside, Permissions::from_mode(MODE))?;
-    look_at_socket(rt, path)?;
-    fs::rename(rt, inside, path)?;
-    Ok(listener)
-}
-
-/// A listener at the path, to which the owner alone may connect.
-fn listener_at<R: Files + Net>(rt: &R, alloc: Global, path: &str) -> io::Result<UnixListener> {
-    let folder = format!(in alloc; "{path}.new")?;
-    let inside = format!(in alloc; "{folder}/s")?;
-    look_at_socket(rt, path)?;
-    clear(rt, folder.as_str(), inside.as_str());
-    let listener = listener_by(rt, folder.as_str(), inside.as_str(), path);
-    clear(rt, folder.as_str(), inside.as_str());
-    listener
 }
 
 /// So many places, all free.
@@ -210,22 +127,93 @@ impl SocketGate {
             events,
             listener,
             has_accepted: false,
+            news: None,
             places,
             buffer,
         })
     }
 
-    /// Waits until a client comes, bytes come, or a connection takes bytes again, but no longer than this, and tells whether any of it may
-    /// be. It is a hint alone: whoever was told so looks at each open connection, and is told it of the same client or bytes no second time.
-    pub fn wait(&mut self, longest: Duration) -> bool {
-        if mem::replace(&mut self.has_accepted, false) {
-            return true;
+    /// Makes a socket at `path` as `open` does, at which the gate is woken: who connects is let go, and nothing is read. It takes the place of one
+    /// that was made before.
+    ///
+    /// The same errors as those of `open`, and then what was made before is as it was.
+    pub fn open_news<R: Files + Net>(
+        &mut self,
+        rt: &R,
+        alloc: Global,
+        path: &str,
+    ) -> io::Result<()> {
+        let mut listener = listener_at(rt, alloc, path)?;
+        self.poll
+            .registry()
+            .register(&mut listener, Token(NEWS), Interest::READABLE)?;
+        self.news = Some(News::of(listener));
+        Ok(())
+    }
+
+    /// Makes the socket of news at `path` again, where nothing stands there any more. What stands there is left as it is.
+    ///
+    /// The same errors as those of `open_news`, or another one where the system refuses the look.
+    pub fn keep_news<R: Files + Net>(
+        &mut self,
+        rt: &R,
+        alloc: Global,
+        path: &str,
+    ) -> io::Result<()> {
+        match fs::symlink_metadata(rt, path) {
+            Err(e) if e.kind() == ErrorKind::NotFound => self.open_news(rt, alloc, path),
+            Err(e) => Err(e),
+            Ok(_) => Ok(()),
         }
+    }
+
+    /// Why nobody who connects to the socket of news can be let go, by the last look; None once that went well again.
+    pub fn news_fault(&self) -> Option<&io::Error> {
+        match &self.news {
+            Some(news) => news.fault(),
+            None => None,
+        }
+    }
+
+    /// Whether somebody may wait at the socket of news of whom no event tells any more.
+    fn has_more_news(&self) -> bool {
+        match &self.news {
+            Some(news) => news.has_more(),
+            None => false,
+        }
+    }
+
+    /// Lets go who connected to the socket of news, 64 at most, and tells whether anybody did.
+    fn take_news(&mut self) -> bool {
+        match &mut self.news {
+            Some(news) => news.take(),
+            None => false,
+        }
+    }
+
+    /// Waits until an event comes, but no longer than this, and tells whether one did.
+    fn wait_for_event(&mut self, longest: Duration) -> bool {
         match self.poll.poll(&mut self.events, Some(longest)) {
             Ok(()) => !self.events.is_empty(),
             // where the system refuses to wait, a look tells what is there
             Err(_) => true,
         }
+    }
+
+    /// Waits until a client comes, bytes come, a connection takes bytes again, or the gate is woken, but no longer than this, and tells whether any of
+    /// it may be. It is a hint alone: whoever was told so looks at each open connection, and is told it of the same client or bytes no second time.
+    pub fn wait(&mut self, longest: Duration) -> bool {
+        if mem::replace(&mut self.has_accepted, false) {
+            return true;
+        }
+        let longest = if self.has_more_news() {
+            Duration::ZERO
+        } else {
+            longest
+        };
+        let has_event = self.wait_for_event(longest);
+        // in any case, since who couldn't be let go is told by no event again
+        self.take_news() | has_event
     }
 
     /// The next client, if one waits.

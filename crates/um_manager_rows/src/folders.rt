@@ -195,15 +195,26 @@ fn set_time(rt: &HostRuntime, folder: &str, time: SystemTime) -> Result<(), Fail
     Ok(File::open(rt, folder)?.set_modified(time)?)
 }
 
+/// The second of this time, from its beginning.
+fn second_of(rt: &impl Abort, time: SystemTime) -> SystemTime {
+    let since = time.duration_since(SystemTime::UNIX_EPOCH);
+    let nanos = since.map_or(0, |since| since.subsec_nanos());
+    let second = time.checked_sub(Duration::from_nanos(u64::from(nanos)));
+    second.expect(rt, "no second of a time")
+}
+
 /// The time of some folders goes on in whole seconds: it is here as before the status came.
 #[test]
-fn an_end_is_found_within_a_second_whatever_the_time_of_the_folder_says(
+fn an_end_is_found_within_a_second_where_the_folder_s_time_is_of_whole_seconds(
     rt: HostRuntime,
 ) -> Result<(), Fail> {
     let place = folder(&rt, "coarse")?;
     let place = place.as_str();
     let mut children = running(&rt, place);
-    let time = time_of(&rt, place)?;
+    let time = second_of(&rt, time_of(&rt, place)?);
+    set_time(&rt, place, time)?;
+    told(&rt, children.as_mut(), 1, false, Fate::Executed);
+    same!(&rt, children.has_news(), false);
     put(&rt, place, "1.status", b"code 3\n");
     set_time(&rt, place, time)?;
     thread::sleep(&rt, Duration::from_millis(1100));

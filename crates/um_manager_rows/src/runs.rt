@@ -3,6 +3,7 @@ use crate::orders::number;
 use crate::places::{folder, holds, path_of, put, remove};
 use std::fs;
 use std::fs::{File, Files};
+use std::net::Net;
 use std::process::{Abort, Processes};
 use std::test::Fail;
 use std::time::Clock;
@@ -13,7 +14,7 @@ use um_runner::{
 
 /// Runs the words, of which the first are so many entries, under this number.
 fn runs(
-    rt: &(impl AllocGlobal + Files<File = File> + Processes + Clock + Abort),
+    rt: &(impl AllocGlobal + Files<File = File> + Net + Processes + Clock + Abort),
     folder: &str,
     n: u64,
     count: usize,

@@ -27,6 +27,10 @@ ending_of Entries = codes ".env"
 abbrev pub file_name : ℕ → RunnerFile → List ℕ
 file_name number file = decimal number ++ ending_of file
 
+-- the path of the socket in the folder at which runners wake the manager
+abbrev pub news_path : List ℕ → List ℕ
+news_path folder = folder ++ codes "/news"
+
 -- a slash parts the names of a path
 abbrev pub is_slash : ℕ → Bool
 is_slash b = b == 47

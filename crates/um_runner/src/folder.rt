@@ -5,11 +5,14 @@ use crate::files::{replace_by, replace_file, reserve};
 use crate::host::Host;
 use crate::job::Job;
 use crate::notes::{Claiming, claim};
+use crate::paths::news_path;
 use crate::runner_file::{Claimant, RunnerFile};
 use crate::texts::{pid_text, status_text};
+use mio::net::UnixStream;
 use std::alloc::Global;
 use std::fs::Files;
 use std::io::ErrorKind;
+use std::net::Net;
 use std::os::unix::process::ExitStatusExt;
 use std::process::{Child, ExitStatus, Processes};
 use std::time::{Clock, Duration};
@@ -21,7 +24,7 @@ const PAUSE: u64 = 1;
 
 /// A real folder, and a real process that is started for a number.
 #[derive(Drop)]
-pub struct Folder<'a, R: Files + Processes + Clock> {
+pub struct Folder<'a, R: Files + Net + Processes + Clock> {
     rt: &'a R,
     alloc: Global,
     path: &'a str,
@@ -46,7 +49,7 @@ fn end_of(status: ExitStatus) -> End {
     }
 }
 
-impl<'a, R: Files + Processes + Clock> Folder<'a, R> {
+impl<'a, R: Files + Net + Processes + Clock> Folder<'a, R> {
     /// The folder at the path, with a number of which nothing is started.
     pub fn of(rt: &'a R, alloc: Global, path: &'a str, number: ProcessNumber) -> Folder<'a, R> {
         Folder {
@@ -84,7 +87,15 @@ impl<'a, R: Files + Processes + Clock> Folder<'a, R> {
         command.spawn(self.rt).ok()
     }
 
-    /// Gives a file of the number its text, in the room that was taken for it where there is some.
+    /// Wakes the manager, which then looks at the folder: connects to its socket there, and closes. Nothing is waited for, and where nobody is woken
+    /// nothing is told: the manager looks at the folder once a second in any case.
+    fn wake(&self) {
+        if let Ok(path) = news_path(self.alloc, self.path) {
+            let _woken = UnixStream::connect(self.rt, path.as_str());
+        }
+    }
+
+    /// Gives a file of the number its text, in the room that was taken for it where there is some. Once it stands the manager is woken.
     fn put(
         &self,
         file: (RunnerFile, RunnerFile),
@@ -93,9 +104,11 @@ impl<'a, R: Files + Processes + Clock> Folder<'a, R> {
     ) -> Result<(), FolderFault> {
         let (rt, alloc, path, number) = (self.rt, self.alloc, self.path, self.number);
         match room {
-            Some(room) => replace_by(rt, alloc, path, number, file, room, text),
-            None => replace_file(rt, alloc, path, number, file, text),
+            Some(room) => replace_by(rt, alloc, path, number, file, room, text)?,
+            None => replace_file(rt, alloc, path, number, file, text)?,
         }
+        self.wake();
+        Ok(())
     }
 
     /// Writes the status file once.
@@ -115,7 +128,7 @@ impl<'a, R: Files + Processes + Clock> Folder<'a, R> {
     }
 }
 
-impl<'a, R: Files + Processes + Clock> Host for Folder<'a, R> {
+impl<'a, R: Files + Net + Processes + Clock> Host for Folder<'a, R> {
     // No clause reads it, since nothing is claimed of what the folder holds and the process does.
     ghost past = { λ _. [] };
 

@@ -28,7 +28,7 @@ pub use laws::{a_text_has_one_reading, no_path_leads_out};
 pub use life::run;
 pub use line::RunnerLine;
 pub use notes::{Claiming, Told, claim, pid_in, status_in};
-pub use paths::{file_name, file_path};
+pub use paths::{file_name, file_path, news_path};
 pub use runner::run_line;
 pub use runner_file::{Claimant, RunnerFile};
 pub use texts::{number_in, pid_text, read_claim, read_pid, read_status, status_text};

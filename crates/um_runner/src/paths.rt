@@ -32,3 +32,10 @@ pub fn file_path(
     let (number, ending) = (number.get(), file.ending());
     format!(in alloc; "{folder}/{number}{ending}")
 }
+
+/// The path of the socket in the folder at which runners wake the manager.
+pub fn news_path(alloc: Global, folder: &str) -> Result<String, AllocError>
+    ensures { IfOk result (λ path. string_bytes path ≡ runner.news_path folder.now) }
+{
+    format!(in alloc; "{folder}/news")
+}

@@ -7,6 +7,7 @@ use crate::life::run;
 use crate::line::RunnerLine;
 use std::alloc::Global;
 use std::fs::Files;
+use std::net::Net;
 use std::process::Processes;
 use std::time::Clock;
 
@@ -14,7 +15,7 @@ use std::time::Clock;
 /// their file's room is there for the claim; where they can't be, nothing is started, as where the command can't be executed.
 ///
 /// An error as that of `run`.
-pub fn run_line<R: Files + Processes + Clock>(
+pub fn run_line<R: Files + Net + Processes + Clock>(
     rt: &R,
     alloc: Global,
     line: &RunnerLine<'_>,

@@ -35,6 +35,6 @@ abbrev pub until : ℕ → Option ℕ → ℕ
 until now (Some deadline) = min (deadline - now) second
 until now None = second
 
--- so many microseconds are slept: while processes are live no longer than the wait
+-- so many microseconds are slept: while something is open of which nobody tells no longer than the wait
 abbrev pub slept : (wait : ℕ) → Bool → (now : ℕ) → Option ℕ → ℕ
-slept wait is_live now deadline = min (if is_live then wait else second) (until now deadline)
+slept wait is_open now deadline = min (if is_open then wait else second) (until now deadline)

@@ -14,6 +14,6 @@ pub use laws::{
     any_calls_go_on_with_a_client, each_client_gets_its_own, each_client_is_served,
     no_deadline_is_slept_past, nothing_is_served_behind_a_lost_read, rounds_join,
 };
-pub use pace::Pace;
+pub use pace::pause;
 pub use rounds::{Buffered, serve};
 pub use starting::has_run_nothing;

@@ -11,6 +11,7 @@ mod serving;
 mod starting;
 mod telling;
 mod um_bin;
+mod waking;
 
 use checking::check;
 use messages::{DEVICE, REFUSED, USAGE, ctl_fault, put_text, report, status_of, tell_create};
@@ -41,7 +42,7 @@ fn serve_memory<R: Input + Print>(rt: &R, alloc: Global) -> Result<u8, Fault> {
 }
 
 /// Runs a command for the manager, and notes in a folder what becomes of it.
-fn run_runner<R: Files + Processes + Clock + Eprint>(
+fn run_runner<R: Files + Net + Processes + Clock + Eprint>(
     rt: &R,
     alloc: Global,
     line: &RunnerLine<'_>,

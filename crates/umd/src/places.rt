@@ -1,6 +1,6 @@
 //! The places that a server is given: its store, the folder of its processes and its socket.
 
-use crate::messages::{DEVICE, USAGE};
+use crate::messages::{DEVICE, REFUSED, USAGE, tell_ending};
 use std::alloc::Global;
 use std::fmt::Display;
 use std::fs::{File, Files};
@@ -14,6 +14,8 @@ use um_children::RunnerDir;
 use um_filedisk::{DirectoryLock, FileDisk, FileFault, is_same_place};
 use um_gate::look_at_socket;
 use um_line::ServeLine;
+use um_runner::news_path;
+use um_wire::Refusal;
 
 /// A lock that another has is asked for so many times in all. A manager that was killed while it started a process leaves its locks, for a
 /// moment, to what was to become that process.
@@ -21,6 +23,10 @@ const TRIES: u32 = 10;
 
 /// The tries come so many milliseconds apart.
 const APART: u64 = 20;
+
+/// The path of the folder of processes has so many bytes at most: behind it come eleven of the socket in it, as that is made, and a socket's path has
+/// at most 107.
+const LONGEST_DIR: usize = 96;
 
 /// The bits of a mode.
 const MODE: u32 = 0o7777;
@@ -73,8 +79,24 @@ fn are_apart<R: Files, E: Eprint>(
     Err(status)
 }
 
-/// Sees that store, folder and socket are three places.
-fn are_three<R: Files, E: Eprint>(rt: &R, lines: &E, line: &ServeLine<'_>) -> Result<(), u8> {
+/// The path of the socket by which runners wake the manager. Where memory is wanting it has said so, and gives the exit status.
+pub fn news_in<E: Eprint>(alloc: Global, lines: &E, dir: &str) -> Result<String, u8> {
+    match news_path(alloc, dir) {
+        Ok(path) => Ok(path),
+        Err(_) => {
+            tell_ending(lines, &Refusal::NoMemory);
+            Err(REFUSED)
+        }
+    }
+}
+
+/// Sees that store, folder and socket are three places, and the socket in the folder by which runners wake the manager another one.
+fn are_all_apart<R: Files, E: Eprint>(
+    rt: &R,
+    lines: &E,
+    alloc: Global,
+    line: &ServeLine<'_>,
+) -> Result<(), u8> {
     let socket = Place {
         word: "--socket",
         path: line.socket,
@@ -89,7 +111,14 @@ fn are_three<R: Files, E: Eprint>(rt: &R, lines: &E, line: &ServeLine<'_>) -> Re
     };
     are_apart(rt, lines, socket, store)?;
     are_apart(rt, lines, folder, store)?;
-    are_apart(rt, lines, socket, folder)
+    are_apart(rt, lines, socket, folder)?;
+    let path = news_in(alloc, lines, line.dir)?;
+    let news = Place {
+        word: "the socket in --dir",
+        path: path.as_str(),
+    };
+    are_apart(rt, lines, socket, news)?;
+    are_apart(rt, lines, store, news)
 }
 
 /// Waits until the next try.
@@ -152,6 +181,28 @@ fn lock_folder<R: Files<File = File> + Clock, E: Eprint>(
     }
 }
 
+/// Locks the folder of processes, and sees that the socket in it by which runners wake the manager is free.
+fn take_free_folder<R: Files<File = File> + Net + Clock, E: Eprint>(
+    rt: &R,
+    lines: &E,
+    alloc: Global,
+    dir: &str,
+) -> Result<DirectoryLock, u8> {
+    if dir.len() > LONGEST_DIR {
+        return Err(lacks(
+            lines,
+            dir,
+            &"its path is longer than 96 bytes, and a socket stands in it",
+        ));
+    }
+    let lock = lock_folder(rt, lines, dir)?;
+    let news = news_in(alloc, lines, dir)?;
+    match look_at_socket(rt, news.as_str()) {
+        Ok(()) => Ok(lock),
+        Err(fault) => Err(lacks(lines, news.as_str(), &fault)),
+    }
+}
+
 /// Sees that the socket is free, and takes the folder and its lock.
 fn take_folder<'a, R, E>(
     rt: &'a R,
@@ -170,7 +221,7 @@ where
         Ok(children) => children,
         Err(fault) => return Err(lacks(lines, line.dir, &fault)),
     };
-    match lock_folder(rt, lines, line.dir) {
+    match take_free_folder(rt, lines, alloc, line.dir) {
         Ok(lock) => Ok((children, lock)),
         Err(status) => {
             drop(children);
@@ -211,7 +262,7 @@ where
     R: Files<File = File> + Net + Processes + Clock,
     E: Eprint,
 {
-    are_three(rt, lines, line)?;
+    are_all_apart(rt, lines, alloc, line)?;
     let disk = match open_disk(rt, line.file) {
         Ok(disk) => disk,
         Err(fault) => return Err(lacks(lines, line.file, &fault)),

@@ -2,10 +2,11 @@
 
 use crate::lines::Lines;
 use crate::messages::{DEVICE, REFUSED, tell_ending, tell_uncounted};
-use crate::places::{Taken, lacks, take_places};
+use crate::places::{Taken, lacks, news_in, take_places};
 use crate::starting::{request_in, start_first};
 use crate::telling::{News, Tally, Telling};
 use crate::um_bin::serve;
+use crate::waking::Waking;
 use std::alloc::{AllocError, Global};
 use std::fs::{File, Files};
 use std::net::Net;
@@ -20,12 +21,12 @@ use um_line::ServeLine;
 use um_manager::Manager;
 use um_model::{Deadline, Moment};
 use um_sector::Disk;
-use um_serve::{Buffered, Pace};
+use um_serve::{Buffered, pause};
 use um_state::BootId;
 use um_wire::Refusal;
 
-/// Behind a sleep of so many parts, of 40 ms at most while a process is live, comes a round in any case.
-const PARTS: u32 = 25;
+/// Behind a sleep of so many parts, of a second at most, comes a round in any case.
+const PARTS: u32 = 10;
 
 /// The least that the system waits for a socket, in microseconds.
 const LEAST_POLL: u64 = 1000;
@@ -84,18 +85,20 @@ fn boot_id(alloc: Global, boot: &str) -> Result<BootId, Refusal> {
 
 /// What goes from one round to the next in the program.
 #[derive(Drop)]
-struct Loop<'a, R> {
+struct Loop<'a, R, E> {
     system: &'a R,
+    alloc: Global,
+    lines: &'a E,
     gate: Buffered<SocketGate>,
+    waking: Waking,
     clock: SystemMoments<'a, R>,
-    pace: Pace,
     /// The deadline that is slept for, as it was looked up last.
     deadline: Option<Deadline>,
     /// Where the clock of the state stood then.
     looked: Option<Moment>,
 }
 
-impl<'a, R: Clock> Loop<'a, R> {
+impl<'a, R: Files + Net + Clock, E: Eprint> Loop<'a, R, E> {
     /// One round, and a sleep where nothing more is to be done at once. A refusal ends the serving, want of memory too.
     fn step<D: Disk, C: Children + News>(
         &mut self,
@@ -104,19 +107,22 @@ impl<'a, R: Clock> Loop<'a, R> {
     ) -> Result<(), Refusal> {
         tally.look(Instant::now(self.system).ok());
         serve(manager, &mut self.gate, &mut self.clock, 1)?;
-        self.tell_counts(manager);
+        self.mind(manager);
         self.rest(manager, tally)
     }
 
-    /// Says how often failures weren't told, where that is due.
-    fn tell_counts<D: Disk, C: Children + News>(&self, manager: &Manager<D, C>) {
-        let children = manager.children();
-        if !children.is_counting() {
+    /// Does what is due, whatever comes: says how often failures weren't told, and keeps the socket by which runners wake the manager.
+    fn mind<D: Disk, C: Children + News>(&mut self, manager: &Manager<D, C>) {
+        let Ok(now) = Instant::now(self.system) else {
             return;
-        }
-        if let Ok(now) = Instant::now(self.system) {
+        };
+        let children = manager.children();
+        if children.is_counting() {
             children.tell_counts(now);
         }
+        let gate = &mut self.gate.gate;
+        self.waking
+            .keep(self.system, self.alloc, self.lines, gate, now);
     }
 
     /// How long is slept at most: shorter where a count is to be told once its second is over.
@@ -147,9 +153,6 @@ impl<'a, R: Clock> Loop<'a, R> {
         manager: &Manager<D, C>,
         tally: &Tally,
     ) -> Result<(), Refusal> {
-        if tally.has_turned() {
-            self.pace.begin();
-        }
         if self.gate.was_busy() {
             return Ok(());
         }
@@ -157,9 +160,6 @@ impl<'a, R: Clock> Loop<'a, R> {
         if self.is_stale(clock) || self.is_due() {
             self.deadline = self.gate.deadline(manager)?;
             self.looked = Some(clock);
-        }
-        if tally.is_live() && manager.children().has_news() {
-            self.pace.hasten();
         }
         self.sleep(manager, tally.is_live());
         Ok(())
@@ -175,15 +175,15 @@ impl<'a, R: Clock> Loop<'a, R> {
         self.gate.gate.wait(Duration::ZERO)
     }
 
-    /// Sleeps until the next deadline, a byte, a client, or news of the processes that are live, a second at most. No round is needed before:
-    /// it would take nothing, and its fates would tell nothing new.
+    /// Sleeps until the next deadline, a byte, a client, or news of the processes that are live: a runner wakes the manager, and once a second it is
+    /// looked for news of which nobody told. No round is needed before: it would take nothing, and its fates would tell nothing new.
     fn sleep<D: Disk, C: Children + News>(&mut self, manager: &Manager<D, C>, is_live: bool) {
         for _ in 0..PARTS {
-            self.tell_counts(manager);
-            let wait = self
-                .pace
-                .next(is_live, self.clock.moment(), self.deadline)
-                .min(self.longest(manager));
+            self.mind(manager);
+            let is_open = is_live && manager.children().is_pressed();
+            let wait = pause(is_open, self.clock.moment(), self.deadline).min(self.longest(
+                manager,
+            ));
             if self.wait(wait) || !is_live || manager.children().has_news() || self.is_due() {
                 return;
             }
@@ -191,31 +191,46 @@ impl<'a, R: Clock> Loop<'a, R> {
     }
 }
 
-/// What the rounds stand on, with the socket, where moments are no earlier than the least. Only behind the opening of the store: one that can't
+/// The gate over both sockets, that of clients and that by which runners wake the manager.
+fn open_gate<R: Files + Net, E: Eprint>(
+    system: &R,
+    alloc: Global,
+    lines: &E,
+    line: &ServeLine<'_>,
+) -> Result<(SocketGate, Waking), u8> {
+    let news = news_in(alloc, lines, line.dir)?;
+    match SocketGate::open(system, alloc, line.socket) {
+        Ok(mut gate) => {
+            let waking = Waking::open(system, alloc, lines, &mut gate, news)?;
+            Ok((gate, waking))
+        }
+        Err(fault) => Err(lacks(lines, line.socket, &fault)),
+    }
+}
+
+/// What the rounds stand on, with the sockets, where moments are no earlier than the least. Only behind the opening of the store: one that can't
 /// be opened takes no socket.
 fn open_loop<'a, R: Files + Net + Clock, E: Eprint>(
     system: &'a R,
     alloc: Global,
-    rt: &E,
+    lines: &'a E,
     line: &ServeLine<'_>,
     least: Moment,
-) -> Result<Loop<'a, R>, End> {
-    let gate = match SocketGate::open(system, alloc, line.socket) {
-        Ok(gate) => gate,
-        Err(fault) => {
-            return Err(End {
-                status: lacks(rt, line.socket, &fault),
-            });
-        }
+) -> Result<Loop<'a, R, E>, End> {
+    let (gate, waking) = match open_gate(system, alloc, lines, line) {
+        Ok(opened) => opened,
+        Err(status) => return Err(End { status }),
     };
     let Ok(gate) = Buffered::new(alloc, gate) else {
-        return Err(ends(rt, Refusal::NoMemory));
+        return Err(ends(lines, Refusal::NoMemory));
     };
     Ok(Loop {
         system,
+        alloc,
+        lines,
         gate,
+        waking,
         clock: SystemMoments::starting(system, least),
-        pace: Pace::new(),
         deadline: None,
         looked: None,
     })
@@ -256,8 +271,8 @@ fn tell_adopted<D: Disk, C: Children, R: Eprint>(rt: &R, manager: &Manager<D, C>
 }
 
 /// Serves rounds, until one fails.
-fn serve_rounds<R: Clock, D: Disk, C: Children + News>(
-    state: &mut Loop<'_, R>,
+fn serve_rounds<R: Files + Net + Clock, E: Eprint, D: Disk, C: Children + News>(
+    state: &mut Loop<'_, R, E>,
     manager: &mut Manager<D, C>,
     tally: &Tally,
 ) -> Result<(), Refusal> {

@@ -18,8 +18,6 @@ use um_keeper::SpawnOrder;
 pub struct Tally {
     /// So many fates were asked, and so many processes started.
     live: Cell<u64>,
-    /// So many processes were started or signalled, or ended.
-    turned: Cell<u64>,
     /// Of so many it was told that they are absent.
     absent: Cell<u64>,
     /// When it was looked at last; None where the system told no time, and before the first look.
@@ -31,7 +29,6 @@ impl Tally {
     pub fn new() -> Tally {
         Tally {
             live: Cell::new(0),
-            turned: Cell::new(0),
             absent: Cell::new(0),
             looked: Cell::new(None),
         }
@@ -39,18 +36,10 @@ impl Tally {
 
     fn note_start(&self) {
         self.live.set(self.live.get().saturating_add(1));
-        self.note_turn();
-    }
-
-    fn note_turn(&self) {
-        self.turned.set(self.turned.get().saturating_add(1));
     }
 
     fn note_fate(&self, answer: &Result<Fate, ChildFault>) {
         self.live.set(self.live.get().saturating_add(1));
-        if let Ok(Fate::Ended(_) | Fate::Absent) = answer {
-            self.note_turn();
-        }
         if let Ok(Fate::Absent) = answer {
             self.absent.set(self.absent.get().saturating_add(1));
         }
@@ -61,11 +50,6 @@ impl Tally {
         self.live.get() > 0
     }
 
-    /// Whether any process was started or signalled, or ended, since the last look.
-    pub fn has_turned(&self) -> bool {
-        self.turned.get() > 0
-    }
-
     /// Of how many it was told since the last look that they are absent.
     pub fn absent(&self) -> u64 {
         self.absent.get()
@@ -74,7 +58,6 @@ impl Tally {
     /// What is seen from now on, and when that is.
     pub fn look(&self, now: Option<Instant>) {
         self.live.set(0);
-        self.turned.set(0);
         self.absent.set(0);
         self.looked.set(now);
     }
@@ -275,6 +258,9 @@ pub trait News {
     /// Whether a round of fates may tell or do anything that the last one didn't.
     fn has_news(&self) -> bool;
 
+    /// Whether the next round of fates should come soon, though no runner may wake the manager.
+    fn is_pressed(&self) -> bool;
+
     /// Whether a failure was told too often, and waits to be told by its count.
     fn is_counting(&self) -> bool;
 
@@ -285,6 +271,10 @@ pub trait News {
 impl<'a, 'b, R: Files + Processes + Clock, E: Eprint> News for Telling<'a, RunnerDir<'b, R>, E> {
     fn has_news(&self) -> bool {
         self.children.has_news()
+    }
+
+    fn is_pressed(&self) -> bool {
+        self.children.is_pressed()
     }
 
     fn is_counting(&self) -> bool {
@@ -339,7 +329,6 @@ impl<'a, C: Children + Seen, R: Eprint> Children for Telling<'a, C, R> {
 
     fn signal(&mut self, number: ProcessNumber, signal: Signal) -> Result<(), ChildFault> {
         let answer = self.children.signal(number, signal);
-        self.tally.note_turn();
         self.tell(Deed::Signal, number, &answer);
         answer
     }
