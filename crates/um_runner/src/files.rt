@@ -109,9 +109,8 @@ pub fn make_new<R: Files>(rt: &R, path: &str, mode: u32) -> io::Result<R::File> 
     let mut how = OpenOptions::new();
     how.write(true).create_new(true).mode(mode);
     for _ in 0..TRIES {
-        remove_draft(rt, path)?;
         match how.open(rt, path) {
-            Err(e) if e.kind() == ErrorKind::AlreadyExists => {}
+            Err(e) if e.kind() == ErrorKind::AlreadyExists => remove_draft(rt, path)?,
             answer => return answer,
         }
     }
