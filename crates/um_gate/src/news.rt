@@ -40,9 +40,9 @@ impl News {
         self.has_more
     }
 
-    /// Why nobody could be let go at the last look, whether anybody waited or not.
-    pub fn fault(&self) -> Option<&io::Error> {
-        self.fault.as_ref()
+    /// Why nobody could be let go at the last look, whether anybody waited or not. It is told once.
+    pub fn take_fault(&mut self) -> Option<io::Error> {
+        self.fault.take()
     }
 
     /// Lets go who connected, 64 at most, and tells whether anybody did.

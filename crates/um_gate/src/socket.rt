@@ -45,6 +45,10 @@ pub struct SocketGate {
     has_accepted: bool,
     /// The socket at which the gate is woken; None before it was made.
     news: Option<News>,
+    /// A descriptor that is let go where none is left for who connects to that socket, so that files can be read behind the wake.
+    spare: Option<Poll>,
+    /// Why nobody could be let go at that socket while the spare descriptor was there.
+    fault: Option<io::Error>,
     places: Vec<Place>,
     /// Where a read puts its bytes first.
     buffer: Vec<u8>,
@@ -128,13 +132,15 @@ impl SocketGate {
             listener,
             has_accepted: false,
             news: None,
+            spare: None,
+            fault: None,
             places,
             buffer,
         })
     }
 
     /// Makes a socket at `path` as `open` does, at which the gate is woken: who connects is let go, and nothing is read. It takes the place of one
-    /// that was made before.
+    /// that was made before. From then on the gate has a spare descriptor: one that is there for files where it is woken and the system has no other.
     ///
     /// The same errors as those of `open`, and then what was made before is as it was.
     pub fn open_news<R: Files + Net>(
@@ -147,11 +153,21 @@ impl SocketGate {
         self.poll
             .registry()
             .register(&mut listener, Token(NEWS), Interest::READABLE)?;
+        self.take_spare(rt)?;
         self.news = Some(News::of(listener));
         Ok(())
     }
 
-    /// Makes the socket of news at `path` again, where nothing stands there any more. What stands there is left as it is.
+    /// Takes the spare descriptor, where it isn't there.
+    fn take_spare<R: Files + Net>(&mut self, rt: &R) -> io::Result<()> {
+        if self.spare.is_none() {
+            self.spare = Some(Poll::new(rt)?);
+        }
+        Ok(())
+    }
+
+    /// Makes the socket of news at `path` again, where nothing stands there any more, and takes the spare descriptor again. What stands there is left
+    /// as it is.
     ///
     /// The same errors as those of `open_news`, or another one where the system refuses the look.
     pub fn keep_news<R: Files + Net>(
@@ -160,6 +176,7 @@ impl SocketGate {
         alloc: Global,
         path: &str,
     ) -> io::Result<()> {
+        self.take_spare(rt)?;
         match fs::symlink_metadata(rt, path) {
             Err(e) if e.kind() == ErrorKind::NotFound => self.open_news(rt, alloc, path),
             Err(e) => Err(e),
@@ -167,12 +184,10 @@ impl SocketGate {
         }
     }
 
-    /// Why nobody who connects to the socket of news can be let go, by the last look; None once that went well again.
+    /// Why nobody who connects to the socket of news can be let go, by the last look behind which the spare descriptor was there; None once that went
+    /// well again.
     pub fn news_fault(&self) -> Option<&io::Error> {
-        match &self.news {
-            Some(news) => news.fault(),
-            None => None,
-        }
+        self.fault.as_ref()
     }
 
     /// Whether somebody may wait at the socket of news of whom no event tells any more.
@@ -183,12 +198,21 @@ impl SocketGate {
         }
     }
 
-    /// Lets go who connected to the socket of news, 64 at most, and tells whether anybody did.
+    /// Lets go who connected to the socket of news, 64 at most, and tells whether anybody did. Where no descriptor is left for that the spare one goes,
+    /// until it is taken again.
     fn take_news(&mut self) -> bool {
-        match &mut self.news {
-            Some(news) => news.take(),
-            None => false,
+        let Some(news) = &mut self.news else {
+            return false;
+        };
+        let is_woken = news.take();
+        // behind the spare one it isn't known whether others are left
+        if self.spare.is_some() {
+            self.fault = news.take_fault();
+            if self.fault.is_some() {
+                self.spare = None;
+            }
         }
+        is_woken
     }
 
     /// Waits until an event comes, but no longer than this, and tells whether one did.
@@ -216,8 +240,11 @@ impl SocketGate {
         self.take_news() | has_event
     }
 
-    /// The next client, if one waits.
+    /// The next client, if one waits. It doesn't get what the spare descriptor has left.
     fn next_client(&mut self) -> Option<UnixStream> {
+        if self.news.is_some() && self.spare.is_none() {
+            return None;
+        }
         let (stream, _) = self.listener.accept().ok()?;
         Some(stream)
     }
