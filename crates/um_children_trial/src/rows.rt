@@ -213,7 +213,7 @@ fn is_news(rt: &HostRuntime, children: &mut Dir<'_>, number: ProcessNumber) -> a
 
 /// A process is news from its start until it runs, and once it has ended.
 fn news(rt: &HostRuntime, alloc: Global) -> anyhow::Result<()> {
-    let order = Orders::new(alloc)?.order("ExecStart=/bin/sleep 1")?;
+    let order = Orders::new(alloc)?.order("ExecStart=/bin/sleep 3")?;
     let number = order.as_ref().number();
     let mut children = open(rt, SEEN)?;
     children.spawn(Box::into_inner(order))?;
