@@ -142,18 +142,19 @@ impl SocketGate {
     /// Makes a socket at `path` as `open` does, at which the gate is woken: who connects is let go, and nothing is read. It takes the place of one
     /// that was made before. From then on the gate has a spare descriptor: one that is there for files where it is woken and the system has no other.
     ///
-    /// The same errors as those of `open`, and then what was made before is as it was.
+    /// The same errors as those of `open`. Then what was made before is as it was, but where the poll takes no further socket: one at which nobody
+    /// answers stands at the path then.
     pub fn open_news<R: Files + Net>(
         &mut self,
         rt: &R,
         alloc: Global,
         path: &str,
     ) -> io::Result<()> {
+        self.take_spare(rt)?;
         let mut listener = listener_at(rt, alloc, path)?;
         self.poll
             .registry()
             .register(&mut listener, Token(NEWS), Interest::READABLE)?;
-        self.take_spare(rt)?;
         self.news = Some(News::of(listener));
         Ok(())
     }

@@ -239,7 +239,8 @@ IsCtl rows line =
 -- a word is missing, or a time isn't within its limits
 abbrev pub IsNoCtl : List Row → Type 0
 IsNoCtl rows =
-    (first_of (codes "socket") rows ≡ None) ⊎ IsNoTime (first_of (codes "retry") rows) ⊎ IsNoTime (first_of (codes "timeout") rows) ⊎ (all_of (codes "word") rows ≡ None) ⊎ (all_of (codes "word") rows ≡ Some [])
+    (first_of (codes "socket") rows ≡ None) ⊎ IsNoTime (first_of (codes "retry") rows) ⊎ IsNoTime (first_of (codes "timeout") rows)
+    ⊎ (all_of (codes "word") rows ≡ None) ⊎ (all_of (codes "word") rows ≡ Some [])
 
 -- what they ask for by these values
 abbrev pub TakesCtl : List Row → Line → Type 0

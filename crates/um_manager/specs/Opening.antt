@@ -38,9 +38,10 @@ abbrev pub boot_at : ℕ → List ℕ → Input
 boot_at moment boot = happens_at moment (Booted boot)
 
 -- What the children's calls were: what is kept of all but the live numbers was let go, of those below the next number, each fate that was told was
--- asked, then the orders were given, which are these actions, and then of the adopted numbers TERM to those whose unit is in stop-sigterm, and KILL to those whose unit is in
--- stop-sigkill.
-pub record Ended (units : ByUnit UnitState) (live : List ℕ) (next : ℕ) (told : List Tale) (actions : List Action) (old new : List Call) (marked : List ℕ) : Type 0 where
+-- asked, then the orders were given, which are these actions, and then of the adopted numbers TERM to those whose unit is in stop-sigterm, and KILL
+-- to those whose unit is in stop-sigkill.
+pub record Ended (units : ByUnit UnitState) (live : List ℕ) (next : ℕ) (told : List Tale) (actions : List Action) (old new : List Call)
+    (marked : List ℕ) : Type 0 where
   pub termed : List ℕ
   pub are_termed : AreIn units StopSigterm live termed
   pub killed : List ℕ
@@ -52,8 +53,8 @@ abbrev pub CallsOf : Result Unit Refusal → ByUnit UnitState → List ℕ → �
 CallsOf (Ok done) units live next told actions old new marked = Ended units live next told actions old new marked
 CallsOf (Err e) units live next told actions old new marked = new ≡ old ++ (ForgotOthers live next ∷ map asks_for told)
 
--- What adoption did. It let go what is kept of all but the live numbers, told the next number of the state that it found, asked the fate of each of these once, ascending, with a claim, and
--- offered what was told; an absent number is lost.
+-- What adoption did. It let go what is kept of all but the live numbers, told the next number of the state that it found, asked the fate of each of
+-- these once, ascending, with a claim, and offered what was told; an absent number is lost.
 -- Marked are the numbers that were live and those whose start was refused.
 pub record Adopted (place : Place) (honest whole : Bool) (store : Result Unit Refusal) (moment : ℕ) (a b : Now) : Type 0 where
   pub live : List ℕ
