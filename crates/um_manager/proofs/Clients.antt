@@ -21,7 +21,7 @@ use Rattle.um_wire.specs.Gives.{Gives}
 use Rattle.um_wire.specs.Refusal.{refused_of}
 use Rattle.um_wire.specs.declared.refusal.Refusal.{Refusal}
 use Rattle.um_wire.specs.declared.refusal.Refusal.TheVariants as refusal
-use Rattle.um_manager.specs.Clients.{Exchange, place_of, IsReplyAsked, IsReplyOf, IsExchange, AllTurned, no_turn, and_turn, AreExchanges, bytes_in, bytes_of, StaysOpen, AreGiven, frame_in, ArePut, HasItsOwn}
+use Rattle.um_manager.specs.Clients.{Exchange, place_of, IsReplyAsked, IsReplyOf, IsExchange, AllTurned, no_turn, and_turn, bytes_in, AreGiven, frame_in, ArePut}
 use Rattle.um_manager.specs.Connections.{IsNew, TakesPiece, Cuts, CutsAll, inputs_of_asked, inputs_asked, due_of_asked, due_of}
 use Rattle.um_manager.specs.Places.{Place}
 use Rattle.um_manager.specs.Replies.{reply_in, Puts, TellsOf, replies_due, replies_owed, Pays, PaysAll}
@@ -46,7 +46,7 @@ some_same {x = x} e = ap (or_else x) e
 -- ---- of all connections that of one
 
 -- what is taken of the connection
-cuts_at : (ts : List Session) (ps : List Piece) (rs : List (Option (Result Request Refusal))) (us : List Session) (k : ℕ) (t : Session) → CutsAll ts ps rs us → slice_get ts k ≡ Some t
+pub cuts_at : (ts : List Session) (ps : List Piece) (rs : List (Option (Result Request Refusal))) (us : List Session) (k : ℕ) (t : Session) → CutsAll ts ps rs us → slice_get ts k ≡ Some t
     → (p : Piece) × (r : Option (Result Request Refusal)) × (u : Session) × (slice_get ps k ≡ Some p) × (slice_get rs k ≡ Some r) × (slice_get us k ≡ Some u) × Cuts t p r u
 cuts_at [] ps rs us k x cuts is = absurd (none_some is)
 cuts_at (t ∷ ts) [] [] [] k x cuts is = absurd cuts
@@ -81,7 +81,7 @@ paid_first s owes.Input replies left t u pays = (pays.0, ap (λ l. slice_get l 0
 paid_first s (owes.Query query) replies left t u pays = pays.1
 paid_first s (owes.Reply reply) replies left t u pays = pays.1
 
-at_left : (s : State) (d : Due) (replies left : List Reply) (t u : Session) (n : ℕ) → Pays s d replies left t u → slice_get left n ≡ slice_get replies (replies_due d + n)
+pub at_left : (s : State) (d : Due) (replies left : List Reply) (t u : Session) (n : ℕ) → Pays s d replies left t u → slice_get left n ≡ slice_get replies (replies_due d + n)
 at_left s owes.Nothing replies left t u n pays = ap (λ l. slice_get l n) pays.0 ∙ ap (slice_get replies) (sym (zero_more n))
 at_left s owes.Input replies left t u n pays = ap (slice_get (pays.0 ∷ left)) (sym (one_more n)) ∙ ap (λ l. slice_get l (1 + n)) (sym pays.1)
 at_left s (owes.Query query) replies left t u n pays = ap (λ l. slice_get l n) pays.0 ∙ ap (slice_get replies) (sym (zero_more n))
@@ -107,17 +107,17 @@ pays_at s (x ∷ ds) replies (y ∷ ts) (u ∷ us) (suc k) d t pays due at =
 
 -- ---- places
 
-get_drop : {X : Type 0} (n : ℕ) (l : List X) (i : ℕ) → slice_get (drop n l) i ≡ slice_get l (n + i)
+pub get_drop : {X : Type 0} (n : ℕ) (l : List X) (i : ℕ) → slice_get (drop n l) i ≡ slice_get l (n + i)
 get_drop zero l i = ap (slice_get l) (sym (zero_more i))
 get_drop (suc n) [] i = refl
 get_drop (suc n) (x ∷ xs) i = get_drop n xs i ∙ ap (slice_get (x ∷ xs)) (sym (suc_more n i))
 
-mapped_at : {X Y : Type 0} (f : X → Y) (xs : List X) (i : ℕ) (y : Y) → slice_get (map f xs) i ≡ Some y → (x : X) × (slice_get xs i ≡ Some x) × (y ≡ f x)
+pub mapped_at : {X Y : Type 0} (f : X → Y) (xs : List X) (i : ℕ) (y : Y) → slice_get (map f xs) i ≡ Some y → (x : X) × (slice_get xs i ≡ Some x) × (y ≡ f x)
 mapped_at f [] i y is = absurd (none_some is)
 mapped_at f (x ∷ xs) zero y is = (x, refl, sym (some_same is))
 mapped_at f (x ∷ xs) (suc i) y is = mapped_at f xs i y is
 
-at_mapped : {X Y : Type 0} (f : X → Y) (xs : List X) (i : ℕ) (x : X) → slice_get xs i ≡ Some x → slice_get (map f xs) i ≡ Some (f x)
+pub at_mapped : {X Y : Type 0} (f : X → Y) (xs : List X) (i : ℕ) (x : X) → slice_get xs i ≡ Some x → slice_get (map f xs) i ≡ Some (f x)
 at_mapped f [] i x is = absurd (none_some is)
 at_mapped f (y ∷ xs) zero x is = ap (λ z. Some (f z)) (some_same is)
 at_mapped f (y ∷ xs) (suc i) x is = at_mapped f xs i x is
@@ -133,7 +133,7 @@ due_inputs moment (Some (Ok request)) = due_asked moment request.asked
 due_inputs moment (Some (Err e)) = refl
 
 -- as many replies as inputs are before a connection's
-owed_inputs : (moment : ℕ) (rs : List (Option (Result Request Refusal))) (k : ℕ) → replies_owed (take k (map due_of rs)) ≡ length (flat_map (inputs_asked moment) (take k rs))
+pub owed_inputs : (moment : ℕ) (rs : List (Option (Result Request Refusal))) (k : ℕ) → replies_owed (take k (map due_of rs)) ≡ length (flat_map (inputs_asked moment) (take k rs))
 owed_inputs moment rs zero = refl
 owed_inputs moment [] (suc k) = refl
 owed_inputs moment (r ∷ rs) (suc k) =
@@ -161,7 +161,7 @@ pub joined : {s t u : Session} {xs ys : List Deed} → Lives s xs t → Lives t 
 joined rests q = q
 joined (goes_on does p) q = goes_on does (joined p q)
 
-reads_output : {s t : Session} {asked : Option model.Asked} → Reads s t asked → t.output ≡ s.output
+pub reads_output : {s t : Session} {asked : Option model.Asked} → Reads s t asked → t.output ≡ s.output
 reads_output (waits cause e) = ap (λ x. x.output) e
 reads_output (takes working begins e) = ap (λ x. x.output) e
 reads_output (refuses working begins e) = ap (λ x. x.output) e
@@ -327,49 +327,11 @@ story_more t u w xs ys here later p q = record {
       (ap (λ l. l ++ later) first.0 ∙ then.0, then.1, then.2 ∙ first.2);
 }
 
-record ToldAll {place : Place} {h w : Bool} {steps : List Step} {a b : Now} (k : ℕ) (turns : AllTurned place h w steps a b) (t : Session) : Type 0 where
-  u : Session
-  at : slice_get b.sessions k ≡ Some u
-  exchanges : List Exchange
-  are : AreExchanges k turns exchanges
-  story : Story t u (bytes_of k steps) exchanges
-
-told_all : {place : Place} {h w : Bool} {steps : List Step} {a b : Now} (k : ℕ) (turns : AllTurned place h w steps a b) (t : Session) → slice_get a.sessions k ≡ Some t → StaysOpen k steps → ToldAll k turns t
-told_all k no_turn t at stays = record { u = t; at = at; exchanges = []; are = refl; story = story_none t }
-told_all k (and_turn {step} {steps} {a} {mid} {b} turned turns) t at stays =
-    let (u, u_at, one) = one_turn turned k t at stays.0 in
-    let more = told_all k turns u u_at stays.1 in
-    record {
-      u = more.u;
-      at = more.at;
-      exchanges = one.here ++ more.exchanges;
-      are = (one.here, more.exchanges, one.is, more.are, refl);
-      story = story_more t u more.u (bytes_in (slice_get step.pieces k)) (bytes_of k steps) one.here more.exchanges one.story more.story;
-    }
-
 -- a run that ends Ok is one turn after another
 pub all_turned : (place : Place) (h w : Bool) (steps : List Step) (a b : Now) → Runs place h w steps (Ok tt) a b → AllTurned place h w steps a b
 all_turned place h w [] a b run = subst (λ x. AllTurned place h w [] a x) (sym run.1) no_turn
 all_turned place h w (step ∷ steps) a b (inl stops) = absurd (stops.0 refl)
 all_turned place h w (step ∷ steps) a b (inr (mid, turned, run)) = and_turn turned (all_turned place h w steps mid b run)
-
-pub has_its_own : {place : Place} {h w : Bool} {steps : List Step} {a b : Now} (k : ℕ) (turns : AllTurned place h w steps a b) (t : Session) → slice_get a.sessions k ≡ Some t
-    → t.rest ≡ [] → t.failed ≡ false → StaysOpen k steps → (u : Session) × (slice_get b.sessions k ≡ Some u) × HasItsOwn k turns t u
-has_its_own {steps = steps} k turns t at rest working stays =
-    let all = told_all k turns t at stays in
-    let story = all.story in (
-      all.u,
-      all.at,
-      record {
-        exchanges = all.exchanges;
-        are = all.are;
-        asked = story.asked;
-        given = story.given;
-        read = subst (λ l. IsReadOf (bytes_of k steps) l all.u) story.reads (subst (λ l. IsReadOf l (flat_map readings story.deeds) all.u) story.fed
-            (session_reads t all.u story.deeds rest working story.lives));
-        put = story.put;
-      },
-    )
 
 -- ---- a turn that is told that the connection closed
 

@@ -15,7 +15,7 @@ use Rattle.um_manager.proofs.Living.{store_ok, none_again}
 use Rattle.um_manager.proofs.Offering.{length-told}
 use Rattle.um_manager.specs.Clients.{AllTurned, no_turn, and_turn}
 use Rattle.um_manager.specs.Crashes.{all_offers, IsLeft}
-use Rattle.um_manager.specs.Living.{offered_in}
+use Rattle.um_manager.specs.Offered.{offered_in}
 use Rattle.um_manager.specs.Places.{Place}
 use Rattle.um_manager.specs.Turns.{Now, Answers, Turned}
 use Rattle.um_manager.specs.declared.pieces.Piece.{Piece}

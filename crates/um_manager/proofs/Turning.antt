@@ -7,6 +7,8 @@ use Rattle.um_model.specs.Service.{ByUnit, Action}
 use Rattle.um_model.specs.declared.service.UnitState.{UnitState}
 use Rattle.um_model.specs.Machine.{Input, Reply}
 use Rattle.um_model.specs.Sessions.{Session, Does, Room}
+use Rattle.um_model.specs.Stands.{IsStoreOf}
+use Rattle.um_laws.proofs.DiskLaws.{started}
 use Rattle.um_proto.specs.declared.request.Request.{Request}
 use Rattle.um_sector.specs.Refused.{IsLost}
 use Rattle.um_wire.specs.declared.refusal.Refusal.{Refusal}
@@ -106,6 +108,9 @@ turned place store moment pieces a b live past grown roomy cut heard ticked inpu
           (subst (λ l. PaysAll b.state l rest cut b.sessions) took.due_are pays);
       left = λ t. subst (λ l. Leaves place a.state l sub.answers a.disk b.disk) all (sub.left t);
       stored = sub.stored;
+      offered = b.disk;
+      meanwhile = λ t. let left = sub.left t in record { calls = left.calls; later = []; at_is = left.is; new_is = refl };
+      steady = λ t ok. started b.disk (λ image. IsStoreOf place.layout image b.state) (sub.stored t ok);
       called = λ honest whole.
           called b.state.units store told.told (all_asked sub.answers) a.past past grown b.past a.marks b.marks few (told.past_is honest (fewer (still whole)))
           (sub.grew (subst IsTrue (sym same) honest) (still whole)) (lets (subst IsTrue (sym same) honest) whole) still_there;
@@ -135,6 +140,9 @@ turned_less less fewer t = record {
   paid = t.paid;
   left = t.left;
   stored = t.stored;
+  offered = t.offered;
+  meanwhile = t.meanwhile;
+  steady = t.steady;
   called = λ honest whole. t.called (less honest) (fewer whole);
 }
 

@@ -1,8 +1,7 @@
--- What one client has of the turns of a script: its own requests, each with its reply.
+-- What one client has of a manager's turns: its own requests, each with its reply.
 -- No manual page has this: it is the project's own protocol (docs/FORMATS.md, "Frames", "Replies").
 -- The laws of clients stand on this file.
 use Rattle.std.specs.Prelude.{◌≡◌, ◌≢◌, ◌⊎◌, ◌+◌, ℕ, List, [], ◌∷◌, ◌++◌, map, flat_map, take, length, Bool, true, Option, Some, None, Result, Ok, Err, slice_get, ⊤}
-use Rattle.std.specs.List.{AllByRecursion}
 use Rattle.um_model.specs.Frames.{frame_of}
 use Rattle.um_model.specs.Machine.{State, Reply, Refusal}
 use Rattle.um_keeper.specs.Answering.{Answer}
@@ -58,28 +57,12 @@ pub data AllTurned (place : Place) (honest whole : Bool) : List Step → Now →
   and_turn : {step : Step} {steps : List Step} {a mid b : Now} → Turned place honest whole (Ok tt) step.moment step.pieces a mid
       → AllTurned place honest whole steps mid b → AllTurned place honest whole (step ∷ steps) a b
 
--- the requests that these turns took of a connection, in their order, each with its reply
-abbrev pub AreExchanges : {place : Place} {honest whole : Bool} {steps : List Step} {a b : Now}
-    → ℕ → AllTurned place honest whole steps a b → List Exchange → Type 0
-AreExchanges k no_turn all = all ≡ []
-AreExchanges k (and_turn {mid = mid} turned turns) all =
-    (here : List Exchange) × (later : List Exchange) × IsExchange mid.state turned.answers (place_of turned k) (slice_get turned.requests k) here
-    × AreExchanges k turns later × (all ≡ here ++ later)
-
 -- the bytes of a piece
 abbrev pub bytes_in : Option Piece → List ℕ
 bytes_in (Some (Bytes bytes)) = bytes.items
 bytes_in (Some Nothing) = []
 bytes_in (Some Closed) = []
 bytes_in None = []
-
--- all bytes that came of a connection
-abbrev pub bytes_of : ℕ → List Step → List ℕ
-bytes_of k steps = flat_map (λ (step : Step). bytes_in (slice_get step.pieces k)) steps
-
--- it isn't closed
-abbrev pub StaysOpen : ℕ → List Step → Type 0
-StaysOpen k steps = AllByRecursion (λ (step : Step). slice_get step.pieces k ≢ Some Closed) steps
 
 -- each request is what was read, or reading it found no memory
 abbrev pub AreGiven : List (Result Request declared.Refusal) → List model.Asked → Type 0
@@ -95,17 +78,6 @@ frame_in reply = frame_of (reply_text reply)
 abbrev pub ArePut : List ℕ → List Reply → Session → Type 0
 ArePut before replies u = (u.output ≡ before ++ flat_map frame_in replies)
     ⊎ ((u.failed ≡ true) × (most : List Reply) × (last : Reply) × (replies ≡ most ++ last ∷ []) × (u.output ≡ before ++ flat_map frame_in most))
-
--- The client of a connection over these turns: the requests taken of it are those of the frames of all its bytes, in their order, and behind
--- what was put out before came just the frames of the replies to them.
-pub record HasItsOwn {place : Place} {honest whole : Bool} {steps : List Step} {a b : Now} (k : ℕ) (turns : AllTurned place honest whole steps a b)
-    (t u : Session) : Type 0 where
-  pub exchanges : List Exchange
-  pub are : AreExchanges k turns exchanges
-  pub asked : List model.Asked
-  pub given : AreGiven (map (λ (x : Exchange). x.0) exchanges) asked
-  pub read : IsReadOf (bytes_of k steps) asked u
-  pub put : ArePut t.output (map (λ (x : Exchange). x.1) exchanges) u
 
 -- ---- a connection from its opening on
 

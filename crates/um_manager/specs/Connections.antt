@@ -2,6 +2,7 @@
 -- No manual page has this: it is the project's own protocol (docs/FORMATS.md, "Frames").
 -- The turn of the manager stands on this file.
 use Rattle.std.specs.Prelude.{◌≡◌, ◌≤◌, ℕ, List, [], ◌∷◌, ◌++◌, flat_map, map, length, false, Option, Some, None, Result, Ok, Err, ⊤}
+use Rattle.std.specs.List.{AllByRecursion}
 use Rattle.um_model.specs.Machine.{Input}
 use Rattle.um_model.specs.Sessions.{Session, Does, Room, Feed}
 use Rattle.um_proto.specs.declared.request.Asked.{Asked}
@@ -41,6 +42,10 @@ AllFit ps ts = ⊤
 -- nothing came yet
 abbrev pub IsNew : Session → Type 0
 IsNew t = (t.rest ≡ []) × (t.output ≡ []) × (t.failed ≡ false)
+
+-- nothing came of any connection yet
+abbrev pub AllNew : List Session → Type 0
+AllNew sessions = (length sessions ≡ 64) × AllByRecursion IsNew sessions
 
 -- a whole frame waits in the session of a connection
 abbrev pub HoldsFrameAt : Option Session → Type 0

@@ -9,7 +9,7 @@ use Rattle.um_model.specs.Lives.{Offer, AreUnanswered, MayLeave}
 use Rattle.um_model.specs.Machine.{State, Input}
 use Rattle.um_model.specs.declared.layout.Layout.{Layout}
 use Rattle.um_manager.specs.Clients.{AllTurned, no_turn, and_turn}
-use Rattle.um_manager.specs.Living.{offered_in}
+use Rattle.um_manager.specs.Offered.{offered_in}
 use Rattle.um_manager.specs.Places.{Place}
 use Rattle.um_manager.specs.Turns.{Now}
 use Rattle.um_manager.specs.declared.script.Step.{Step}

@@ -1,9 +1,14 @@
 pub mod Clients
 pub mod Connections
 pub mod Crashes
+pub mod Done
 pub mod Frames
+pub mod Going
+pub mod Had
+pub mod Histories
 pub mod Lives
 pub mod Living
+pub mod Offered
 pub mod Opening
 pub mod Orders
 pub mod Places

@@ -1,84 +1,138 @@
--- Lives of managers over one store: what each offered from its opening to its stop, how one follows another, and what outlives all stops.
+-- Lives of managers over one store, how one follows another, what is taken for granted of them, and what outlives all stops.
 -- No manual page has it: crash safety is this project's own promise (docs/HEADLINE.md reads the theorem line by line).
 -- The theorem of managers that outlive crashes stands on this file.
-use Rattle.std.specs.Prelude.{◌≡◌, ⊤, ℕ, List, [], ◌∷◌, ◌++◌, All}
+use Rattle.std.specs.Prelude.{◌≡◌, ◌≢◌, ◌≤◌, ⊤, ℕ, List, [], ◌∷◌, ◌++◌, map, flat_map, All, Some}
+use Rattle.std.specs.FinMap as maps
+use Rattle.std.specs.List.{AllByRecursion}
 use Rattle.um_keeper.specs.Finished.{RepeatsNone}
-use Rattle.um_model.specs.Begun.{WasNext, begun_in}
+use Rattle.um_keeper.specs.Opening.{IsTakenUp, IsUntaken}
+use Rattle.um_model.specs.Begun.{Begun, begun_in}
 use Rattle.um_model.specs.Children.{Call, orders}
-use Rattle.um_model.specs.Disk.{Image, Past, IsImage, Images, onto, seen}
-use Rattle.um_model.specs.Disk as disk
-use Rattle.um_model.specs.Lives.{Offer, RunsOver, answered_in, HasInOrder}
-use Rattle.um_model.specs.Machine.{State, Input, Run, goes, empty_state}
-use Rattle.um_model.specs.Numbers.{AreNew, started_numbers}
+use Rattle.um_model.specs.Disk.{Image, Past, Images}
+use Rattle.um_model.specs.Jobs.{Job, GoesBefore, IsPending, IsToldBefore, state_of_job}
+use Rattle.um_model.specs.Lives.{Offer, RunsOver, answered_in}
+use Rattle.um_model.specs.Machine.{State, Input, Run, goes, IsBefore}
+use Rattle.um_model.specs.Numbers.{AreNew, started_numbers, actions_in}
+use Rattle.um_model.specs.Service.{Action, SpawnProcess, SendSignal, active_state_of, state_of_unit}
 use Rattle.um_model.specs.Stands.{IsStoreOf}
-use Rattle.um_model.specs.Store.{body_limit}
+use Rattle.um_model.specs.Store.{body_limit, store_sectors}
+use Rattle.um_model.specs.declared.jobs.JobKind.TheVariants.{Start}
+use Rattle.um_model.specs.declared.jobs.JobState.TheVariants.{Waiting}
 use Rattle.um_model.specs.declared.layout.Layout.{Layout}
+use Rattle.um_model.specs.declared.layout.Slot.{Slot}
+use Rattle.um_model.specs.declared.service.ActiveState.TheVariants.{Deactivating}
+use Rattle.um_sector.specs.Left.{IsLeftBy}
+use Rattle.um_wire.specs.declared.refusal.Refusal.{Refusal}
+use Rattle.um_wire.specs.declared.refusal.Refusal.TheVariants.{GenerationsSpent}
+use Rattle.um_manager.specs.Done.{Told, where_done}
+use Rattle.um_manager.specs.Living.{ManagerLife, offers_of, told_of, IsByDisk, IsByChildren}
 
--- ---- one life
+-- each life finds what the one before it left
+abbrev pub FollowOnDisk : (disk : Past) → List ManagerLife → (stop : Past) → Type 0
+FollowOnDisk disk [] stop = stop ≡ disk
+FollowOnDisk disk (life ∷ lives) stop = IsLeftBy disk life.disk × FollowOnDisk life.stop lives stop
 
--- One life of a manager, from its opening to its stop.
-pub record Life : Type 0 where
-  pub disk : Past  -- the disk as it was opened
-  pub before : List Call  -- what was asked of the children before
-  pub offers : List Offer  -- what it offered to its store, with what came of each
-  pub stop : Past  -- the disk as it stopped
-  pub calls : List Call  -- what was asked of the children by then, all that went before included
+-- the history of the children's calls goes on
+abbrev pub FollowInCalls : (calls : List Call) → List ManagerLife → (all : List Call) → Type 0
+FollowInCalls calls [] all = all ≡ calls
+FollowInCalls calls (life ∷ lives) all = (life.before ≡ calls) × FollowInCalls life.calls lives all
 
--- the life of these
-abbrev pub life_of : (disk : Past) (before : List Call) (offers : List Offer) (stop : Past) (calls : List Call) → Life
-life_of disk before offers stop calls = record { disk = disk; before = before; offers = offers; stop = stop; calls = calls }
+-- ---- what is taken for granted
 
--- the disk at some moment of the calls that led from old to new
-pub record IsMeanwhile (old new at : Past) : Type 0 where
-  pub calls : List disk.Call
-  pub later : List disk.Call
-  pub at_is : at ≡ onto calls old
-  pub new_is : new ≡ onto later at
+-- no entry, no unit, no job and no boot, the clock at 0, and the next number 1
+pub record IsEmpty (s : State) : Type 0 where
+  pub tree : s.tree ≡ maps.empty
+  pub loaded : s.loaded ≡ maps.empty
+  pub boot : s.boot ≡ []
+  pub clock : s.clock ≡ 0
+  pub next : s.next ≡ 1
+  pub units : s.units ≡ maps.empty
+  pub pending : s.pending ≡ maps.empty
 
--- ---- one after another
+-- What is taken for granted of the disk under all lives of managers over one store, up to the last stop.
+pub record DiskPremises (layout : Layout) (first : State) (lives : List ManagerLife) (stop : Past) : Type 0 where
+  -- the disk as the store was made on it, by a `create` that answered Ok: a store of an empty state
+  pub made : Past
+  pub empty : IsEmpty first
+  pub created : Images made (λ image. IsStoreOf layout image first)
+  -- nobody else writes the disk: each life finds what the one before it left
+  pub follow : FollowOnDisk made lives stop
+  -- the disk does what it answers, and after a fault the store is opened again: each life ends with the first turn that its store refuses
+  pub each : AllByRecursion (λ (life : ManagerLife). IsByDisk layout life.way life.stop) lives
 
--- What a stop leaves is what the next life finds: its disk has no image but those of the stop, and what a read gives is one of them.
-pub record IsFound (stop next : Past) : Type 0 where
-  pub no_other : Images next (IsImage stop)
-  pub read : IsImage next (seen next)
-
--- each life finds what the one before it left, and the history of the children's calls goes on
-abbrev pub Follow : (disk : Past) (calls : List Call) → List Life → (stop : Past) (all : List Call) → Type 0
-Follow disk calls [] stop all = (stop ≡ disk) × (all ≡ calls)
-Follow disk calls (life ∷ lives) stop all = IsFound disk life.disk × (life.before ≡ calls) × Follow life.stop life.calls lives stop all
+-- What is taken for granted of the children.
+pub record ChildrenPremises (lives : List ManagerLife) (calls : List Call) : Type 0 where
+  -- what was asked of them before the store was made: they had started nothing
+  pub before : List Call
+  pub unstarted : started_numbers (orders before) ≡ []
+  -- nobody else calls them
+  pub follow : FollowInCalls before lives calls
+  -- they do what they answer, and no call is missing from their history
+  pub each : AllByRecursion (λ (life : ManagerLife). IsByChildren life.way life.calls) lives
 
 -- ---- what outlives them
 
 -- One run through all lives: of each over a beginning of what it offered, without what was turned away. Each offer that was answered is in it, and
 -- got the reply of its step.
-pub data RunsThrough (size : ℕ) : State → List Life → List Input → State → Type 0 where
-  at_end : {s : State} → RunsThrough size s [] [] s
-  and_on : {s t u : State} {life : Life} {lives : List Life} {here more : List Input} → RunsOver size s life.offers here t
-      → RunsThrough size t lives more u → RunsThrough size s (life ∷ lives) (here ++ more) u
+pub data RunsThroughAll (size : ℕ) : State → List (List Offer) → List Input → State → Type 0 where
+  at_end : {s : State} → RunsThroughAll size s [] [] s
+  and_on : {s t u : State} {offers : List Offer} {lives : List (List Offer)} {here more : List Input} → RunsOver size s offers here t
+      → RunsThroughAll size t lives more u → RunsThroughAll size s (offers ∷ lives) (here ++ more) u
 
--- all inputs that were answered in these lives, in their order
-abbrev pub all_answered : List Life → List Input
-all_answered [] = []
-all_answered (life ∷ lives) = answered_in life.offers ++ all_answered lives
+-- the second list has all of the first in its order, and maybe others between them
+pub data StandIn {X : Type 0} : List X → List X → Type 0 where
+  no_others : StandIn [] []
+  too : {x : X} {some all : List X} → StandIn some all → StandIn (x ∷ some) (x ∷ all)
+  between : {x : X} {some all : List X} → StandIn some all → StandIn some (x ∷ all)
 
--- each job that begins in the run was the least of those that were ready in the state from which it began
-abbrev pub EachWasNext : {size : ℕ} {s t : State} {inputs : List Input} → Run size s inputs t → Type 0
-EachWasNext Run.rests = ⊤
-EachWasNext (goes reply actions step run) = All WasNext (begun_in step) × EachWasNext run
+-- the starts among these actions
+abbrev pub starts_in : List Action → List Action
+starts_in [] = []
+starts_in (SpawnProcess number words environment ∷ actions) = SpawnProcess number words environment ∷ starts_in actions
+starts_in (SendSignal number signal ∷ actions) = starts_in actions
+
+-- the inputs of a run that were done, each with its reply
+abbrev pub done_in : {size : ℕ} {s t : State} {inputs : List Input} → Run size s inputs t → List Told
+done_in Run.rests = []
+done_in (goes {input = input} reply actions step run) = where_done input reply ++ done_in run
+
+-- A job may begin in a state: it waits, no job that goes before it by the order of the loaded tree is pending, and the unit of a start isn't deactivating.
+pub record MayBegin (s : State) (job : Job) : Type 0 where
+  pub waits : state_of_job s.pending job ≡ Some Waiting
+  pub none_before : (other : Job) → GoesBefore (IsBefore s.loaded) other job → ¬ IsPending s.pending other
+  pub settled : job.kind ≡ Start → active_state_of (state_of_unit s.units job.unit).sub ≢ Deactivating
+
+-- a job that begins may begin in the state from which it does, and is the least that may
+pub record BeginsInTurn (b : Begun) : Type 0 where
+  pub may : MayBegin b.before b.job
+  pub least : (other : Job) → MayBegin b.before other → other ≢ b.job → IsToldBefore b.job other
+
+-- each job that begins in the run did so in its turn
+abbrev pub EachInTurn : {size : ℕ} {s t : State} {inputs : List Input} → Run size s inputs t → Type 0
+EachInTurn Run.rests = ⊤
+EachInTurn (goes reply actions step run) = All BeginsInTurn (begun_in step) × EachInTurn run
 
 -- What outlives all stops, told by one image that the last of them leaves.
-pub record Outlives (layout : Layout) (lives : List Life) (calls : List Call) (image : Image) : Type 0 where
+pub record Outlives (layout : Layout) (first : State) (lives : List ManagerLife) (image : Image) : Type 0 where
   -- what was kept of all that was offered, and the state to which it leads
   pub kept : List Input
   pub state : State
   -- the image is a store of the state to which one run comes, from the empty state over a beginning of what was offered
   pub store : IsStoreOf layout image state
-  pub run : RunsThrough (body_limit layout) empty_state lives kept state
+  pub run : RunsThroughAll (body_limit layout) first (map (λ (life : ManagerLife). offers_of life.way) lives) kept state
+  -- an opening takes up that state and no other; and, where the disk has room, it is refused for the last generation alone, or for want of memory or the device
+  pub opens : (count : ℕ) (of : Layout) (slot : Slot) (generation : ℕ) (s : State) → IsTakenUp count image of slot generation s → s ≡ state
+  pub reopens : (count : ℕ) (e : Refusal) → store_sectors layout ≤ count → IsUntaken count image e → e ≡ GenerationsSpent
   -- all that was answered is in it, in its order
-  pub answered : HasInOrder (all_answered lives) kept
-  -- no number was started twice, and each that was lies below the next number of that state
-  pub started : AreNew empty_state.next state.next (started_numbers (orders calls))
-  -- each job that begins in the run was ready
-  pub ready : (run : Run (body_limit layout) empty_state kept state) → EachWasNext run
+  pub answered : StandIn (flat_map answered_in (map (λ (life : ManagerLife). offers_of life.way) lives)) kept
+  -- what any connection was told of its commands that were done is what the steps of the run did, in their order
+  pub told : (k : ℕ) (run : Run (body_limit layout) first kept state) → StandIn (flat_map (λ (life : ManagerLife). told_of k life.way) lives) (done_in run)
+  -- each job that begins in the run does so in its turn
+  pub ready : (run : Run (body_limit layout) first kept state) → EachInTurn run
   -- no oneshot that finished begins anew before a command's plan puts a start of it
-  pub finished : (run : Run (body_limit layout) empty_state kept state) → RepeatsNone run
+  pub finished : (run : Run (body_limit layout) first kept state) → RepeatsNone run
+  -- no number was started twice, and each that was lies below the next number of that state
+  pub started : (calls : List Call) → ChildrenPremises lives calls → AreNew first.next state.next (started_numbers (orders calls))
+  -- each start that was ordered, with its number, words and environment, is one that the steps of the run asked for, in their order
+  pub carried : (calls : List Call) → ChildrenPremises lives calls → (run : Run (body_limit layout) first kept state)
+      → StandIn (starts_in (orders calls)) (starts_in (actions_in run))

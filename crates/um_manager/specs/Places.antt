@@ -4,7 +4,7 @@
 use Rattle.std.specs.Prelude.{◌≡◌, ◌≤◌, ◌-◌, ◌^◌, ℕ, Bool, true, false}
 use Rattle.um_keeper.specs.Keepers.{disk_in, size_in, layout_in, log_generation_in, next_in, has_failed}
 use Rattle.um_keeper.specs.declared.keeper.Keeper.{Keeper}
-use Rattle.um_model.specs.Store.{log_start}
+use Rattle.um_model.specs.Store.{body_limit, log_start}
 use Rattle.um_model.specs.declared.layout.Layout.{Layout}
 use Rattle.um_sector.specs.declared.disk.Disk as disk
 
@@ -16,6 +16,10 @@ pub record Place : Type 0 where
 
 abbrev pub place : ℕ → Layout → Bool → Place
 place size layout trusted = record { size = size; layout = layout; trusted = trusted }
+
+-- where a store of this layout stands, on a disk that does what it answers, and on which no call has failed
+abbrev pub place_on : Layout → Place
+place_on layout = place (body_limit layout) layout true
 
 -- the disk does what it answers, and no call on it failed before
 abbrev pub is_trusted : (honest failed : Bool) → Bool

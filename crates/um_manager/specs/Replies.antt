@@ -1,7 +1,8 @@
 -- What is put out for the connections.
 -- No manual page has this: it is the project's own protocol (docs/FORMATS.md, "Replies").
 -- The turn of the manager stands on this file.
-use Rattle.std.specs.Prelude.{◌≡◌, ◌⊎◌, ◌+◌, ℕ, List, [], ◌∷◌, Bool, Option, Some, Ok, Err, ⊤}
+use Rattle.std.specs.Prelude.{◌≡◌, ◌⊎◌, ◌+◌, ℕ, zero, suc, List, [], ◌∷◌, Bool, Option, Some, Ok, Err, ⊤}
+use mathlib.Core.Logic.{inl, inr}
 use Rattle.um_keeper.specs.Answering.{Answer}
 use Rattle.um_model.specs.Machine.{State, Query, Reply, Refusal, IsReplyTo}
 use Rattle.um_model.specs.Refusals.{no_memory}
@@ -46,6 +47,24 @@ abbrev pub PaysAll : State → List Due → List Reply → List Session → List
 PaysAll s [] replies [] [] = ⊤
 PaysAll s (d ∷ ds) replies (t ∷ ts) (u ∷ us) = (left : List Reply) × Pays s d replies left t u × PaysAll s ds left ts us
 PaysAll s ds replies ts us = ⊥
+
+-- the reply, where its frame was put out
+abbrev pub where_put : (t u : Session) (reply : Reply) → Puts t reply u → List Reply
+where_put t u reply (inl put) = reply ∷ []
+where_put t u reply (inr given_up) = []
+
+-- what was put out of what was due
+abbrev pub put_by : (s : State) (d : Due) (replies left : List Reply) (t u : Session) → Pays s d replies left t u → List Reply
+put_by s due.Nothing replies left t u paid = []
+put_by s due.Input replies left t u paid = where_put t u paid.0 paid.2
+put_by s (due.Query query) replies left t u paid = where_put t u paid.1.0 paid.1.2
+put_by s (due.Reply reply) replies left t u paid = where_put t u (reply_of reply) paid.1
+
+-- the reply whose frame was put out for a connection, if any
+abbrev pub put_at : ℕ → (s : State) (ds : List Due) (replies : List Reply) (ts us : List Session) → PaysAll s ds replies ts us → List Reply
+put_at zero s (d ∷ ds) replies (t ∷ ts) (u ∷ us) paid = put_by s d replies paid.0 t u paid.1
+put_at (suc k) s (d ∷ ds) replies (t ∷ ts) (u ∷ us) paid = put_at k s ds paid.0 ts us paid.2
+put_at k s ds replies ts us paid = []
 
 -- what was put out for a connection is taken, with whether its session has failed
 abbrev pub IsOutput : Option Session → List ℕ → Bool → Option Session → Type 0

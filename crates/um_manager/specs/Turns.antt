@@ -11,7 +11,8 @@ use Rattle.um_keeper.specs.declared.keeper.Keeper.{Keeper}
 use Rattle.um_model.specs.Children.{Call, Tale, orders, tales, refused}
 use Rattle.um_model.specs.Service.{ByUnit, Action}
 use Rattle.um_model.specs.declared.service.UnitState.{UnitState}
-use Rattle.um_model.specs.Disk.{Past, During, Images}
+use Rattle.um_model.specs.Disk.{Past, During, Images, onto}
+use Rattle.um_model.specs.Disk as disk
 use Rattle.um_model.specs.Machine.{State, Input, Reply}
 use Rattle.um_model.specs.Numbers.{AreNew, started_numbers}
 use Rattle.um_model.specs.Sessions.{Session}
@@ -26,6 +27,13 @@ use Rattle.um_manager.specs.Orders.{Grew}
 use Rattle.um_manager.specs.Places.{Place, LogEnd, log_in, IsFreeFrom}
 use Rattle.um_manager.specs.Replies.{reply_in, PaysAll}
 use Rattle.um_manager.specs.declared.pieces.Piece.{Piece}
+
+-- the disk at some moment of the calls that led from old to new
+pub record IsMeanwhile (old new at : Past) : Type 0 where
+  pub calls : List disk.Call
+  pub later : List disk.Call
+  pub at_is : at ≡ onto calls old
+  pub new_is : new ≡ onto later at
 
 -- a manager at a moment: its state, the children's calls, the numbers whose fate is asked with a claim, the sessions, the disk's calls, and where
 -- the next record goes, with the count of those calls
@@ -121,7 +129,8 @@ first_refusal (Err e) behind = Err e
 -- connection the request of the first whole frame. It offered the inputs of the fates told, a tick and the requests, in this order, and each of
 -- them was answered, and the numbers that were started are new; nothing is done behind the offer. Each request's reply is put out for its own
 -- connection, a query's from the state after all inputs. A crash meanwhile leaves a store of the state after a beginning of the inputs taken, and
--- one behind it, where the store failed none, of all. The history of children that are honest has, where it is whole, just what was asked.
+-- one behind it, where the store failed none, of all. `offered` is the disk as the store had answered: where it answered Ok, each image since then is
+-- a store of the state behind. The history of children that are honest has, where it is whole, just what was asked.
 pub record Turned (place : Place) (honest whole : Bool) (result : Result Unit Refusal) (moment : ℕ) (pieces : List Piece) (a b : Now) : Type 0 where
   pub live : List ℕ
   pub are_live : AreLive a.state.units live
@@ -143,6 +152,9 @@ pub record Turned (place : Place) (honest whole : Bool) (result : Result Unit Re
   pub paid : PaysAll b.state (map due_of requests) (drop (length (firsts moment told)) (map reply_in answers)) cut b.sessions
   pub left : IsTrue place.trusted → Leaves place a.state (inputs_of moment told requests) answers a.disk b.disk
   pub stored : IsTrue place.trusted → store ≡ Ok tt → Holds place b.state b.disk
+  pub offered : Past
+  pub meanwhile : IsTrue place.trusted → IsMeanwhile a.disk b.disk offered
+  pub steady : IsTrue place.trusted → store ≡ Ok tt → During offered b.disk (λ image. IsStoreOf place.layout image b.state)
   pub called : IsTrue honest → IsTrue whole → Called b.state.units store told (all_asked answers) a.past b.past a.marks b.marks
 
 -- nothing was taken, asked or offered

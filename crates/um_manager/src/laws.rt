@@ -1,44 +1,51 @@
 //! What the turns of a script say together, as functions that do nothing.
-ghost use Rattle.std.specs.Prelude.{◌≡◌, ℕ, List, [], Bool, false, Some, Result, Ok, IsTrue, slice_get};
-ghost use Rattle.um_manager.specs.Clients.{AllTurned, StaysOpen, HasItsOwn, HasHad, IsServed};
+ghost use Rattle.std.specs.Prelude.{◌≡◌, ◌<◌, ◌++◌, ℕ, List, flat_map, Bool, Some, Result, Ok, IsTrue, slice_get};
+ghost use Rattle.um_manager.specs.Clients.{AllTurned, HasHad, IsServed};
 ghost use Rattle.um_manager.specs.Crashes.{all_offers, IsLeft};
-ghost use Rattle.um_manager.specs.Living.{Premises, offered_in};
-ghost use Rattle.um_manager.specs.Lives.{Life, Outlives};
-ghost use Rattle.um_manager.specs.Places.{Place};
+ghost use Rattle.um_manager.specs.Done.{Told, told_by};
+ghost use Rattle.um_manager.specs.Going.{IsJustOpened, IsTurn, IsTaking, offers_in_turn, stopped, EndsThere, IsRefusedLife, Continues};
+ghost use Rattle.um_manager.specs.Had.{came_of, taken_of, put_out_of, frames_of};
+ghost use Rattle.um_manager.specs.Histories.{History, offers_in, told_to, HasGoneOn};
+ghost use Rattle.um_manager.specs.Lives.{DiskPremises, Outlives};
+ghost use Rattle.um_manager.specs.Living.{ManagerLife, behind};
+ghost use Rattle.um_manager.specs.Offered.{offered_in};
+ghost use Rattle.um_manager.specs.Opening.{IsRefused};
+ghost use Rattle.um_manager.specs.Places.{Place, place_on};
 ghost use Rattle.um_manager.specs.Scripts.{Runs};
-ghost use Rattle.um_manager.specs.Turns.{Now, Turned};
+ghost use Rattle.um_manager.specs.Turns.{Now, Turned, IsMeanwhile};
 ghost use Rattle.um_manager.specs.declared.script.Step.{Step};
 ghost use Rattle.um_manager.specs.declared.pieces.Piece.{Piece};
 ghost use Rattle.um_model.specs.Children.{Call};
 ghost use Rattle.um_model.specs.Disk.{Image, Past, IsImage, During};
+ghost use Rattle.um_model.specs.Machine.{State};
 ghost use Rattle.um_model.specs.Sessions.{Session};
 ghost use Rattle.um_model.specs.Store.{body_limit};
 ghost use Rattle.um_model.specs.declared.layout.Layout.{Layout};
 ghost use Rattle.um_wire.specs.declared.refusal.Refusal.{Refusal};
 
-/// Each client has its own replies. A script that ends Ok is one turn a step; and of each connection that isn't closed meanwhile, however its
-/// bytes are cut and whatever the others send: the requests taken of it are those of the frames of all its bytes, in their order, and what is put
-/// out for it are the frames of the replies to just these requests, one each, in their order. Only the last may be wanting, where the session
-/// failed for want of memory.
-pub fn each_client_has_its_own_replies()
-    ensures { (place : Place) (honest whole : Bool) (steps : List Step) (a b : Now) → Runs place honest whole steps (Ok tt) a b
-        → (turns : AllTurned place honest whole steps a b)
-        × ((k : ℕ) (t : Session) → slice_get a.sessions k ≡ Some t → t.rest ≡ [] → t.failed ≡ false → StaysOpen k steps
-        → (u : Session) × (slice_get b.sessions k ≡ Some u) × HasItsOwn k turns t u) }
-{}
-
 /// Each connection is served from its opening on, over any calls and whatever these answer, with what is put out taken at any moment: the requests
 /// taken of it are those of the frames of all its bytes, in their order, and what was put out for it, taken out or not, are the frames of the
-/// replies to just these, one each, in their order. Only the last may be wanting, where the session failed for want of memory.
+/// replies to just these, one each, in their order. Only the last may be wanting, where the session failed for want of memory. So it is of what was
+/// done with a manager, of each of its connections since that was opened last: what was put out for it are the frames of the replies that its history
+/// tells, each beside the command that it answers, and of those that were done is what it was told last.
 pub fn each_connection_is_served()
-    ensures { (k : ℕ) (bytes taken : List ℕ) (a : Now) (had : HasHad k bytes taken a) → (t : Session) × (slice_get a.sessions k ≡ Some t) × IsServed had t }
+    ensures served { (k : ℕ) (bytes taken : List ℕ) (a : Now) (had : HasHad k bytes taken a)
+        → (t : Session) × (slice_get a.sessions k ≡ Some t) × IsServed had t }
+    ensures had { (k : ℕ) (low : k < 64) (disk : Past) (before : List Call) (b : Now) (past : History disk before b)
+        → HasHad k (came_of k past) (taken_of k low past) b }
+    ensures put { (k : ℕ) (low : k < 64) (disk : Past) (before : List Call) (b : Now) (past : History disk before b)
+        → (t : Session) × (slice_get b.sessions k ≡ Some t) × (taken_of k low past ++ t.output ≡ frames_of (put_out_of k past)) }
+    ensures told { (k : ℕ) (disk : Past) (before : List Call) (b : Now) (past : History disk before b)
+        → (earlier : List Told) × (told_to k past ≡ earlier ++ flat_map told_by (put_out_of k past)) }
 {}
 
-/// What a crash leaves of a script. Behind turns that ended Ok, each image of each moment of the next one, however that ends, is what a life of
+/// What a crash leaves of a script. A script that ends Ok is one turn a step. Behind turns that ended Ok, each image of each moment of the next one, however that ends, is what a life of
 /// the store may leave that began where the first of these turns did: it takes all inputs that these turns answered, and a beginning of those
 /// of the next that weren't turned away. So `um_keeper::laws::lives` holds of it, over any number of crashes.
 pub fn what_a_crash_leaves()
-    ensures { (place : Place) (honest whole still : Bool) (steps : List Step) (a b c : Now) (turns : AllTurned place honest whole steps a b)
+    ensures turns { (place : Place) (honest whole : Bool) (steps : List Step) (a b : Now) → Runs place honest whole steps (Ok tt) a b
+        → AllTurned place honest whole steps a b }
+    ensures leaves { (place : Place) (honest whole still : Bool) (steps : List Step) (a b c : Now) (turns : AllTurned place honest whole steps a b)
         (result : Result Unit Refusal) (moment : ℕ) (pieces : List Piece)
         → place.size ≡ body_limit place.layout → IsTrue place.trusted → (next : Turned place honest still result moment pieces b c)
         → During b.disk c.disk (IsLeft place.layout a.state (all_offers turns) (offered_in next) next.answers) }
@@ -46,15 +53,36 @@ pub fn what_a_crash_leaves()
     um_keeper::laws::offers_are_parts_of_lives();
 }
 
+/// What follows of what was done with a manager, over a disk that does what it answers. What was just opened is a life so far; each turn goes on with
+/// it as long as its store answers Ok, and behind one that its store refuses it has stopped; what was put out may be taken; it may stop between any
+/// two calls; and an opening that is refused is a life of its own.
+pub fn what_was_done_is_a_life()
+    ensures opened { (layout : Layout) (honest whole : Bool) (moment : ℕ) (boot : List ℕ) (count sectors : ℕ) (disk : Past) (before : List Call) (b : Now)
+        (past : History disk before b) → IsJustOpened (place_on layout) honest whole moment boot count sectors past → HasGoneOn layout past }
+    ensures turned { (layout : Layout) (honest whole : Bool) (result : Result Unit Refusal) (moment : ℕ) (pieces : List Piece) (disk : Past) (before : List Call)
+        (a b : Now) (past : History disk before a) (all : History disk before b)
+        (turn : IsTurn (place_on layout) honest whole result moment pieces past all) → HasGoneOn layout past
+        → Continues layout past all (offers_in_turn turn) result }
+    ensures taken { (layout : Layout) (disk : Past) (before : List Call) (a b : Now) (past : History disk before a) (all : History disk before b)
+        → IsTaking past all → HasGoneOn layout past → HasGoneOn layout all × (offers_in all ≡ offers_in past) }
+    ensures stops { (layout : Layout) (disk : Past) (before : List Call) (b : Now) (past : History disk before b) → HasGoneOn layout past
+        → EndsThere layout past (offers_in past) (λ k. told_to k past) (stopped (behind past) b.disk b.past) }
+    ensures refused { (layout : Layout) (honest whole : Bool) (moment : ℕ) (boot : List ℕ) (sectors : ℕ) (disk left : Past) (past calls : List Call)
+        → IsMeanwhile disk left left → (refused : IsRefused layout honest whole moment boot sectors disk left past calls)
+        → (life : ManagerLife) × IsRefusedLife layout refused life }
+{}
+
 /// A service manager outlives crashes. However many lives managers have over one store, each stopped at any moment of any call and the next one
 /// opened on what the disk holds then: the disk is a store of the state to which one run of the machine comes, from the empty state over a
-/// beginning of what each life offered, which holds all that was answered, with the replies that were told. No process number was started twice in
-/// all lives, and each lies below the next number of that state. Each job that begins in the run was ready, and no oneshot that finished begins
-/// anew before a command's plan puts a start of it.
+/// beginning of what each life offered, which holds all that was answered, with the replies that were told. What an opening takes up is that state.
+/// What any client was told of its commands stands among the steps of that run, in their order; each job that begins in it does so in its turn, and
+/// no oneshot that finished begins anew before a command's plan puts a start of it. And over children that do what they answer no process number was
+/// started twice in all lives, and each start that was ordered is one that the run asks for, in their order.
 pub fn a_service_manager_outlives_crashes()
-    ensures { (layout : Layout) (lives : List Life) (stop : Past) (calls : List Call) (image : Image) → Premises layout lives stop calls → IsImage stop image
-        → Outlives layout lives calls image }
+    ensures { (layout : Layout) (first : State) (lives : List ManagerLife) (stop : Past) (image : Image) → DiskPremises layout first lives stop
+        → IsImage stop image → Outlives layout first lives image }
 {
     um_keeper::laws::offers_are_parts_of_lives();
     um_keeper::laws::finished();
+    um_keeper::laws::a_store_is_taken_up();
 }

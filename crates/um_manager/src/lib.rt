@@ -16,8 +16,8 @@ mod taking;
 
 pub use connection::{CONNECTIONS, Connection};
 pub use laws::{
-    a_service_manager_outlives_crashes, each_client_has_its_own_replies, each_connection_is_served,
-    what_a_crash_leaves,
+    a_service_manager_outlives_crashes, each_connection_is_served, what_a_crash_leaves,
+    what_was_done_is_a_life,
 };
 pub use manager::{Manager, Output};
 pub use pieces::{Piece, Pieces};

@@ -5,16 +5,15 @@ ghost use Rattle.um_manager.specs.Frames.{Frame};
 ghost use Rattle.um_keeper.specs.Keepers.{disk_in, state_in, size_in, layout_in, has_failed, opened_in};
 ghost use Rattle.um_keeper.specs.Opening.{IsRead, IsSomeStore, IsUntaken, IsUnwritten};
 ghost use Rattle.um_manager.specs.Connections.{IsNew, HoldsFrameAt};
-ghost use Rattle.um_manager.specs.Lives.{life_of};
-ghost use Rattle.um_manager.specs.Living.{Reliance, HasLived, IsLife, LivesOn, relying};
+ghost use Rattle.um_manager.specs.Going.{IsJustOpened, IsTurn, IsTaking, Continues};
+ghost use Rattle.um_manager.specs.Histories.{History, HasGoneOn};
 ghost use Rattle.um_manager.specs.Opening.{Opened, IsRefused, IsOfRefused, IsSilent};
 ghost use Rattle.um_manager.specs.Places.{place, place_in};
 ghost use Rattle.um_manager.specs.Replies.{IsOutput};
-ghost use Rattle.um_manager.specs.Scripts.{Runs};
+ghost use Rattle.um_manager.specs.Scripts.{Runs, AreTurns, offers_in_turns};
 ghost use Rattle.um_manager.specs.Turns.{Turns, now_in};
 ghost use Rattle.um_model.specs.Children.{Call};
 ghost use Rattle.um_model.specs.Disk.{Past, seen, one_more, Images, During};
-ghost use Rattle.um_model.specs.Lives.{Offer};
 ghost use Rattle.um_model.specs.Store.{body_limit};
 ghost use Rattle.um_model.specs.declared.layout.Layout.{Layout};
 ghost use Rattle.um_sector.specs.Refused.{CountsDevice, IsLost};
@@ -85,9 +84,11 @@ impl<D: Disk, C: Children> Manager<D, C> {
         ensures opened { IfOk result (λ m. Opened (place (size_in m.keeper) (layout_in m.keeper) (D.honest disk)) (C.honest children) (C.whole m.children)
             moment boot m.adopted (D.size disk) (D.past disk) (C.past children)
             (now_in m.keeper (C.past m.children) m.marks [] (D.past (disk_in m.keeper)))) }
-        ensures life { IfOk result (λ m. (offered : List Offer)
-            × HasLived (layout_in m.keeper) (relying (D.honest disk) (C.honest children) (C.whole m.children)) (D.past disk) (C.past children) offered
-            (now_in m.keeper (C.past m.children) m.marks m.sessions.items (D.past (disk_in m.keeper)))) }
+        ensures history { IfOk result (λ m.
+            (all : History (D.past disk) (C.past children)
+            (now_in m.keeper (C.past m.children) m.marks m.sessions.items (D.past (disk_in m.keeper))))
+            × IsJustOpened (place (size_in m.keeper) (layout_in m.keeper) (D.honest disk)) (C.honest children) (C.whole m.children) moment boot
+            m.adopted (D.size disk) all) }
         ensures read { IfOk result (λ m. IsTrue (D.honest disk) → IsRead (layout_in m.keeper) (seen (D.past disk)) (opened_in m.keeper)) }
         ensures anew { IfOk result (λ m. AllByRecursion IsNew m.sessions.items) }
         ensures working { IfOk result (λ m. has_failed m.keeper ≡ false) }
@@ -98,10 +99,6 @@ impl<D: Disk, C: Children> Manager<D, C> {
             (IsOfRefused layout moment boot (D.size disk) (D.past disk) (C.honest children) (C.whole e.2) (C.past children) (C.past e.2))) }
         ensures refuses { IfErr result (λ e. IsTrue (D.honest disk) → (layout : Layout) → Images (D.past disk) (IsSomeStore layout)
             → IsRefused layout (C.honest children) (C.whole e.2) moment boot (D.size disk) (D.past disk) (D.past e.1) (C.past children) (C.past e.2)) }
-        ensures life_err { IfErr result (λ e. IsTrue (D.honest disk) → IsTrue (C.honest children) → IsTrue (C.whole e.2) → (layout : Layout)
-            → Images (D.past disk) (IsSomeStore layout) → (offered : List Offer)
-            × IsLife layout (relying (D.honest disk) (C.honest children) (C.whole e.2))
-            (life_of (D.past disk) (C.past children) offered (D.past e.1) (C.past e.2))) }
         ensures silent { IfErr result (λ e. IsTrue (C.honest children) → IsTrue (C.whole e.2)
             → (C.past e.2 ≡ C.past children) ⊎ IsSilent (D.size disk) (D.past disk) (D.honest disk) moment boot (C.past children) (C.past e.2)) }
         ensures refused { IfErr result (λ e. IsLost e.0 ⊎ (IsTrue (D.honest disk) → IsUntaken (D.size disk) (seen (D.past disk)) e.0)) }
@@ -145,10 +142,13 @@ impl<D: Disk, C: Children> Manager<D, C> {
             (C.whole self.new.children) moment pieces.now
             (now_in self.old.keeper (C.past self.old.children) self.old.marks self.old.sessions.items (D.past (disk_in self.old.keeper)))
             (now_in self.new.keeper (C.past self.new.children) self.new.marks self.new.sessions.items (D.past (disk_in self.new.keeper))) }
-        ensures life { has_failed self.old.keeper ≡ false → LivesOn (layout_in self.old.keeper)
-            (relying (D.honest (disk_in self.old.keeper)) (C.honest self.old.children) (C.whole self.new.children)) result
-            (now_in self.old.keeper (C.past self.old.children) self.old.marks self.old.sessions.items (D.past (disk_in self.old.keeper)))
-            (now_in self.new.keeper (C.past self.new.children) self.new.marks self.new.sessions.items (D.past (disk_in self.new.keeper))) }
+        ensures history { (disk : Past) (before : List Call)
+            (past : History disk before
+            (now_in self.old.keeper (C.past self.old.children) self.old.marks self.old.sessions.items (D.past (disk_in self.old.keeper))))
+            → (all : History disk before
+            (now_in self.new.keeper (C.past self.new.children) self.new.marks self.new.sessions.items (D.past (disk_in self.new.keeper))))
+            × IsTurn (place_in (D.honest (disk_in self.old.keeper)) self.old.keeper) (C.honest self.old.children) (C.whole self.new.children) result moment
+            pieces.now past all }
         ensures refused { IfErr result (λ e. IsLost e ⊎ (e ≡ Refusal.Reopen)) }
         ensures device { CountsDevice result (D.failures (disk_in self.old.keeper)) (D.failures (disk_in self.new.keeper)) }
         ensures reopen { result ≢ Err Refusal.NoMemory → (result ≡ Err Refusal.Reopen) ↔ (has_failed self.old.keeper ≡ true) }
@@ -172,10 +172,22 @@ impl<D: Disk, C: Children> Manager<D, C> {
             steps.now result
             (now_in self.old.keeper (C.past self.old.children) self.old.marks self.old.sessions.items (D.past (disk_in self.old.keeper)))
             (now_in self.new.keeper (C.past self.new.children) self.new.marks self.new.sessions.items (D.past (disk_in self.new.keeper))) }
-        ensures life { has_failed self.old.keeper ≡ false → LivesOn (layout_in self.old.keeper)
-            (relying (D.honest (disk_in self.old.keeper)) (C.honest self.old.children) (C.whole self.new.children)) result
-            (now_in self.old.keeper (C.past self.old.children) self.old.marks self.old.sessions.items (D.past (disk_in self.old.keeper)))
-            (now_in self.new.keeper (C.past self.new.children) self.new.marks self.new.sessions.items (D.past (disk_in self.new.keeper))) }
+        ensures history { (disk : Past) (before : List Call)
+            (past : History disk before
+            (now_in self.old.keeper (C.past self.old.children) self.old.marks self.old.sessions.items (D.past (disk_in self.old.keeper))))
+            → (all : History disk before
+            (now_in self.new.keeper (C.past self.new.children) self.new.marks self.new.sessions.items (D.past (disk_in self.new.keeper))))
+            × AreTurns (place_in (D.honest (disk_in self.old.keeper)) self.old.keeper) (C.honest self.old.children) (C.whole self.new.children) steps.now
+            result _ _ past all }
+        ensures life { IsTrue (D.honest (disk_in self.old.keeper)) → has_failed self.old.keeper ≡ false → (disk : Past) (before : List Call)
+            (past : History disk before
+            (now_in self.old.keeper (C.past self.old.children) self.old.marks self.old.sessions.items (D.past (disk_in self.old.keeper))))
+            → HasGoneOn (layout_in self.old.keeper) past
+            → (all : History disk before
+            (now_in self.new.keeper (C.past self.new.children) self.new.marks self.new.sessions.items (D.past (disk_in self.new.keeper))))
+            × (turns : AreTurns (place_in (D.honest (disk_in self.old.keeper)) self.old.keeper) (C.honest self.old.children) (C.whole self.new.children)
+            steps.now result _ _ past all)
+            × Continues (layout_in self.old.keeper) past all (offers_in_turns turns) result }
         ensures refused { IfErr result (λ e. IsLost e ⊎ (e ≡ Refusal.Reopen)) }
         ensures device { CountsDevice result (D.failures (disk_in self.old.keeper)) (D.failures (disk_in self.new.keeper)) }
         ensures reopen { result ≢ Err Refusal.NoMemory → (result ≡ Err Refusal.Reopen) ↔ ((has_failed self.old.keeper ≡ true) × (steps.now ≢ [])) }
@@ -197,10 +209,12 @@ impl<D: Disk, C: Children> Manager<D, C> {
         ensures taken { IsOutput (slice_get self.old.sessions.items connection) result.bytes.items result.failed
             (slice_get self.new.sessions.items connection) }
         ensures others { (other : ℕ) → other ≢ connection → slice_get self.new.sessions.items other ≡ slice_get self.old.sessions.items other }
-        ensures life { (layout : Layout) (on : Reliance) (disk : Past) (before : List Call) (offered : List Offer) → HasLived layout on disk before offered
-            (now_in self.old.keeper (C.past self.old.children) self.old.marks self.old.sessions.items (D.past (disk_in self.old.keeper)))
-            → HasLived layout on disk before offered
-            (now_in self.new.keeper (C.past self.new.children) self.new.marks self.new.sessions.items (D.past (disk_in self.new.keeper))) }
+        ensures history { (disk : Past) (before : List Call)
+            (past : History disk before
+            (now_in self.old.keeper (C.past self.old.children) self.old.marks self.old.sessions.items (D.past (disk_in self.old.keeper))))
+            → (all : History disk before
+            (now_in self.new.keeper (C.past self.new.children) self.new.marks self.new.sessions.items (D.past (disk_in self.new.keeper))))
+            × IsTaking past all }
         ensures keeper { self.new.keeper ≡ self.old.keeper }
         ensures children { self.new.children ≡ self.old.children }
         ensures marks { self.new.marks ≡ self.old.marks }

@@ -1,12 +1,12 @@
 //! Lives of managers over one store, each stopped by a crash within a turn or an opening, and the run that they are together.
 use crate::managers::{
-    DONE, PUT, RELOAD, SHOW, START, boot, frames, has_output, new_store, over_children, parts_of,
-    play, started, turns,
+    DONE, InMemory, PUT, RELOAD, SHOW, START, boot, frames, has_output, new_store, over,
+    over_children, parts_of, pieces, play, started, turn, turns,
 };
 use std::process::Abort;
 use um_asserts::same;
-use um_children::{Children, FakeChildren};
-use um_manager::Manager;
+use um_children::{Call, Children, FakeChildren};
+use um_manager::{Connection, Manager, Piece};
 use um_model::Moment;
 use um_sector::{Disk, Fuse, MemDisk};
 use um_wire::Refusal;
@@ -174,4 +174,70 @@ fn three_lives_are_one_run(rt: HostRuntime) {
         both_run(&rt, &mut manager);
         same!(&rt, started(&rt, manager).as_slice(), [1, 2].as_slice());
     }
+}
+
+/// What shows `b.service` where the end of its process is lost.
+const B_LOST: &str =
+    r#"{"ok":true,"value":{"ActiveState":"failed","Description":"","Id":"b.service","LoadState":"loaded","MainNumber":0,"Result":"lost","SubState":"failed","Warnings":[]}}"#;
+
+/// A turn in which this comes of connection 0, and which answers Done.
+fn done(rt: &(impl AllocGlobal + Abort), manager: &mut InMemory, request: &str) {
+    play(rt, manager, &[frames(rt, &[request]).as_slice()]);
+    has_output(rt, manager, 0, &[DONE]);
+}
+
+/// Two clients put a file each, and the second closes while its reply waits.
+fn two_clients(rt: &(impl AllocGlobal + Abort), manager: &mut InMemory) {
+    let puts = (frames(rt, &[PUT]), frames(rt, &[PUT_B]));
+    let sent = pieces(rt, &[(0, puts.0.as_slice()), (1, puts.1.as_slice())]);
+    turn(manager, &sent).expect(rt, "refused");
+    let mut closes = pieces(rt, &[]);
+    let second = Connection::new(1).expect(rt, "no connection");
+    closes.set(second, Piece::Closed);
+    turn(manager, &closes).expect(rt, "refused");
+    has_output(rt, manager, 0, &[DONE]);
+    has_output(rt, manager, 1, &[]);
+}
+
+/// A life of two clients, whose last order is cut off by the stop: its store had answered, and the children weren't asked yet.
+fn cut_off(rt: &(impl AllocGlobal + Abort)) -> (MemDisk, FakeChildren) {
+    let mut manager = over(rt, new_store(rt));
+    two_clients(rt, &mut manager);
+    done(rt, &mut manager, RELOAD);
+    done(rt, &mut manager, START);
+    let children = manager.children().copy(rt.alloc());
+    done(rt, &mut manager, START_B);
+    let (disk, _) = parts_of(manager);
+    (
+        disk.crash(rt.alloc(), &[]).expect(rt, "no memory"),
+        children.expect(rt, "no memory"),
+    )
+}
+
+/// Asserts that these calls start the numbers 1 and 3, with the words of `a.service` and of `b.service`, which are the same.
+fn are_carried(rt: &(impl AllocGlobal + Abort), calls: &[Call]) {
+    for call in calls {
+        if let Call::Spawned { number, start, .. } = call {
+            same!(rt, matches!(number.get(), 1 | 3), true);
+            let words = start.words(rt.alloc()).expect(rt, "no memory");
+            same!(rt, words.len(), 2);
+            same!(rt, words[0].as_str(), "/bin/sleep");
+            same!(rt, words[1].as_str(), "9");
+        }
+    }
+}
+
+/// By hand: kept is all that both clients were told, which is each put, the reload and both starts; the second put too, of which the client that
+/// closed took nothing. The run asks for the starts of 1 and 2, and behind the second opening of 3: those that were ordered are 1 and 3, in that order.
+/// The end of 2, whose order was cut off, is told as lost.
+#[test]
+fn what_two_clients_were_told_outlives_a_stop_that_cuts_off_an_order(rt: HostRuntime) {
+    let (disk, children) = cut_off(&rt);
+    let mut manager = over_children(&rt, disk, children);
+    same!(&rt, manager.state().tree().len(), 2);
+    let asked = frames(&rt, &[SHOW, SHOW_B, START_B]);
+    play(&rt, &mut manager, &[asked.as_slice(), &[], &[]]);
+    has_output(&rt, &mut manager, 0, &[A_RUNS, B_LOST, DONE]);
+    are_carried(&rt, manager.children().calls());
+    same!(&rt, started(&rt, manager).as_slice(), [1, 3].as_slice());
 }

@@ -1,3 +1,4 @@
+pub mod Left
 pub mod Unsynced
 pub mod Noted
 pub mod Refused

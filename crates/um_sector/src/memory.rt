@@ -4,6 +4,7 @@ ghost use Rattle.um_sector.specs.Unsynced as syncs;
 ghost use Rattle.um_model.specs.Disk.{seen, Wrote, Synced};
 ghost use Rattle.um_sector.specs.Runs.{CountsFailure};
 ghost use Rattle.um_model.specs.Disk.{one_more};
+ghost use Rattle.um_sector.specs.Left.{IsLeftBy};
 ghost use Rattle.um_sector.specs.Noted.{past_of, blank, seen_is_image, is_write_within};
 ghost use Rattle.std.specs.List.{range_with_len, AllPass};
 
@@ -144,6 +145,7 @@ impl MemDisk {
     /// `picks`. Index 0 is the value at the last sync; so is an index that is missing or past the last candidate.
     pub fn crash(&self, alloc: Global, picks: &[usize]) -> Result<MemDisk, AllocError>
         ensures picked { IfOk result (λ disk. disk.start.items ≡ map (syncs.picked (history self.now) picks.now) (range_with_len 0 (length self.now.held.items))) }
+        ensures found { IfOk result (λ disk. IsLeftBy (history self.now) (history disk)) }
         ensures fresh { IfOk result (λ disk. disk.noted.items ≡ []) }
         ensures counts { IfOk result (λ disk. (disk.calls ≡ 0) × (disk.failures ≡ 0)) }
     {

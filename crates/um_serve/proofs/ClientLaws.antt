@@ -8,8 +8,8 @@ use Rattle.um_manager.specs.Places.{Place}
 use Rattle.um_manager.specs.declared.pieces.Piece.{Piece}
 use Rattle.um_manager.specs.declared.pieces.Piece.TheVariants.{Nothing, Bytes, Closed}
 use Rattle.um_model.specs.Sessions.{Session}
-use Rattle.um_serve.specs.Clients.{AllServed, no_round, and_round, output_in, put_out, taken_in, taken_of, StaysOpen, GetsItsOwn}
-use Rattle.um_serve.specs.Rounds.{Round, Trust, Served, heard_in, reads_one, reads_below, after_piece, Forgets, SaysTo, SaysBelow, Serves}
+use Rattle.um_serve.specs.Clients.{output_in, taken_in, taken_of}
+use Rattle.um_serve.specs.Rounds.{after_piece, Forgets, SaysTo, SaysBelow}
 
 taken_join : (k : ℕ) (xs ys : List Event) → taken_of k (xs ++ ys) ≡ taken_of k xs ++ taken_of k ys
 taken_join k xs ys = flat_map-append (taken_in k) xs ys
@@ -161,23 +161,6 @@ own_below (suc n) k ts old said new w lt at says =
 
 -- ---- what is heard in a round
 
-one_read : (k n : ℕ) (is_open is_held : Option Bool) (piece : Option Piece) → taken_of k (reads_one n is_open is_held piece) ≡ []
-one_read k n None is_held piece = refl
-one_read k n (Some false) is_held piece = refl
-one_read k n (Some true) is_held None = refl
-one_read k n (Some true) is_held (Some piece) = refl
-
-no_read : (k n : ℕ) (which held : List Bool) (pieces : List Piece) → taken_of k (reads_below n which held pieces) ≡ []
-unfolding reads_below
-no_read k zero which held pieces = refl
-no_read k (suc n) which held pieces =
-    let one = reads_one n (slice_get which n) (slice_get held n) (slice_get pieces n) in
-    taken_join k (reads_below n which held pieces) one ∙ ap (λ l. l ++ taken_of k one) (no_read k n which held pieces)
-    ∙ one_read k n (slice_get which n) (slice_get held n) (slice_get pieces n)
-
-no_heard : (k : ℕ) (r : Round) → taken_of k (heard_in r) ≡ []
-no_heard k r = no_read k 64 r.which r.held r.pieces
-
 kept_at : (p : Option Piece) (w : Option Waits) → p ≢ Some Closed → after_piece p w ≡ w
 kept_at None w stays = refl
 kept_at (Some Nothing) w stays = refl
@@ -186,43 +169,3 @@ kept_at (Some Closed) w stays = absurd (stays refl)
 
 pub kept : (k : ℕ) (pieces : List Piece) (old new : List Waits) → slice_get pieces k ≢ Some Closed → Forgets pieces old new → slice_get new k ≡ slice_get old k
 kept k pieces old new stays forgets = forgets k ∙ kept_at (slice_get pieces k) (slice_get old k) stays
-
--- ---- all rounds
-
-record ToldAll {trust : Trust} {place : Place} {rs : List Round} {x y : Served} (k : ℕ) (rounds : AllServed trust place rs x y) (w : Waits) : Type 0 where
-  v : Waits
-  at : slice_get y.waits k ≡ Some v
-  events : List Event
-  grown : y.past ≡ x.past ++ events
-  story : Story w v (taken_of k events) (put_out k rounds)
-
-told_all : {trust : Trust} {place : Place} {rs : List Round} {x y : Served} (k : ℕ) (rounds : AllServed trust place rs x y) (w : Waits) → IsTrue trust.gate → IsTrue trust.events → k < 64 → slice_get x.waits k ≡ Some w → StaysOpen k rs
-    → ToldAll k rounds w
-told_all k (no_round {x}) w honest whole lt at stays = record { v = w; at = at; events = []; grown = sym (append-nil x.past); story = story_none w }
-told_all k (and_round {r} {rs} {x} {mid} {y} round rounds) w honest whole lt at stays =
-    let hears = round.hears in
-    let one = own_below 64 k round.turn.sessions round.waits round.said mid.waits w lt (kept k r.pieces x.waits round.waits stays.0 hears.forgets ∙ at) round.says in
-    let more = told_all k rounds one.0 honest whole lt one.1 stays.1 in
-    let silent = no_heard k r in
-    let first = heard_in r ++ round.said in
-    let took : taken_of k (first ++ more.events) ≡ taken_of k round.said ++ taken_of k more.events =
-    taken_join k first more.events ∙ ap (λ l. l ++ taken_of k more.events) (taken_join k (heard_in r) round.said ∙ ap (λ l. l ++ taken_of k round.said) silent) in
-    record {
-      v = more.v;
-      at = more.at;
-      events = first ++ more.events;
-      grown = more.grown ∙ ap (λ es. es ++ more.events) (hears.past honest whole) ∙ append_assoc x.past first more.events;
-      story = subst (λ l. Story w more.v l (output_in (slice_get round.turn.sessions k) ++ put_out k rounds)) (sym took)
-          (story_either one.0.is_over w one.0 more.v (taken_of k round.said) (taken_of k more.events) (output_in (slice_get round.turn.sessions k)) (put_out k rounds) refl one.2 more.story);
-    }
-
-pub all_served : (trust : Trust) (place : Place) (rs : List Round) (x y : Served) → Serves trust place rs (Ok tt) x y → AllServed trust place rs x y
-all_served trust place [] x y serves = subst (λ z. AllServed trust place [] x z) (sym serves.1) no_round
-all_served trust place (r ∷ rs) x y (inl (mid, round, serves)) = and_round round (all_served trust place rs mid y serves)
-all_served trust place (r ∷ rs) x y (inr (none, stops)) = absurd (stops.refused refl)
-
-pub gets_its_own : {trust : Trust} {place : Place} {rs : List Round} {x y : Served} (rounds : AllServed trust place rs x y) → IsTrue trust.gate → IsTrue trust.events → (k : ℕ) (old : Waits)
-    → k < 64 → slice_get x.waits k ≡ Some old → StaysOpen k rs → (new : Waits) × (slice_get y.waits k ≡ Some new) × GetsItsOwn k rounds old new
-gets_its_own rounds honest whole k old lt at stays =
-    let all = told_all k rounds old honest whole lt at stays in
-    (all.v, all.at, record { events = all.events; grown = all.grown; rest = all.story.rest; all = all.story.all; waits = all.story.waits })

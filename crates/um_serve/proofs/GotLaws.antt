@@ -30,7 +30,7 @@ emptied None u empties = absurd empties
 emptied (Some t) None empties = absurd empties
 emptied (Some t) (Some u) empties = (u.failed, (empties, refl))
 
-gone_at : (w : Waits) (waits : Option Waits) (piece : Option Piece) → waits ≡ Some w → piece ≡ Some Closed → after_piece piece waits ≡ Some nothing
+pub gone_at : (w : Waits) (waits : Option Waits) (piece : Option Piece) → waits ≡ Some w → piece ≡ Some Closed → after_piece piece waits ≡ Some nothing
 gone_at w waits piece there closed = ap (λ p. after_piece p waits) closed ∙ ap (λ o. after_piece (Some Closed) o) there
 
 got : (k : ℕ) {bytes out took : List ℕ} {x : Served} → k < 64 → HasGot k bytes out took x → Got k bytes out took x
@@ -76,7 +76,7 @@ client_served k bytes out took x low has =
 
 -- ---- behind calls, whatever they answered
 
-closed_or : (piece : Option Piece) → (piece ≡ Some Closed) ⊎ (piece ≢ Some Closed)
+pub closed_or : (piece : Option Piece) → (piece ≡ Some Closed) ⊎ (piece ≢ Some Closed)
 closed_or None = inr (λ e. cc)
 closed_or (Some Nothing) = inr (λ e. cc)
 closed_or (Some (Bytes bytes)) = inr (λ e. cc)

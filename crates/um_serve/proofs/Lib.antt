@@ -8,3 +8,4 @@ mod RoundLaws
 mod SaidLaws
 mod ScanLaws
 mod SleepLaws
+mod TakingLaws

@@ -13,21 +13,10 @@ use Rattle.um_serve.specs.Rounds.{Round, Trust, Served, IsRound, IsUntaken}
 use Rattle.um_wire.specs.declared.refusal.Refusal.{Refusal}
 use Rattle.um_wire.specs.declared.refusal.Refusal.TheVariants.{NoMemory}
 
--- rounds that were answered Ok, each from where the one before it ended
-pub data AllServed (trust : Trust) (place : Place) : List Round → Served → Served → Type 0 where
-  no_round : {x : Served} → AllServed trust place [] x x
-  and_round : {r : Round} {rs : List Round} {x mid y : Served}
-      → IsRound trust place (Ok tt) r x mid → AllServed trust place rs mid y → AllServed trust place (r ∷ rs) x y
-
 -- what is put out for a session
 abbrev pub output_in : Option Session → List ℕ
 output_in (Some t) = t.output
 output_in None = []
-
--- all that the turns of these rounds put out for a connection
-abbrev pub put_out : {trust : Trust} {place : Place} {rs : List Round} {x y : Served} → ℕ → AllServed trust place rs x y → List ℕ
-put_out k no_round = []
-put_out k (and_round round rounds) = output_in (slice_get round.turn.sessions k) ++ put_out k rounds
 
 -- the bytes that a gate took for a connection
 abbrev pub taken_in : ℕ → Event → List ℕ
@@ -38,20 +27,6 @@ taken_in k (dropped number) = []
 
 abbrev pub taken_of : ℕ → List Event → List ℕ
 taken_of k events = flat_map (taken_in k) events
-
--- it isn't closed
-abbrev pub StaysOpen : ℕ → List Round → Type 0
-StaysOpen k rs = AllByRecursion (λ (r : Round). slice_get r.pieces k ≢ Some Closed) rs
-
--- The client of a connection over these rounds: what the gate took for it, in its order, is a beginning of what waited for it and what was put
--- out for it behind that. The rest waits for it, unless it was given up.
-pub record GetsItsOwn {trust : Trust} {place : Place} {rs : List Round} {x y : Served} (k : ℕ) (rounds : AllServed trust place rs x y)
-    (old new : Waits) : Type 0 where
-  pub events : List Event
-  pub grown : y.past ≡ x.past ++ events
-  pub rest : List ℕ
-  pub all : taken_of k events ++ rest ≡ old.bytes ++ put_out k rounds
-  pub waits : new.is_over ≡ false → new.bytes ≡ rest
 
 -- ---- a client from its opening on
 

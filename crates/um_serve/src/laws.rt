@@ -1,16 +1,22 @@
 //! What rounds and sleeps say together, as functions that do nothing.
-ghost use Rattle.std.specs.Prelude.{◌≡◌, ◌≢◌, ◌<◌, ◌≤◌, ◌+◌, ◌-◌, ◌++◌, ℕ, List, length, Bool, true, false, IsTrue, Option, Some, Result, Ok, Err, slice_get};
-ghost use Rattle.um_backlog.specs.Backlog.{Waits};
+ghost use Rattle.std.specs.Prelude.{◌≡◌, ◌≢◌, ◌<◌, ◌≤◌, ◌+◌, ◌-◌, ◌++◌, ℕ, List, [], length, Bool, true, false, IsTrue, Option, Some, Result, Ok, Err, slice_get};
+ghost use Rattle.um_backlog.specs.Backlog.{Waits, nothing};
 ghost use Rattle.um_manager.specs.Clients.{HasHad, IsServed};
+ghost use Rattle.um_manager.specs.Going.{IsJustOpened};
+ghost use Rattle.um_manager.specs.Histories.{History};
 ghost use Rattle.um_manager.specs.Places.{Place};
 ghost use Rattle.um_manager.specs.Turns.{Now, Turned};
 ghost use Rattle.um_manager.specs.declared.pieces.Piece.{Piece};
+ghost use Rattle.um_model.specs.Children.{Call};
+ghost use Rattle.um_model.specs.Disk.{Past};
 ghost use Rattle.um_model.specs.Machine.{State};
 ghost use Rattle.um_model.specs.Service.{state_of_unit};
 ghost use Rattle.um_model.specs.Sessions.{Session};
-ghost use Rattle.um_serve.specs.Clients.{AllServed, StaysOpen, GetsItsOwn, HasGot, IsFollowed, IsTakenOf};
+ghost use Rattle.um_serve.specs.Clients.{HasGot, IsFollowed, IsTakenOf};
 ghost use Rattle.um_serve.specs.Rounds.{Round, Trust, IsWithin, Served, Serves, IsCount};
+ghost use Rattle.um_serve.specs.Histories.{AreRounds};
 ghost use Rattle.um_serve.specs.Sleep.{has_changed, slept, IsSleptFor};
+ghost use Rattle.um_serve.specs.Taking.{took_in_rounds, IsTakenBy};
 ghost use Rattle.um_wire.specs.declared.refusal.Refusal.{Refusal};
 ghost use Rattle.um_wire.specs.declared.refusal.Refusal.TheVariants.{NoMemory};
 
@@ -22,15 +28,6 @@ pub fn rounds_join()
         → Serves rest place (first ++ more) result x y × IsCount result (length (first ++ more)) (limit + later) }
 {}
 
-/// Each client gets its own bytes. Rounds that end Ok are one turn each; and for each connection that isn't told closed meanwhile, whatever
-/// is put out for the others and however little is taken at a time: what the gate took for it, in its order, is a beginning of what
-/// waited for it and of what the turns put out for it behind that. The rest waits for it, unless it was given up.
-pub fn each_client_gets_its_own()
-    ensures { (trust : Trust) (place : Place) (rs : List Round) (x y : Served) → Serves trust place rs (Ok tt) x y → (rounds : AllServed trust place rs x y)
-        × (IsTrue trust.gate → IsTrue trust.events → (k : ℕ) (old : Waits) → k < 64 → slice_get x.waits k ≡ Some old → StaysOpen k rs
-        → (new : Waits) × (slice_get y.waits k ≡ Some new) × GetsItsOwn k rounds old new) }
-{}
-
 /// Each client is served from its opening on, whatever the rounds answer: what turns put out for it are the frames of the replies to its own
 /// requests that they took, in their order, one each, the last of which may be wanting where its session failed for want of memory; and what the
 /// gate took for it is a beginning of that. The rest waits for it, unless it was given up.
@@ -38,6 +35,19 @@ pub fn each_client_is_served()
     ensures { (k : ℕ) (bytes out took : List ℕ) (x : Served) → k < 64 → HasGot k bytes out took x
         → (had : HasHad k bytes out x.now) × (t : Session) × (slice_get x.now.sessions k ≡ Some t) × IsServed had t
         × (waits : Waits) × (slice_get x.waits k ≡ Some waits) × IsTakenOf took out waits }
+{}
+
+/// What the gate takes for a client is a beginning of the frames that the manager put out for it, as the history of what was done with that tells it:
+/// so it is right behind an opening, where nothing waits for anybody, and so it stays over any rounds, whatever these answer. The rest waits for it,
+/// unless it was given up, or a read was lost. Of each frame the history tells which command it answers (`each_connection_is_served` of um_manager,
+/// `told`): so what a client has read as done is what the headline tells to outlive all stops.
+pub fn what_a_client_reads_was_told()
+    ensures opened { (k : ℕ) → k < 64 → (place : Place) (honest whole : Bool) (moment : ℕ) (boot : List ℕ) (count sectors : ℕ) (x : Served) (disk : Past)
+        (before : List Call) (past : History disk before x.now) → IsJustOpened place honest whole moment boot count sectors past
+        → slice_get x.waits k ≡ Some nothing → IsTakenBy k [] x past }
+    ensures rounds { (k : ℕ) → k < 64 → (took : List ℕ) (trust : Trust) (place : Place) (rs : List Round) (result : Result Unit Refusal) (x y : Served)
+        (disk : Past) (before : List Call) (past : History disk before x.now) (all : History disk before y.now)
+        (rounds : AreRounds trust place rs result x y past all) → IsTakenBy k took x past → IsTakenBy k (took_in_rounds k took rounds) y all }
 {}
 
 /// What a client has got goes on over any calls, whatever they answer: so the law above holds behind each of them, or, where a read was lost, before

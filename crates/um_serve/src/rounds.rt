@@ -1,15 +1,16 @@
 //! Rounds over a gate.
 
-ghost use Rattle.std.specs.Prelude.{◌≡◌, ◌≢◌, ◌⊎◌, ◌↔◌, ◌||◌, nat_lt, ℕ, List, slice_get, true, false, Err, IfErr, IfOk, OnOk, OnErr, length, replicate};
+ghost use Rattle.std.specs.Prelude.{◌≡◌, ◌≢◌, ◌⊎◌, ◌↔◌, ◌||◌, nat_lt, ℕ, List, slice_get, true, false, Err, IsTrue, IfErr, IfOk, OnOk, OnErr, length, replicate};
 ghost use Rattle.um_gate.specs.Frames.{KeepsClock, KeepsGate};
 ghost use Rattle.um_manager.specs.Frames.{Frame};
 ghost use Rattle.um_backlog.specs.Backlog.{nothing, HandsAt};
 ghost use Rattle.um_gate.specs.Events.{Event, Logs};
 ghost use Rattle.um_keeper.specs.Keepers.{disk_in, state_in, layout_in, has_failed};
-ghost use Rattle.um_manager.specs.Living.{LivesOn, relying};
 ghost use Rattle.um_manager.specs.Places.{place_in};
 ghost use Rattle.um_manager.specs.Turns.{now_in};
 ghost use Rattle.um_sector.specs.Refused.{CountsDevice, IsLost};
+ghost use Rattle.um_serve.specs.Clients.{IsFollowed};
+ghost use Rattle.um_serve.specs.Histories.{LivesOn};
 ghost use Rattle.um_serve.specs.Rounds.{Round, Serves, ServesOne, IsCount, Gathers, served, trust, SaysBelow, has_bytes, is_freed, any_stirred, EmptiesAll, is_want};
 ghost use Rattle.um_serve.specs.Sleep.{IsSleptFor};
 
@@ -254,10 +255,19 @@ pub fn serve<D: Disk, C: Children, G: Gate, M: Moments>(
         (now_in manager.old.keeper (C.past manager.old.children) manager.old.marks manager.old.sessions.items (D.past (disk_in manager.old.keeper))))
         (served (G.past gate.new.gate) (M.given clock.new) gate.new.backlog gate.new.was_busy gate.new.turned gate.new.has_lost
         (now_in manager.new.keeper (C.past manager.new.children) manager.new.marks manager.new.sessions.items (D.past (disk_in manager.new.keeper)))) }
-    ensures life { has_failed manager.old.keeper ≡ false → LivesOn (layout_in manager.old.keeper)
-        (relying (D.honest (disk_in manager.old.keeper)) (C.honest manager.old.children) (C.whole manager.new.children)) result
-        (now_in manager.old.keeper (C.past manager.old.children) manager.old.marks manager.old.sessions.items (D.past (disk_in manager.old.keeper)))
-        (now_in manager.new.keeper (C.past manager.new.children) manager.new.marks manager.new.sessions.items (D.past (disk_in manager.new.keeper))) }
+    ensures life { IsTrue (D.honest (disk_in manager.old.keeper)) → has_failed manager.old.keeper ≡ false
+        → LivesOn (trust (C.honest manager.old.children) (C.whole manager.new.children) (G.honest gate.old.gate) (G.whole gate.new.gate) (M.honest clock.old) (M.whole clock.new))
+        (place_in (D.honest (disk_in manager.old.keeper)) manager.old.keeper) (layout_in manager.old.keeper) result
+        (served (G.past gate.old.gate) (M.given clock.old) gate.old.backlog gate.old.was_busy gate.old.turned gate.old.has_lost
+        (now_in manager.old.keeper (C.past manager.old.children) manager.old.marks manager.old.sessions.items (D.past (disk_in manager.old.keeper))))
+        (served (G.past gate.new.gate) (M.given clock.new) gate.new.backlog gate.new.was_busy gate.new.turned gate.new.has_lost
+        (now_in manager.new.keeper (C.past manager.new.children) manager.new.marks manager.new.sessions.items (D.past (disk_in manager.new.keeper)))) }
+    ensures client { (k : ℕ) → IsFollowed k
+        (served (G.past gate.old.gate) (M.given clock.old) gate.old.backlog gate.old.was_busy gate.old.turned gate.old.has_lost
+        (now_in manager.old.keeper (C.past manager.old.children) manager.old.marks manager.old.sessions.items (D.past (disk_in manager.old.keeper))))
+        → IsFollowed k
+        (served (G.past gate.new.gate) (M.given clock.new) gate.new.backlog gate.new.was_busy gate.new.turned gate.new.has_lost
+        (now_in manager.new.keeper (C.past manager.new.children) manager.new.marks manager.new.sessions.items (D.past (disk_in manager.new.keeper)))) }
     ensures refused { IfErr result (λ e. IsLost e ⊎ (e ≡ Refusal.Reopen)) }
     ensures device { CountsDevice result (D.failures (disk_in manager.old.keeper)) (D.failures (disk_in manager.new.keeper)) }
     ensures reopen { result ≢ Err Refusal.NoMemory → (result ≡ Err Refusal.Reopen) ↔ ((has_failed manager.old.keeper ≡ true) × (limit ≢ 0)) }

@@ -6,6 +6,7 @@ use Rattle.um_manager.specs.Places.{Place, place_in}
 use Rattle.um_manager.specs.Turns.{now_in}
 use Rattle.um_serve.specs.Rounds.{Round, trust, Serves, IsRound, served}
 use Rattle.um_serve.proofs.JoinLaws.{round_less, serves_less, joined}
+use Rattle.um_serve.proofs.GotLaws.{followed}
 use Rattle.um_serve.proofs.LifeLaws.{rounds_live_on}
 use Rattle.um_serve.proofs.RoundLaws.{round_of, last_of, same_place, same_failed, all_rounds, last_round}
 use Rattle.um_manager.proofs.Placing.{counted_ok, works}
@@ -132,27 +133,51 @@ returns-in-Err-clause-serves g c =
     (inv.done.0 ++ last.0, omega (arith, inv.done.1, last.1, c.loop-test.true, length-append inv.done.0 last.0), rounds)
 
 pub returns-clause-life : goal.returns-clause-life
-returns-clause-life g c = λ working.
+returns-clause-life g c = λ sure working.
     let D = g.D.Disk in
     let first = c.args.manager.now.keeper in
-    let last = c.loop.manager.keeper in
     let begun = served (g.G.Gate.past c.args.gate.now.gate) (g.M.Moments.given c.args.clock.now) c.args.gate.now.backlog c.args.gate.now.was_busy c.args.gate.now.turned c.args.gate.now.has_lost
     (now_in first (g.C.Children.past c.args.manager.now.children) c.args.manager.now.marks c.args.manager.now.sessions.items (D.past (disk_in first))) in
+    let last = c.loop.manager.keeper in
+    let ended = served (g.G.Gate.past c.loop.gate.gate) (g.M.Moments.given c.loop.clock) c.loop.gate.backlog c.loop.gate.was_busy c.loop.gate.turned c.loop.gate.has_lost
+    (now_in last (g.C.Children.past c.loop.manager.children) c.loop.manager.marks c.loop.manager.sessions.items (D.past (disk_in last))) in
+    let known = trust (g.C.Children.honest c.args.manager.now.children) (g.C.Children.whole c.loop.manager.children) (g.G.Gate.honest c.args.gate.now.gate) (g.G.Gate.whole c.loop.gate.gate) (g.M.Moments.honest c.args.clock.now) (g.M.Moments.whole c.loop.clock) in
+    rounds_live_on known (layout_in first) begun ended (opened_place (sym first.holds.size_is) refl sure working)
+
+pub returns-in-Err-clause-life : goal.returns-in-Err-clause-life
+returns-in-Err-clause-life g c = λ sure working.
+    let D = g.D.Disk in
+    let first = c.args.manager.now.keeper in
+    let begun = served (g.G.Gate.past c.args.gate.now.gate) (g.M.Moments.given c.args.clock.now) c.args.gate.now.backlog c.args.gate.now.was_busy c.args.gate.now.turned c.args.gate.now.has_lost
+    (now_in first (g.C.Children.past c.args.manager.now.children) c.args.manager.now.marks c.args.manager.now.sessions.items (D.past (disk_in first))) in
+    let m = c.round.new.manager in
+    let ended = served (g.G.Gate.past c.round.new.self.gate) (g.M.Moments.given c.round.new.clock) c.round.new.self.backlog c.round.new.self.was_busy c.round.new.self.turned c.round.new.self.has_lost
+    (now_in m.keeper (g.C.Children.past m.children) m.marks m.sessions.items (D.past (disk_in m.keeper))) in
+    let later = trust (g.C.Children.honest c.args.manager.now.children) (g.C.Children.whole m.children) (g.G.Gate.honest c.args.gate.now.gate) (g.G.Gate.whole c.round.new.self.gate) (g.M.Moments.honest c.args.clock.now) (g.M.Moments.whole c.round.new.clock) in
+    rounds_live_on later (layout_in first) begun ended (opened_place (sym first.holds.size_is) refl sure working)
+
+pub returns-clause-client : goal.returns-clause-client
+returns-clause-client g c = λ k follows.
+    let D = g.D.Disk in
+    let first = c.args.manager.now.keeper in
+    let begun = served (g.G.Gate.past c.args.gate.now.gate) (g.M.Moments.given c.args.clock.now) c.args.gate.now.backlog c.args.gate.now.was_busy c.args.gate.now.turned c.args.gate.now.has_lost
+    (now_in first (g.C.Children.past c.args.manager.now.children) c.args.manager.now.marks c.args.manager.now.sessions.items (D.past (disk_in first))) in
+    let last = c.loop.manager.keeper in
     let ended = served (g.G.Gate.past c.loop.gate.gate) (g.M.Moments.given c.loop.clock) c.loop.gate.backlog c.loop.gate.was_busy c.loop.gate.turned c.loop.gate.has_lost
     (now_in last (g.C.Children.past c.loop.manager.children) c.loop.manager.marks c.loop.manager.sessions.items (D.past (disk_in last))) in
     let known = trust (g.C.Children.honest c.args.manager.now.children) (g.C.Children.whole c.loop.manager.children) (g.G.Gate.honest c.args.gate.now.gate) (g.G.Gate.whole c.loop.gate.gate) (g.M.Moments.honest c.args.clock.now) (g.M.Moments.whole c.loop.clock) in
     let all = returns-clause-serves g c in
-    rounds_live_on known (layout_in first) (D.honest (disk_in first)) all.0 begun ended (opened_place (sym first.holds.size_is) refl refl working) all.2
+    followed follows known _ all.0 _ ended all.2
 
-pub returns-in-Err-clause-life : goal.returns-in-Err-clause-life
-returns-in-Err-clause-life g c = λ working.
+pub returns-in-Err-clause-client : goal.returns-in-Err-clause-client
+returns-in-Err-clause-client g c = λ k follows.
     let D = g.D.Disk in
     let first = c.args.manager.now.keeper in
-    let m = c.round.new.manager in
     let begun = served (g.G.Gate.past c.args.gate.now.gate) (g.M.Moments.given c.args.clock.now) c.args.gate.now.backlog c.args.gate.now.was_busy c.args.gate.now.turned c.args.gate.now.has_lost
     (now_in first (g.C.Children.past c.args.manager.now.children) c.args.manager.now.marks c.args.manager.now.sessions.items (D.past (disk_in first))) in
+    let m = c.round.new.manager in
     let ended = served (g.G.Gate.past c.round.new.self.gate) (g.M.Moments.given c.round.new.clock) c.round.new.self.backlog c.round.new.self.was_busy c.round.new.self.turned c.round.new.self.has_lost
     (now_in m.keeper (g.C.Children.past m.children) m.marks m.sessions.items (D.past (disk_in m.keeper))) in
     let later = trust (g.C.Children.honest c.args.manager.now.children) (g.C.Children.whole m.children) (g.G.Gate.honest c.args.gate.now.gate) (g.G.Gate.whole c.round.new.self.gate) (g.M.Moments.honest c.args.clock.now) (g.M.Moments.whole c.round.new.clock) in
     let all = returns-in-Err-clause-serves g c in
-    rounds_live_on later (layout_in first) (D.honest (disk_in first)) all.0 begun ended (opened_place (sym first.holds.size_is) refl refl working) all.2
+    followed follows later _ all.0 _ ended all.2

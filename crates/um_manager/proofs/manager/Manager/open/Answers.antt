@@ -9,11 +9,11 @@ use Rattle.um_model.specs.Disk.{During, Images, seen}
 use Rattle.um_model.specs.Store.{body_limit}
 use Rattle.um_model.specs.declared.layout.Layout.{Layout}
 use Rattle.um_manager.specs.Opening.{Opened, Refuses, IsRefused, untaken, taken_up, IsFound, IsOfRefused, adoptions, boot_at}
-use Rattle.um_manager.specs.Living.{relying}
+use Rattle.um_manager.specs.Connections.{AllNew}
+use Rattle.um_manager.specs.Histories.{opens}
 use Rattle.um_manager.specs.Places.{Place, place_in}
 use Rattle.um_manager.specs.Turns.{now_in}
 use Rattle.um_manager.proofs.Beginning.{boot_then, opening_left, refused_left, opened_place, never_spent, asked_alone}
-use Rattle.um_manager.proofs.Continuing.{lives_from, refused_lives}
 use Rattle.um_manager.proofs.Offering.{trusts, trusted_in}
 use Rattle.um_manager.proofs.manager.Manager.open.Goals as goal
 
@@ -148,18 +148,9 @@ returns-in-Err-begin-clause-refuses g c = λ sure layout images.
     (opened_place (ap body_limit (sym same) ∙ sym c.in-Ok.ensures.sized) (sym same) (ok.2 ∙ sure) ok.0) refuses)
     (ap D.past c.into_disk.ensures) refl
 
-pub returns-in-Ok-begin-clause-life : goal.returns-in-Ok-begin-clause-life
-returns-in-Ok-begin-clause-life g c =
-    let l = c.begin.new.keeper in
-    lives_from (layout_in l) (relying (g.D.Disk.honest c.args.disk) (g.C.Children.honest c.args.children) (g.C.Children.whole c.begin.new.children))
-    c.in-Ok-begin.field-0.sessions.items l.holds.size_is (returns-in-Ok-begin-clause-opened g c)
-
-pub returns-in-Err-clause-life_err : goal.returns-in-Err-clause-life_err
-returns-in-Err-clause-life_err g c = λ sure honest whole layout images.
-    refused_lives layout (relying (g.D.Disk.honest c.args.disk) (g.C.Children.honest c.args.children) (g.C.Children.whole c.args.children)) honest whole
-    (returns-in-Err-clause-err g c sure layout images) (returns-in-Err-clause-refuses g c sure layout images)
-
-pub returns-in-Err-begin-clause-life_err : goal.returns-in-Err-begin-clause-life_err
-returns-in-Err-begin-clause-life_err g c = λ sure honest whole layout images.
-    refused_lives layout (relying (g.D.Disk.honest c.args.disk) (g.C.Children.honest c.args.children) (g.C.Children.whole c.begin.new.children)) honest whole
-    (returns-in-Err-begin-clause-err g c sure layout images) (returns-in-Err-begin-clause-refuses g c sure layout images)
+pub returns-in-Ok-begin-clause-history : goal.returns-in-Ok-begin-clause-history
+returns-in-Ok-begin-clause-history g c =
+    let sessions = c.in-Ok-begin.field-0.sessions.items in
+    let opened = returns-in-Ok-begin-clause-opened g c in
+    let anew : AllNew sessions = (c.in-Ok-begin.ensures.sessions, c.in-Ok-begin.ensures.anew) in
+    (opens sessions opened anew, (refl, refl, refl, refl, refl, refl, refl))
