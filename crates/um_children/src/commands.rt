@@ -9,10 +9,11 @@ use std::process::Command;
 use um_keeper::SpawnOrder;
 use um_model::Signal;
 
-/// Its words become a command of its own, with no stream of the manager; nobody waits for it. One that isn't there, or that nobody can
-/// execute, is told by the status. A path is looked at as it stands, since each `$(..)` is one process more.
+/// Its words behind the first become a command of its own, with no stream of the manager; nobody waits for it. What it prints is added to the file of
+/// the first word: to a regular file that is there and can be written, and else to nothing, and nobody is held up by a pipe. One that isn't there, or
+/// that nobody can execute, is told by the status. A path is looked at as it stands, since each `$(..)` is one process more.
 const DETACHING: &str =
-    "case $1 in */*) p=$1;; *) p=$(command -v \"$1\");; esac && test -f \"$p\" && test -x \"$p\" || exit 126; \"$@\" </dev/null >/dev/null 2>&1 &";
+    "o=$1; shift; case $1 in */*) p=$1;; *) p=$(command -v \"$1\");; esac && test -f \"$p\" && test -x \"$p\" || exit 126; test -f \"$o\" && true 2>/dev/null >>\"$o\" || o=/dev/null; exec </dev/null >>\"$o\" 2>&1; \"$@\" &";
 
 /// Fails where its word names no file that can be executed.
 const FINDING: &str =
@@ -70,18 +71,19 @@ fn add_place(
     add(command, &["--env-file", "--"])
 }
 
-/// The command that starts the runner at `program` for an order, in the folder. The order's environment isn't among its words, which any user
-/// may read.
+/// The command that starts the runner at `program` for an order, in the folder, and has what it prints added to the file `output`. The order's
+/// environment isn't among its words, which any user may read.
 pub fn start_command(
     alloc: Global,
+    output: &str,
     program: &str,
     folder: &str,
     order: &SpawnOrder,
 ) -> Result<Command, AllocError>
-    ensures { IfOk result (IsShell detaching (program.now ∷ runner_words folder.now order.now.number order.now.words)) }
+    ensures { IfOk result (IsShell detaching (output.now ∷ program.now ∷ runner_words folder.now order.now.number order.now.words)) }
 {
     let words = order.words(alloc)?;
-    let mut command = shell(alloc, DETACHING, &[program])?;
+    let mut command = shell(alloc, DETACHING, &[output, program])?;
     add_place(&mut command, alloc, folder, order.number().get())?;
     add_texts(&mut command, words.as_slice())?;
     Ok(command)

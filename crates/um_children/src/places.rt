@@ -59,7 +59,10 @@ fn look_at(about: &Metadata) -> Result<(), OpenFault> {
     Ok(())
 }
 
-/// Makes the folder where nothing stands there, and takes it for the manager alone.
+/// Makes the folder where nothing stands there, and takes it for the manager alone (mode 700).
+///
+/// `NoFolder` where something else stands there; `Owner` for a folder of another user than the process's effective one, `Writable` for one that its
+/// group or others may write; `System` where the system refuses it.
 pub fn take_folder<R: Files>(rt: &R, folder: &str) -> Result<(), OpenFault> {
     match DirBuilder::new().mode(MODE).create(rt, folder) {
         Ok(()) => {}

@@ -7,6 +7,7 @@ ghost use Rattle.um_children.specs.Standings.{goes_on};
 use crate::children::Children;
 use crate::commands::finding_command;
 use crate::fault::ChildFault;
+use crate::output::Output;
 use crate::places::{
     OpenFault, bar, count_unmanaged, files_in, greatest_from, standing_in, take_folder,
 };
@@ -19,9 +20,9 @@ use crate::watch::Watch;
 use std::alloc::Global;
 use std::collections::BTreeMap;
 use std::fs::Files;
-use std::mem;
 use std::process::Processes;
 use std::time::Clock;
+use std::{io, mem};
 use um_keeper::SpawnOrder;
 use um_model::{Fate, NextNumber, ProcessNumber, Signal};
 use um_runner::{RunnerFile, take_back};
@@ -39,6 +40,10 @@ pub struct RunnerDir<'a, R: Files + Processes + Clock> {
     /// The path of the runner's program.
     program: String,
     folder: String,
+    /// The folder of the files of what processes print; none where that isn't kept.
+    output: Option<&'a str>,
+    /// What was made for the output of the process that was started last.
+    printed: Output,
     known: BTreeMap<u64, Known>,
     watch: Watch,
     /// The number that was asked last.
@@ -70,6 +75,8 @@ impl<'a, R: Files + Processes + Clock> Drop for RunnerDir<'a, R> {
             alloc: _,
             program: _program,
             folder: _folder,
+            output: _,
+            printed: _printed,
             known: _known,
             watch: _,
             last: _,
@@ -148,6 +155,8 @@ impl<'a, R: Files + Processes + Clock> RunnerDir<'a, R> {
             alloc,
             program,
             folder,
+            output: None,
+            printed: Output::Nowhere,
             known: BTreeMap::new(alloc),
             watch: Watch::NEW,
             last: u64::MAX,
@@ -161,6 +170,19 @@ impl<'a, R: Files + Processes + Clock> RunnerDir<'a, R> {
             foreign: None,
             unmanaged: 0,
         })
+    }
+
+    /// From now on what a process prints goes to a new file of this folder, under its number; it has mode 600, and is removed again where the start is
+    /// refused. Where none can be made it goes to nothing, and the start is no other for that.
+    pub fn keep_output(&mut self, folder: &'a str)
+        ensures failures { self.new.failures ≡ self.old.failures }
+    {
+        self.output = Some(folder);
+    }
+
+    /// Why no file could be made for what the process prints that was started last, where none could.
+    pub fn output_fault(&self) -> Option<&io::Error> {
+        self.printed.fault()
     }
 
     /// How many calls failed. It stays at its last value.
@@ -269,10 +291,18 @@ impl<'a, R: Files + Processes + Clock> RunnerDir<'a, R> {
         }
     }
 
-    fn start(&self, order: &SpawnOrder) -> Result<(), Trouble> {
+    fn start(&mut self, order: &SpawnOrder) -> Result<(), Trouble>
+        ensures failures { self.new.failures ≡ self.old.failures }
+    {
         admit(self.foreign)?;
+        self.printed = Output::of(self.rt, self.alloc, self.output, order.number());
         let (program, folder) = (self.program.as_str(), self.folder.as_str());
-        start(self.rt, self.alloc, program, folder, order)
+        let output = self.printed.path();
+        let answer = start(self.rt, self.alloc, output, program, folder, order);
+        if answer.is_err() {
+            self.printed.take_back(self.rt);
+        }
+        answer
     }
 
     /// Looks at the folder where the number begins a round.

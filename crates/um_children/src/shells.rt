@@ -32,10 +32,12 @@ fn by_shell(error: io::Error) -> Trouble {
     Trouble::Failed(Cause::Shell(error))
 }
 
-/// Starts the runner at `program` for the order, and hands it the environment over. A runner tells nobody that it found no folder.
+/// Starts the runner at `program` for the order, with `output` as the file of what it prints, and hands it the environment over. A runner tells nobody
+/// that it found no folder.
 pub(crate) fn start<R: Files + Processes>(
     rt: &R,
     alloc: Global,
+    output: &str,
     program: &str,
     folder: &str,
     order: &SpawnOrder,
@@ -45,7 +47,7 @@ pub(crate) fn start<R: Files + Processes>(
     }
     let number = order.number();
     let entries = order.environment(alloc)?;
-    let command = start_command(alloc, program, folder, order)?;
+    let command = start_command(alloc, output, program, folder, order)?;
     hand_over(rt, alloc, folder, number, entries.as_slice())?;
     match has_run(rt, command) {
         Ok(true) => Ok(()),

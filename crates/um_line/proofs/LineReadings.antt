@@ -9,9 +9,9 @@ use Rattle.clap.specs.declared.error.kind.ErrorKind.TheVariants.{OutOfMemory}
 use Rattle.std.proofs.lemmas.Fmt.{decimal_injective}
 use Rattle.std.specs.Prelude.{decimal}
 use Rattle.std.specs.declared.alloc.AllocError.{AllocError}
-use Rattle.um_line.specs.Line.{IsNoCode, IsNoNumber, IsReadLine, last_refusal, IsToldAs, TellsMistake, umd_words, create_words, check_words, serve_words, ctl_words}
+use Rattle.um_line.specs.Line.{IsNoCode, IsNoNumber, IsReadLine, last_refusal, IsToldAs, TellsMistake, umd_words, create_words, check_words, serve_words, ctl_words, logs_words}
 use Rattle.um_line.specs.declared.line.Line.{Line}
-use Rattle.um_line.specs.declared.line.Line.TheVariants.{Memory, Run, Create, Check, Serve, LongBoot, Ctl, Help, Told, Wrong}
+use Rattle.um_line.specs.declared.line.Line.TheVariants.{Memory, Run, Create, Check, Serve, LongBoot, Ctl, Logs, Help, Told, Wrong}
 
 -- the words of the program are simple ones
 pub umd_simple : is_simple_and_free umd_words ≡ true
@@ -50,6 +50,14 @@ pub ctl_plain : is_simple ctl_words ≡ true
 unfolding clap_on_literals
 ctl_plain = refl
 
+pub logs_simple : is_simple_and_free logs_words ≡ true
+unfolding clap_on_literals
+logs_simple = refl
+
+pub logs_plain : is_simple logs_words ≡ true
+unfolding clap_on_literals
+logs_plain = refl
+
 told : (mistakes : Kinds) (kind : ErrorKind) (line : Line) → IsAmong kind mistakes → IsToldAs kind line → TellsMistake mistakes line
 told mistakes kind (Told text) among (inl is) = inl (subst (λ k. IsAmong k mistakes) is among)
 told mistakes kind (Told text) among (inr is) = inr (subst (λ k. IsAmong k mistakes) is among)
@@ -61,6 +69,7 @@ told mistakes kind (Check line) among is = absurd is
 told mistakes kind (Serve line) among is = absurd is
 told mistakes kind LongBoot among is = absurd is
 told mistakes kind (Ctl line) among is = absurd is
+told mistakes kind (Logs line) among is = absurd is
 told mistakes kind (Help n) among is = absurd is
 
 -- a mistake is told

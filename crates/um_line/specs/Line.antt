@@ -10,9 +10,10 @@ use Rattle.clap.specs.declared.error.kind.ErrorKind.TheVariants.{DisplayHelp, Di
 use Rattle.um_line.specs.declared.check.CheckLine.{CheckLine}
 use Rattle.um_line.specs.declared.create.CreateLine.{CreateLine}
 use Rattle.um_line.specs.declared.ctl.CtlLine.{CtlLine}
+use Rattle.um_line.specs.declared.logs.LogsLine.{LogsLine}
 use Rattle.um_line.specs.declared.serve.ServeLine.{ServeLine}
 use Rattle.um_line.specs.declared.line.Line.{Line}
-use Rattle.um_line.specs.declared.line.Line.TheVariants.{Memory, Run, Create, Check, Serve, LongBoot, Ctl, Help, Told, Wrong}
+use Rattle.um_line.specs.declared.line.Line.TheVariants.{Memory, Run, Create, Check, Serve, LongBoot, Ctl, Logs, Help, Told, Wrong}
 use Rattle.um_line.specs.declared.line.Subcommand.{Subcommand}
 use Rattle.um_line.specs.declared.line.Subcommand.TheVariants as sub
 use Rattle.um_runner.specs.Jobs.{entries_of, words_of}
@@ -36,6 +37,14 @@ optional_rule name = record (new_rule name) { long = Some name; value_names = 1 
 abbrev pub flag_rule : List ℕ → Rule
 flag_rule name = record (new_rule name) { long = Some name; action = Some SetTrue }
 
+-- an option of one letter that may be left out
+abbrev pub letter_rule : List ℕ → ℕ → Rule
+letter_rule name letter = record (new_rule name) { short = Some letter; value_names = 1 }
+
+-- a flag of one letter that may be left out
+abbrev pub letter_flag_rule : List ℕ → ℕ → Rule
+letter_flag_rule name letter = record (new_rule name) { short = Some letter; action = Some SetTrue }
+
 -- words of which one has to be given at least
 abbrev pub words_rule : List ℕ → Rule
 words_rule name = record (new_rule name) { required = true; value_names = 1; action = Some Append }
@@ -57,17 +66,24 @@ create_words =
 abbrev pub check_words : App
 check_words = with_rule (with_rule (new_app (codes "umd check")) (flag_rule (codes "units"))) (word_rule (codes "file"))
 
--- the words of `umd serve`: what is started behind a new boot may be left out
+-- the words of `umd serve`: what is started behind a new boot may be left out, and where output is kept, and how much
 abbrev pub serve_words : App
 serve_words =
-    with_rule (with_rule (with_rule (with_rule (with_rule (with_rule (new_app (codes "umd serve")) (option_rule (codes "boot"))) (option_rule (codes "socket")))
-    (option_rule (codes "dir"))) (option_rule (codes "runner"))) (optional_rule (codes "start"))) (word_rule (codes "file"))
+    with_rule (with_rule (with_rule (with_rule (with_rule (with_rule (with_rule (with_rule (new_app (codes "umd serve")) (option_rule (codes "boot")))
+    (option_rule (codes "socket"))) (option_rule (codes "dir"))) (option_rule (codes "runner"))) (optional_rule (codes "start")))
+    (optional_rule (codes "output"))) (optional_rule (codes "output-size"))) (word_rule (codes "file"))
 
 -- the words of `umd ctl`: the socket, two times and a mode that may be left out, and a verb with its arguments
 abbrev pub ctl_words : App
 ctl_words =
     with_rule (with_rule (with_rule (with_rule (with_rule (new_app (codes "umd ctl")) (option_rule (codes "socket"))) (optional_rule (codes "retry")))
     (optional_rule (codes "timeout"))) (optional_rule (codes "mode"))) (words_rule (codes "word"))
+
+-- the words of `umd logs`: where output is kept, how many lines, and two flags may be left out; and a unit
+abbrev pub logs_words : App
+logs_words =
+    with_rule (with_rule (with_rule (with_rule (with_rule (new_app (codes "umd logs")) (optional_rule (codes "output"))) (letter_rule (codes "lines") 110))
+    (letter_flag_rule (codes "follow") 102)) (flag_rule (codes "raw"))) (word_rule (codes "unit"))
 
 -- ---- mistakes
 
@@ -131,6 +147,38 @@ IsTime text (Some seconds) = IsNumber 1 most_seconds seconds text
 -- a time was told, and is no number within its limits
 abbrev pub IsNoTime : Option (List ℕ) → Type 0
 IsNoTime text = (text ≢ None) × IsNoNumber 1 most_seconds text
+
+-- the bytes of a file of output that are kept, where nothing else is told
+abbrev pub usual_size : ℕ
+usual_size = 2 ^ 20
+
+-- the least that may be told, and the most
+abbrev pub least_size : ℕ
+least_size = 4096
+
+abbrev pub most_size : ℕ
+most_size = 2 ^ 24
+
+-- a size that may be left out: it was, and is the usual one, or it is this number within its limits
+abbrev pub IsSize : Option (List ℕ) → ℕ → Type 0
+IsSize text size = ((text ≡ None) × (size ≡ usual_size)) ⊎ IsNumber least_size most_size size text
+
+-- a size was told, and is no number within its limits
+abbrev pub IsNoSize : Option (List ℕ) → Type 0
+IsNoSize text = (text ≢ None) × IsNoNumber least_size most_size text
+
+-- the most lines of output that are asked for by a number
+abbrev pub most_lines : ℕ
+most_lines = 1000000
+
+-- a number of lines that may be left out: it was, or it is this number within its limits
+abbrev pub IsCount : Option (List ℕ) → Option ℕ → Type 0
+IsCount text None = text ≡ None
+IsCount text (Some lines) = IsNumber 0 most_lines lines text
+
+-- a number of lines was told, and is none within its limits
+abbrev pub IsNoCount : Option (List ℕ) → Type 0
+IsNoCount text = (text ≢ None) × IsNoNumber 0 most_lines text
 
 -- the longest id of a boot, in bytes
 abbrev pub boot_limit : ℕ
@@ -210,13 +258,15 @@ abbrev pub IsServe : List Row → ServeLine → Type 0
 IsServe rows line =
     (first_of (codes "boot") rows ≡ Some line.boot.now) × (first_of (codes "socket") rows ≡ Some line.socket.now)
     × (first_of (codes "dir") rows ≡ Some line.dir.now) × (first_of (codes "runner") rows ≡ Some line.runner.now)
-    × (first_of (codes "start") rows ≡ option_map (λ unit. unit.now) line.start) × (first_of (codes "file") rows ≡ Some line.file.now)
+    × (first_of (codes "start") rows ≡ option_map (λ unit. unit.now) line.start)
+    × (first_of (codes "output") rows ≡ option_map (λ folder. folder.now) line.output) × IsSize (first_of (codes "output-size") rows) line.output_size
+    × (first_of (codes "file") rows ≡ Some line.file.now)
 
--- a word is missing
+-- a word is missing, or the size of output isn't within its limits
 abbrev pub IsNoServe : List Row → Type 0
 IsNoServe rows =
     (first_of (codes "boot") rows ≡ None) ⊎ (first_of (codes "socket") rows ≡ None) ⊎ (first_of (codes "dir") rows ≡ None)
-    ⊎ (first_of (codes "runner") rows ≡ None) ⊎ (first_of (codes "file") rows ≡ None)
+    ⊎ (first_of (codes "runner") rows ≡ None) ⊎ IsNoSize (first_of (codes "output-size") rows) ⊎ (first_of (codes "file") rows ≡ None)
 
 -- what they ask for by these values; a long id of a boot is refused as a request would be
 abbrev pub TakesServe : List Row → Line → Type 0
@@ -252,6 +302,27 @@ TakesCtl rows other = ⊥
 abbrev pub IsCtlLine : List (List ℕ) → Line → Type 0
 IsCtlLine words = IsReadLine (fault_of ctl_words words) (TakesCtl (matches_of ctl_words words))
 
+-- a unit whose output is asked for, where it is kept, how many of its last lines, and whether it is followed and put out as it is
+abbrev pub IsLogs : List Row → LogsLine → Type 0
+IsLogs rows line =
+    (first_of (codes "output") rows ≡ option_map (λ folder. folder.now) line.output) × IsCount (first_of (codes "lines") rows) line.lines
+    × ((line.follows ≡ true) ↔ (first_of (codes "follow") rows ≡ Some (codes "true")))
+    × ((line.is_raw ≡ true) ↔ (first_of (codes "raw") rows ≡ Some (codes "true"))) × (first_of (codes "unit") rows ≡ Some line.unit.now)
+
+-- the unit is missing, or the number of lines isn't within its limits
+abbrev pub IsNoLogs : List Row → Type 0
+IsNoLogs rows = IsNoCount (first_of (codes "lines") rows) ⊎ (first_of (codes "unit") rows ≡ None)
+
+-- what they ask for by these values
+abbrev pub TakesLogs : List Row → Line → Type 0
+TakesLogs rows (Logs line) = IsLogs rows line
+TakesLogs rows (Wrong text) = IsNoLogs rows
+TakesLogs rows other = ⊥
+
+-- what the words from `logs` on ask for
+abbrev pub IsLogsLine : List (List ℕ) → Line → Type 0
+IsLogsLine words = IsReadLine (fault_of logs_words words) (TakesLogs (matches_of logs_words words))
+
 -- the word for a refusal: an `E` and its number in decimal digits
 abbrev pub IsCode : ℕ → List ℕ → Type 0
 IsCode n word = (word ≡ 69 ∷ decimal n) × (1 ≤ n) × (n ≤ last_refusal)
@@ -277,7 +348,8 @@ named (Some word) =
     else (if bytes_eq word (codes "check") then sub.Check
     else (if bytes_eq word (codes "serve") then sub.Serve
     else (if bytes_eq word (codes "ctl") then sub.Ctl
-    else (if bytes_eq word (codes "help") then sub.Help else sub.Nothing)))))
+    else (if bytes_eq word (codes "logs") then sub.Logs
+    else (if bytes_eq word (codes "help") then sub.Help else sub.Nothing))))))
 
 -- the subcommand behind the program's name
 abbrev pub subcommand_of : List (List ℕ) → Subcommand
@@ -289,6 +361,7 @@ IsLineBy sub.Create words = IsCreateLine (drop 1 words)
 IsLineBy sub.Check words = IsCheckLine (drop 1 words)
 IsLineBy sub.Serve words = IsServeLine (drop 1 words)
 IsLineBy sub.Ctl words = IsCtlLine (drop 1 words)
+IsLineBy sub.Logs words = IsLogsLine (drop 1 words)
 IsLineBy sub.Help words = IsHelpLine (drop 1 (drop 1 words))
 IsLineBy sub.Nothing words = IsTopLine words
 

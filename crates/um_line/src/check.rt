@@ -1,12 +1,12 @@
 //! The words of `umd check`.
 
-ghost use Rattle.std.specs.Prelude.{◌≡◌, ◌↔◌, Some, IfOk, IsTrue, codes, map, string_bytes};
-ghost use Rattle.clap.specs.Words.{app_of, first_of, found_of, rows_of};
+ghost use Rattle.std.specs.Prelude.{◌≡◌, IfOk, map, string_bytes};
+ghost use Rattle.clap.specs.Words.{app_of, found_of, rows_of};
 ghost use Rattle.um_line.specs.Line.{check_words, IsCheckLine, TakesCheck};
 
 use crate::line::Line;
 use crate::mistake::line_of_mistake;
-use crate::values::{described, flag, value, with_word};
+use crate::values::{described, flag, is_given, value, with_word};
 use clap::{ArgMatches, Command};
 use std::alloc::{AllocError, Global};
 
@@ -51,13 +51,6 @@ fn command<'a>(alloc: Global) -> Result<Command<'a>, AllocError>
     );
     let command = command.arg(flag(alloc, "units", UNITS_HELP))?;
     with_word(command, alloc, "file", "FILE", "The store")
-}
-
-/// Whether the flag was given.
-fn is_given(matches: &ArgMatches<'_>, name: &str) -> bool
-    ensures { IsTrue result ↔ (first_of name.now (rows_of (found_of matches.now)) ≡ Some (codes "true")) }
-{
-    value(matches, name) == Some("true")
 }
 
 /// What the words ask for that hold these values.

@@ -5,6 +5,7 @@ use crate::check::{CheckLine, read_check};
 use crate::create::{CreateLine, read_create};
 use crate::ctl::{CtlLine, read_ctl};
 use crate::help::read_help;
+use crate::logs::{LogsLine, read_logs};
 use crate::run::read_run;
 use crate::serve::{ServeLine, read_serve};
 use crate::top::read_top;
@@ -28,6 +29,8 @@ pub enum Line<'a> {
     LongBoot,
     /// To ask the manager at a socket.
     Ctl(CtlLine<'a>),
+    /// To print what a unit's processes printed.
+    Logs(LogsLine<'a>),
     /// To be told what the refusal of this number means, 1 to 22.
     Help(u32),
     /// To be told something: the help or the version, for standard output.
@@ -44,6 +47,7 @@ pub enum Subcommand {
     Check,
     Serve,
     Ctl,
+    Logs,
     Help,
     /// Another word, or none.
     Nothing,
@@ -63,6 +67,8 @@ fn named(word: &str) -> Subcommand
         Subcommand::Serve
     } else if word == "ctl" {
         Subcommand::Ctl
+    } else if word == "logs" {
+        Subcommand::Logs
     } else if word == "help" {
         Subcommand::Help
     } else {
@@ -102,6 +108,7 @@ pub fn read_line<'a>(alloc: Global, words: &'a [String]) -> Result<Line<'a>, All
         Subcommand::Check => read_check(alloc, behind(words)),
         Subcommand::Serve => read_serve(alloc, behind(words)),
         Subcommand::Ctl => read_ctl(alloc, behind(words)),
+        Subcommand::Logs => read_logs(alloc, behind(words)),
         Subcommand::Help => read_help(alloc, behind(behind(words))),
         Subcommand::Nothing => read_top(alloc, words),
     }

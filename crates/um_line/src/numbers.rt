@@ -1,7 +1,7 @@
 //! Numbers among the words.
 
 ghost use Rattle.std.specs.Prelude.{◌≡◌, MatchOption, option_map};
-ghost use Rattle.um_line.specs.Line.{IsNumber, IsNoNumber, IsTime, IsNoTime};
+ghost use Rattle.um_line.specs.Line.{IsCount, IsNoCount, IsNumber, IsNoNumber, IsSize, IsNoSize, IsTime, IsNoTime};
 
 use um_runner::number_in;
 
@@ -31,4 +31,35 @@ pub fn time(text: Option<&str>) -> Option<Option<u32>>
     }
     let seconds = limited(text, 1, MOST_SECONDS)?;
     Some(Some(seconds))
+}
+
+/// The bytes of a file of output that are kept where nothing else is told, and the least and the most of them.
+const USUAL_SIZE: u32 = 1 << 20;
+
+const LEAST_SIZE: u32 = 4096;
+
+const MOST_SIZE: u32 = 1 << 24;
+
+/// How many bytes of a file of output are kept, 4,096 to 2^24; 2^20 where nothing is told. None for another text.
+pub fn size(text: Option<&str>) -> Option<u32>
+    ensures { MatchOption result (IsNoSize (option_map (λ s. s.now) text.entry)) (IsSize (option_map (λ s. s.now) text.entry)) }
+{
+    if text.is_none() {
+        return Some(USUAL_SIZE);
+    }
+    limited(text, LEAST_SIZE, MOST_SIZE)
+}
+
+/// The most lines that are asked for by a number.
+const MOST_LINES: u32 = 1_000_000;
+
+/// A number of lines, 0 to 1,000,000, or that none was told. None for another text.
+pub fn count(text: Option<&str>) -> Option<Option<u32>>
+    ensures { MatchOption result (IsNoCount (option_map (λ s. s.now) text.entry)) (IsCount (option_map (λ s. s.now) text.entry)) }
+{
+    if text.is_none() {
+        return Some(None);
+    }
+    let lines = limited(text, 0, MOST_LINES)?;
+    Some(Some(lines))
 }

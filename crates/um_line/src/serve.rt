@@ -6,6 +6,7 @@ ghost use Rattle.um_line.specs.Line.{serve_words, IsServeLine, TakesServe};
 
 use crate::line::Line;
 use crate::mistake::line_of_mistake;
+use crate::numbers::size;
 use crate::values::{described, value, with_option, with_optional, with_word};
 use clap::{ArgMatches, Command};
 use std::alloc::{AllocError, Global};
@@ -23,6 +24,10 @@ pub struct ServeLine<'a> {
     pub runner: &'a str,
     /// The unit that is started where nothing ran yet since the boot: what `--start` told.
     pub start: Option<&'a str>,
+    /// The folder in which the output of processes is kept: what `--output` told.
+    pub output: Option<&'a str>,
+    /// So many bytes of a process's output are kept, and up to as many again: 4,096 to 2^24.
+    pub output_size: u32,
     /// The path of the store.
     pub file: &'a str,
 }
@@ -33,7 +38,15 @@ const BOOT_LIMIT: usize = 64;
 /// What is told where a word is missing.
 const USAGE: &str = "error: a word is missing
 
-Usage: umd serve --boot <ID> --socket <PATH> --dir <DIR> --runner <PATH> [--start <UNIT>] <FILE>
+Usage: umd serve --boot <ID> --socket <PATH> --dir <DIR> --runner <PATH> [--start <UNIT>] [--output <OUT> [--output-size <BYTES>]] <FILE>
+
+For more information, try '--help'.
+";
+
+/// What is told where the size of output isn't within its limits.
+const NO_SIZE: &str = "error: --output-size is 4096 to 16777216 bytes
+
+Usage: umd serve --boot <ID> --socket <PATH> --dir <DIR> --runner <PATH> [--start <UNIT>] [--output <OUT> [--output-size <BYTES>]] <FILE>
 
 For more information, try '--help'.
 ";
@@ -51,17 +64,23 @@ const DIR_HELP: &str =
 const START_HELP: &str =
     "The unit to start where nothing ran yet since the boot: no unit has an entry in the state, and no job is pending. So it is started behind a new boot, and again where the manager was killed before the start was recorded, and never once anything ran. What it wants and can't have is left out, as with start; a refusal is told, and the store is served all the same";
 
+const OUTPUT_HELP: &str =
+    "The folder in which what services print is kept, made where it isn't there; umd logs prints it. Left out: what they print is lost";
+
+const SIZE_HELP: &str =
+    "So many of the last bytes of what a process prints are kept, and up to as many again, 4096 to 16777216; 1048576 where it is left out";
+
 const AFTER_HELP: &str =
     "It serves until TERM, or another signal, ends it. The processes of its services run on; served again with the same id of the boot, the store has them again.
 
 Everything but units with DefaultDependencies=no is stopped by umd ctl start shutdown.target.
 
-Services run as the user of umd serve. Their standard input and output and their standard error are /dev/null.
+Services run as the user of umd serve. Their standard input is /dev/null. Their standard output and error are too, but with --output: then both go to a file of the process, OUT/UNIT/N by its number N; how it ended stands in OUT/UNIT/ends, a line each. Of a unit the files of its processes that run stay, and those of the four that ended last.
 
 What fails is told on standard error. Exit statuses: 1 refused, with a line of what the refusal means; 2 wrong words; 5 a file, the folder, the socket or the disk failed.
 
 For example:
-  umd serve --boot \"$(cat /proc/sys/kernel/random/boot_id)\" --socket /run/umd/socket --dir /run/umd --runner /usr/bin/umd --start default.target /var/lib/umd/store";
+  umd serve --boot \"$(cat /proc/sys/kernel/random/boot_id)\" --socket /run/umd/socket --dir /run/umd --runner /usr/bin/umd --start default.target --output /var/log/umd /var/lib/umd/store";
 
 /// The words that it takes.
 fn command<'a>(alloc: Global) -> Result<Command<'a>, AllocError>
@@ -70,7 +89,7 @@ fn command<'a>(alloc: Global) -> Result<Command<'a>, AllocError>
     let command = described(
         alloc,
         "umd serve",
-        "umd serve --boot <ID> --socket <PATH> --dir <DIR> --runner <PATH> [--start <UNIT>] <FILE>",
+        "umd serve --boot <ID> --socket <PATH> --dir <DIR> --runner <PATH> [--start <UNIT>] [--output <OUT> [--output-size <BYTES>]] <FILE>",
         "Serves a store over a socket",
         AFTER_HELP,
     );
@@ -79,6 +98,8 @@ fn command<'a>(alloc: Global) -> Result<Command<'a>, AllocError>
     let command = with_option(command, alloc, "dir", "DIR", DIR_HELP)?;
     let command = with_option(command, alloc, "runner", "PATH", RUNNER_HELP)?;
     let command = with_optional(command, alloc, "start", "UNIT", START_HELP)?;
+    let command = with_optional(command, alloc, "output", "OUT", OUTPUT_HELP)?;
+    let command = with_optional(command, alloc, "output-size", "BYTES", SIZE_HELP)?;
     with_word(command, alloc, "file", "FILE", "The store")
 }
 
@@ -102,6 +123,9 @@ fn serve_line<'a>(alloc: Global, matches: &ArgMatches<'a>) -> Result<Line<'a>, A
     let Some(runner) = value(matches, "runner") else {
         return Ok(Line::Wrong(usage(alloc)?));
     };
+    let Some(output_size) = size(value(matches, "output-size")) else {
+        return Ok(Line::Wrong(String::from_str(alloc, NO_SIZE)?));
+    };
     let Some(file) = value(matches, "file") else {
         return Ok(Line::Wrong(usage(alloc)?));
     };
@@ -114,6 +138,8 @@ fn serve_line<'a>(alloc: Global, matches: &ArgMatches<'a>) -> Result<Line<'a>, A
         dir,
         runner,
         start: value(matches, "start"),
+        output: value(matches, "output"),
+        output_size,
         file,
     }))
 }

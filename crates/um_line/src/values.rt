@@ -1,8 +1,8 @@
 //! Options and words, and the values that they were given.
 
-ghost use Rattle.std.specs.Prelude.{◌≡◌, IfOk, false, map, option_map};
+ghost use Rattle.std.specs.Prelude.{◌≡◌, ◌↔◌, Some, IfOk, IsTrue, codes, false, map, option_map};
 ghost use Rattle.clap.specs.Words.{all_of, app_of, first_of, found_of, new_app, rows_of, rule_of, with_rule};
-ghost use Rattle.um_line.specs.Line.{flag_rule, option_rule, optional_rule, word_rule, words_rule};
+ghost use Rattle.um_line.specs.Line.{flag_rule, letter_flag_rule, letter_rule, option_rule, optional_rule, word_rule, words_rule};
 
 use clap::{Arg, ArgAction, ArgMatches, Command};
 use std::alloc::{AllocError, Global};
@@ -107,6 +107,73 @@ pub fn flag<'a>(alloc: Global, name: &'a str, help: &'a str) -> Arg<'a>
         .action(ArgAction::SetTrue)
 }
 
+/// An option of one letter, which may be left out.
+pub fn letter<'a>(
+    alloc: Global,
+    name: &'a str,
+    short: char,
+    value: &'a str,
+    help: &'a str,
+) -> Arg<'a>
+    ensures rule { rule_of result ≡ letter_rule name.entry.now short }
+    ensures local { result.global ≡ false }
+{
+    Arg::new(alloc, name)
+        .short(short)
+        .value_name(value)
+        .help(help)
+}
+
+/// A flag of one letter, which may be left out.
+pub fn letter_flag<'a>(alloc: Global, name: &'a str, short: char, help: &'a str) -> Arg<'a>
+    ensures rule { rule_of result ≡ letter_flag_rule name.entry.now short }
+    ensures local { result.global ≡ false }
+{
+    Arg::new(alloc, name)
+        .short(short)
+        .help(help)
+        .action(ArgAction::SetTrue)
+}
+
+/// The command with an option of one letter more, which may be left out.
+pub fn with_letter<'a>(
+    command: Command<'a>,
+    alloc: Global,
+    name: &'a str,
+    short: char,
+    value: &'a str,
+    help: &'a str,
+) -> Result<Command<'a>, AllocError>
+    ensures { IfOk result (λ c. app_of c ≡ with_rule (app_of command.entry) (letter_rule name.entry.now short)) }
+{
+    command.arg(letter(alloc, name, short, value, help))
+}
+
+/// The command with a flag of one letter more, which may be left out.
+pub fn with_letter_flag<'a>(
+    command: Command<'a>,
+    alloc: Global,
+    name: &'a str,
+    short: char,
+    help: &'a str,
+) -> Result<Command<'a>, AllocError>
+    ensures { IfOk result (λ c. app_of c ≡ with_rule (app_of command.entry) (letter_flag_rule name.entry.now short)) }
+{
+    command.arg(letter_flag(alloc, name, short, help))
+}
+
+/// The command with a flag more, which may be left out.
+pub fn with_flag<'a>(
+    command: Command<'a>,
+    alloc: Global,
+    name: &'a str,
+    help: &'a str,
+) -> Result<Command<'a>, AllocError>
+    ensures { IfOk result (λ c. app_of c ≡ with_rule (app_of command.entry) (flag_rule name.entry.now)) }
+{
+    command.arg(flag(alloc, name, help))
+}
+
 /// Words of which one has to be given at least.
 pub fn words<'a>(alloc: Global, name: &'a str, value: &'a str, help: &'a str) -> Arg<'a>
     ensures rule { rule_of result ≡ words_rule name.entry.now }
@@ -137,6 +204,13 @@ pub fn value<'a>(matches: &ArgMatches<'a>, name: &str) -> Option<&'a str>
     ensures { option_map (λ s. s.now) result ≡ first_of name.now (rows_of (found_of matches.now)) }
 {
     matches.get_str(name)
+}
+
+/// Whether the flag was given.
+pub fn is_given(matches: &ArgMatches<'_>, name: &str) -> bool
+    ensures { IsTrue result ↔ (first_of name.now (rows_of (found_of matches.now)) ≡ Some (codes "true")) }
+{
+    value(matches, name) == Some("true")
 }
 
 /// The values of a word that may stand several times.

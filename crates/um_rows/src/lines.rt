@@ -20,6 +20,7 @@ fn asked<'a>(line: &'a Line<'_>) -> (&'static str, &'a str) {
         Line::Check(_) => ("check", ""),
         Line::Ctl(_) => ("ctl", ""),
         Line::Serve(_) => ("serve", ""),
+        Line::Logs(_) => ("logs", ""),
         Line::Told(told) => ("to be told", told.as_str()),
         Line::Wrong(told) => ("wrong", told.as_str()),
         Line::Help(1) => ("E1", ""),
@@ -103,6 +104,33 @@ const MANAGERS: &[Row] = &[
     ),
 ];
 
+/// Words about output.
+const OUTPUTS: &[Row] = &[
+    ("umd logs x", "logs", ""),
+    ("umd logs x -f --raw -n 0 --output o", "logs", ""),
+    ("umd logs -n1000000 x", "logs", ""),
+    ("umd logs -n 1000001 x", "wrong", "0 to 1000000"),
+    ("umd logs -n 01 x", "wrong", "0 to 1000000"),
+    ("umd logs", "wrong", "<UNIT>"),
+    ("umd logs x y", "wrong", ""),
+    ("umd logs -f -f x", "wrong", ""),
+    (
+        "umd serve --boot b --socket s --dir d --runner r --output o --output-size 4096 f",
+        "serve",
+        "",
+    ),
+    (
+        "umd serve --boot b --socket s --dir d --runner r --output o --output-size 4095 f",
+        "wrong",
+        "4096 to 16777216",
+    ),
+    (
+        "umd serve --boot b --socket s --dir d --runner r --output-size 16777217 f",
+        "wrong",
+        "4096 to 16777216",
+    ),
+];
+
 /// Words about the help for a refusal.
 const HELPS: &[Row] = &[
     ("umd help E1", "E1", ""),
@@ -179,7 +207,7 @@ fn asks(rt: &(impl AllocGlobal + Abort), text: &str, wanted: &str, part: &str) {
 
 #[test]
 fn words_ask_for_one_thing(rt: HostRuntime) {
-    for rows in [TOLD, CHECKS, MANAGERS, HELPS, RUNS, OTHERS] {
+    for rows in [TOLD, CHECKS, MANAGERS, OUTPUTS, HELPS, RUNS, OTHERS] {
         for (text, wanted, part) in rows {
             asks(&rt, text, wanted, part);
         }

@@ -1,9 +1,12 @@
 //! The program `umd`: `--memory` answers the frames of standard input on standard output, `create` makes a store, `check` looks at one, `ctl` asks a
-//! manager, `run` runs a command for the manager, `serve` serves a store over a socket, `help` says what a refusal means.
+//! manager, `run` runs a command for the manager, `serve` serves a store over a socket, `logs` prints what services printed, `help` says what a refusal
+//! means.
 #![tactic(auto)]
 
 mod checking;
+mod keeping;
 mod lines;
+mod logging;
 mod messages;
 mod places;
 mod repeats;
@@ -14,6 +17,7 @@ mod um_bin;
 mod waking;
 
 use checking::check;
+use logging::logs;
 use messages::{DEVICE, REFUSED, USAGE, ctl_fault, put_text, report, status_of, tell_create};
 use serving::serve_store;
 use std::alloc::{AllocError, Global};
@@ -39,6 +43,15 @@ fn serve_memory<R: Input + Print>(rt: &R, alloc: Global) -> Result<u8, Fault> {
         Ending::Inside => Ok(USAGE),
         Ending::TooLong => Ok(REFUSED),
     }
+}
+
+/// What a run of the program is given beside its words.
+#[derive(Clone, Copy)]
+struct Surroundings<'a> {
+    /// Standard output is a terminal.
+    is_terminal: bool,
+    /// What the variable UMD_OUTPUT holds.
+    output: Option<&'a str>,
 }
 
 /// Runs a command for the manager, and notes in a folder what becomes of it.
@@ -188,7 +201,12 @@ fn put_refusal<R: Eprint>(rt: &R) -> u8 {
     REFUSED
 }
 
-fn run_line<R>(rt: &R, alloc: Global, line: &Line<'_>, is_terminal: bool) -> Result<u8, Fault>
+fn run_line<R>(
+    rt: &R,
+    alloc: Global,
+    line: &Line<'_>,
+    surroundings: Surroundings<'_>,
+) -> Result<u8, Fault>
 where
     R: Input + Print + Eprint + Files<File = File> + Net + Processes + Clock,
 {
@@ -197,7 +215,8 @@ where
         Line::Run(line) => run_runner(rt, alloc, line),
         Line::Create(line) => Ok(create(rt, alloc, line)),
         Line::Check(line) => check(rt, alloc, line),
-        Line::Ctl(line) => ctl(rt, alloc, line, is_terminal),
+        Line::Ctl(line) => ctl(rt, alloc, line, surroundings.is_terminal),
+        Line::Logs(line) => logs(rt, alloc, line, surroundings.output),
         Line::Serve(line) => Ok(serve_store(rt, alloc, line)),
         Line::Help(number) => explain(rt, alloc, *number),
         Line::LongBoot => Ok(put_refusal(rt)),
@@ -207,12 +226,17 @@ where
 }
 
 /// Reads the words, and does what they ask for.
-fn run_words<R>(rt: &R, alloc: Global, words: &[String], is_terminal: bool) -> Result<u8, Fault>
+fn run_words<R>(
+    rt: &R,
+    alloc: Global,
+    words: &[String],
+    surroundings: Surroundings<'_>,
+) -> Result<u8, Fault>
 where
     R: Input + Print + Eprint + Files<File = File> + Net + Processes + Clock,
 {
     let line = read(alloc, words)?;
-    run_line(rt, alloc, &line, is_terminal)
+    run_line(rt, alloc, &line, surroundings)
 }
 
 /// Runs the program, whose standard output is a terminal or not, and gives its exit status.
@@ -225,7 +249,12 @@ where
     match env::args(rt) {
         Ok(args) => {
             let words: Vec<String> = args.collect(alloc)?;
-            run_words(rt, alloc, words.as_slice(), is_terminal)
+            let output = env::var(rt, "UMD_OUTPUT").ok();
+            let surroundings = Surroundings {
+                is_terminal,
+                output: output.as_deref(),
+            };
+            run_words(rt, alloc, words.as_slice(), surroundings)
         }
         Err(e) => match e.kind() {
             ErrorKind::OutOfMemory => Err(Fault::NoMemory),

@@ -1,4 +1,4 @@
-//! The places that a server is given: its store, the folder of its processes and its socket.
+//! The places that a server is given: its store, the folder of its processes, its socket, and the folder of output.
 
 use crate::messages::{DEVICE, REFUSED, USAGE, tell_ending};
 use std::alloc::Global;
@@ -10,7 +10,7 @@ use std::path::Path;
 use std::process::Processes;
 use std::time::{Clock, Duration};
 use std::{fs, thread};
-use um_children::RunnerDir;
+use um_children::{OpenFault, RunnerDir, take_folder};
 use um_filedisk::{DirectoryLock, FileDisk, FileFault, is_same_place};
 use um_gate::look_at_socket;
 use um_line::ServeLine;
@@ -51,6 +51,8 @@ pub struct Taken<'a, R: Files + Processes + Clock> {
     pub children: RunnerDir<'a, R>,
     /// No other manager has the folder for as long as it is held.
     pub lock: DirectoryLock,
+    /// Nor the folder of output, where there is one.
+    pub output_lock: Option<DirectoryLock>,
 }
 
 /// Says that something that is needed isn't there, and gives the exit status.
@@ -90,7 +92,24 @@ pub fn news_in<E: Eprint>(alloc: Global, lines: &E, dir: &str) -> Result<String,
     }
 }
 
-/// Sees that store, folder and socket are three places, and the socket in the folder by which runners wake the manager another one.
+/// Sees that the folder of output, where there is one, is another place than this.
+fn is_output_apart<R: Files, E: Eprint>(
+    rt: &R,
+    lines: &E,
+    output: Option<&str>,
+    other: Place<'_>,
+) -> Result<(), u8> {
+    let Some(path) = output else {
+        return Ok(());
+    };
+    let output = Place {
+        word: "--output",
+        path,
+    };
+    are_apart(rt, lines, output, other)
+}
+
+/// Sees that store, folder, socket and the folder of output are four places, and the socket in the folder by which runners wake the manager another one.
 fn are_all_apart<R: Files, E: Eprint>(
     rt: &R,
     lines: &E,
@@ -118,7 +137,11 @@ fn are_all_apart<R: Files, E: Eprint>(
         path: path.as_str(),
     };
     are_apart(rt, lines, socket, news)?;
-    are_apart(rt, lines, store, news)
+    are_apart(rt, lines, store, news)?;
+    is_output_apart(rt, lines, line.output, store)?;
+    is_output_apart(rt, lines, line.output, folder)?;
+    is_output_apart(rt, lines, line.output, socket)?;
+    is_output_apart(rt, lines, line.output, news)
 }
 
 /// Waits until the next try.
@@ -204,7 +227,7 @@ fn take_free_folder<R: Files<File = File> + Net + Clock, E: Eprint>(
 }
 
 /// Sees that the socket is free, and takes the folder and its lock.
-fn take_folder<'a, R, E>(
+fn take_processes<'a, R, E>(
     rt: &'a R,
     lines: &E,
     alloc: Global,
@@ -230,6 +253,51 @@ where
     }
 }
 
+/// Why the folder of output isn't taken.
+fn lacks_output<R: Eprint>(rt: &R, path: &str, fault: &OpenFault) -> u8 {
+    match fault {
+        OpenFault::Owner => lacks(rt, path, &"the folder of output is another user's"),
+        OpenFault::Writable => lacks(rt, path, &"others may write the folder of output"),
+        fault => lacks(rt, path, fault),
+    }
+}
+
+/// Takes the folder of output and its lock, where there is one.
+fn take_output<R: Files<File = File> + Clock, E: Eprint>(
+    rt: &R,
+    lines: &E,
+    output: Option<&str>,
+) -> Result<Option<DirectoryLock>, u8> {
+    let Some(path) = output else {
+        return Ok(None);
+    };
+    if let Err(fault) = take_folder(rt, path) {
+        return Err(lacks_output(lines, path, &fault));
+    }
+    Ok(Some(lock_folder(rt, lines, path)?))
+}
+
+/// Takes both folders and their locks, and sees that the socket is free.
+fn take_folders<'a, R, E>(
+    rt: &'a R,
+    lines: &E,
+    alloc: Global,
+    line: &ServeLine<'a>,
+) -> Result<(RunnerDir<'a, R>, DirectoryLock, Option<DirectoryLock>), u8>
+where
+    R: Files<File = File> + Net + Processes + Clock,
+    E: Eprint,
+{
+    let output_lock = take_output(rt, lines, line.output)?;
+    match take_processes(rt, lines, alloc, line) {
+        Ok((children, lock)) => Ok((children, lock, output_lock)),
+        Err(status) => {
+            drop(output_lock);
+            Err(status)
+        }
+    }
+}
+
 /// Says that others than its owner may write what stands at the path; with the sticky bit none of them may replace what stands in a folder.
 fn tell_writable<R: Files, E: Eprint>(rt: &R, lines: &E, path: &str, is_safe_if_sticky: bool) {
     let Ok(found) = fs::metadata(rt, path) else {
@@ -250,8 +318,8 @@ fn folder_of(socket: &str) -> &str {
     }
 }
 
-/// Takes the store's file and the folder, and sees that the socket is free. Where one of them isn't to be had it has said so, and gives the exit
-/// status; nothing of the store, or of the files in the folder, was read or changed.
+/// Takes the store's file and the folders, and sees that the socket is free. Where one of them isn't to be had it has said so, and gives the exit
+/// status; nothing of the store, or of the files in the folders, was read or changed.
 pub fn take_places<'a, R, E>(
     rt: &'a R,
     lines: &E,
@@ -267,14 +335,15 @@ where
         Ok(disk) => disk,
         Err(fault) => return Err(lacks(lines, line.file, &fault)),
     };
-    match take_folder(rt, lines, alloc, line) {
-        Ok((children, lock)) => {
+    match take_folders(rt, lines, alloc, line) {
+        Ok((children, lock, output_lock)) => {
             tell_writable(rt, lines, line.file, false);
             tell_writable(rt, lines, folder_of(line.socket), true);
             Ok(Taken {
                 disk,
                 children,
                 lock,
+                output_lock,
             })
         }
         Err(status) => {

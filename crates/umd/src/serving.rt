@@ -1,5 +1,6 @@
 //! `umd serve`: one loop over a store, children and a socket.
 
+use crate::keeping::{Keeping, Keeps};
 use crate::lines::Lines;
 use crate::messages::{DEVICE, REFUSED, tell_ending, tell_uncounted};
 use crate::places::{Taken, lacks, news_in, take_places};
@@ -16,10 +17,11 @@ use std::time::{Clock, Duration, Instant};
 use um_children::{Children, RunnerDir};
 use um_filedisk::FileDisk;
 use um_gate::{Moments, SocketGate, SystemMoments, system_moment};
-use um_keeper::OpenedStore;
+use um_keeper::{OpenedStore, look};
 use um_line::ServeLine;
 use um_manager::Manager;
 use um_model::{Deadline, Moment};
+use um_output::{OpenFault, Outputs};
 use um_sector::Disk;
 use um_serve::{Buffered, pause};
 use um_state::BootId;
@@ -106,12 +108,15 @@ impl<'a, R: Files + Net + Clock, E: Eprint> Loop<'a, R, E> {
         tally: &Tally,
     ) -> Result<(), Refusal> {
         tally.look(Instant::now(self.system).ok());
+        manager.children().begin(self.clock.moment());
         serve(manager, &mut self.gate, &mut self.clock, 1)?;
+        manager.children().settle(manager.state());
         self.mind(manager);
         self.rest(manager, tally)
     }
 
-    /// Does what is due, whatever comes: says how often failures weren't told, and keeps the socket by which runners wake the manager.
+    /// Does what is due, whatever comes: says how often failures weren't told, looks after what processes print, and keeps the socket by which runners
+    /// wake the manager.
     fn mind<D: Disk, C: Children + News>(&mut self, manager: &Manager<D, C>) {
         let Ok(now) = Instant::now(self.system) else {
             return;
@@ -120,6 +125,7 @@ impl<'a, R: Files + Net + Clock, E: Eprint> Loop<'a, R, E> {
         if children.is_counting() {
             children.tell_counts(now);
         }
+        children.tend(manager.state(), now);
         let gate = &mut self.gate.gate;
         self.waking
             .keep(self.system, self.alloc, self.lines, gate, now);
@@ -237,29 +243,83 @@ fn open_loop<'a, R: Files + Net + Clock, E: Eprint>(
 }
 
 /// The manager of a store in a file, whose children run under runners, and tell.
-type Served<'a, 'b, R> = Manager<FileDisk<'b, R>, Telling<'a, RunnerDir<'b, R>, Lines<'b, R>>>;
+type Served<'a, 'b, R, K> = Manager<
+    FileDisk<'b, R>,
+    Telling<'a, RunnerDir<'b, R>, Lines<'b, R>, K>,
+>;
 
 /// Opens the manager over what was taken.
-fn open_manager<'a, 'b, R>(
+fn open_manager<'a, 'b, R, K>(
     system: &'b R,
     alloc: Global,
     lines: &'a Lines<'b, R>,
     tally: &'a Tally,
+    keeping: &'a K,
     boot: BootId,
     disk: FileDisk<'b, R>,
     children: RunnerDir<'b, R>,
-) -> Result<Served<'a, 'b, R>, End>
+) -> Result<Served<'a, 'b, R, K>, End>
 where
     R: Files<File = File> + Net + Processes + Clock + Eprint,
+    K: Keeps,
 {
-    let children = Telling::new(children, lines, alloc, tally);
-    match Manager::open(alloc, disk, children, boot, system_moment(system)) {
-        Ok(manager) => Ok(manager),
+    let moment = system_moment(system);
+    keeping.begin(moment);
+    let children = Telling::new(children, lines, alloc, tally, keeping);
+    match Manager::open(alloc, disk, children, boot, moment) {
+        Ok(manager) => {
+            keeping.settle(manager.state());
+            Ok(manager)
+        }
         Err((refusal, disk, children)) => {
             drop(disk);
             drop(children);
             Err(ends(lines, refusal))
         }
+    }
+}
+
+/// Says that the folder of output is another store's, which has output of this process.
+fn tell_foreign<E: Eprint>(lines: &E, folder: &str, number: u64) {
+    let _unheard = eprintln!(lines;
+        "umd: {folder}: it is another store's: it has output of process {number}, which this store never started"
+    );
+}
+
+/// The output that is kept, by the state that the store stands for before anything is offered to it; none where none is kept. The children make its
+/// files from then on.
+fn open_outputs<'b, R, E, D>(
+    system: &'b R,
+    alloc: Global,
+    lines: &E,
+    line: &ServeLine<'b>,
+    disk: &mut D,
+    children: &mut RunnerDir<'b, R>,
+) -> Result<Option<Outputs<'b, R>>, End>
+where
+    R: Files + Processes + Clock,
+    E: Eprint,
+    D: Disk,
+{
+    let Some(folder) = line.output else {
+        return Ok(None);
+    };
+    let state = match look(alloc, disk) {
+        Ok((_, state)) => state,
+        Err(refusal) => return Err(ends(lines, refusal)),
+    };
+    match Outputs::open(system, alloc, folder, u64::from(line.output_size), &state) {
+        Ok(outputs) => {
+            children.keep_output(folder);
+            Ok(Some(outputs))
+        }
+        Err(OpenFault::Foreign(number)) => {
+            tell_foreign(lines, folder, number);
+            Err(End { status: REFUSED })
+        }
+        Err(OpenFault::System(fault)) => Err(End {
+            status: lacks(lines, folder, &fault),
+        }),
     }
 }
 
@@ -324,14 +384,19 @@ where
         Err(status) => return Err(End { status }),
     };
     let Taken {
-        disk,
-        children,
+        mut disk,
+        mut children,
         lock: _lock,
+        output_lock: _output_lock,
     } = match take_places(system, &lines, alloc, line) {
         Ok(taken) => taken,
         Err(status) => return Err(End { status }),
     };
-    let mut manager = open_manager(system, alloc, &lines, &tally, boot, disk, children)?;
+    let outputs = open_outputs(system, alloc, &lines, line, &mut disk, &mut children)?;
+    let keeping = Keeping::of(&lines, outputs, line.output);
+    let mut manager = open_manager(
+        system, alloc, &lines, &tally, &keeping, boot, disk, children,
+    )?;
     let ended = if manager.children().is_foreign() {
         Err(End { status: REFUSED })
     } else {

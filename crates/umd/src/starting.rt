@@ -1,6 +1,7 @@
 //! `umd serve --start UNIT`: the first request behind a new boot.
 
 use crate::messages::{REFUSED, USAGE};
+use crate::telling::News;
 use serde_json::Value;
 use std::alloc::{AllocError, Global};
 use um_children::Children;
@@ -79,8 +80,21 @@ fn tell_reply<R: Eprint>(alloc: Global, rt: &R, reply: &[u8]) -> Result<(), Refu
     Ok(())
 }
 
+/// One turn with these pieces, whose moment and outcome the children are told.
+fn take_turn<D: Disk, C: Children + News, M: Moments>(
+    manager: &mut Manager<D, C>,
+    clock: &mut M,
+    pieces: &Pieces,
+) -> Result<(), Refusal> {
+    let moment = clock.moment();
+    manager.children().begin(moment);
+    manager.turn(moment, pieces)?;
+    manager.children().settle(manager.state());
+    Ok(())
+}
+
 /// Where nothing ran yet since the boot, one turn with the frame on the first connection, and one with its close. Refused as `Manager::turn` is.
-pub fn start_first<R: Eprint, D: Disk, C: Children, M: Moments>(
+pub fn start_first<R: Eprint, D: Disk, C: Children + News, M: Moments>(
     alloc: Global,
     rt: &R,
     manager: &mut Manager<D, C>,
@@ -95,9 +109,9 @@ pub fn start_first<R: Eprint, D: Disk, C: Children, M: Moments>(
     };
     let mut pieces = Pieces::none(alloc)?;
     pieces.set(first, Piece::Bytes(frame));
-    manager.turn(clock.moment(), &pieces)?;
+    take_turn(manager, clock, &pieces)?;
     let output = manager.output(first);
     tell_reply(alloc, rt, output.bytes.as_slice())?;
     pieces.set(first, Piece::Closed);
-    manager.turn(clock.moment(), &pieces)
+    take_turn(manager, clock, &pieces)
 }

@@ -2,16 +2,20 @@
 
 ghost use Rattle.std.specs.Prelude.{◌≡◌};
 
+use crate::keeping::Keeps;
 use crate::repeats::{Count, Deed, Repeats};
 use std::alloc::{AllocError, Global};
 use std::cell::{Cell, RefCell};
 use std::fs::Files;
+use std::io;
 use std::process::Processes;
 use std::time::{Clock, Instant};
 use um_children::{
     Cause, ChildFault, Children, Fate, NextNumber, ProcessNumber, RunnerDir, Signal,
 };
 use um_keeper::SpawnOrder;
+use um_model::Moment;
+use um_state::State;
 
 /// What was seen of the children since it was looked at last.
 #[derive(Drop)]
@@ -65,20 +69,27 @@ impl Tally {
 
 /// Children that tell on standard error which start or signal failed and what else an operator needs, and note what they see.
 #[derive(Drop)]
-pub struct Telling<'a, C: Children + Seen, R: Eprint> {
+pub struct Telling<'a, C: Children + Seen, R: Eprint, K: Keeps> {
     children: C,
     rt: &'a R,
     alloc: Global,
     tally: &'a Tally,
+    keeping: &'a K,
     /// What failed within the last second.
     repeats: RefCell<Repeats>,
     /// That the folder is gone was told, and it hasn't been seen since.
     is_gone: bool,
 }
 
-impl<'a, C: Children + Seen, R: Eprint> Telling<'a, C, R> {
+impl<'a, C: Children + Seen, R: Eprint, K: Keeps> Telling<'a, C, R, K> {
     /// These children.
-    pub fn new(children: C, rt: &'a R, alloc: Global, tally: &'a Tally) -> Telling<'a, C, R>
+    pub fn new(
+        children: C,
+        rt: &'a R,
+        alloc: Global,
+        tally: &'a Tally,
+        keeping: &'a K,
+    ) -> Telling<'a, C, R, K>
         ensures { result.children ≡ children }
     {
         Telling {
@@ -86,6 +97,7 @@ impl<'a, C: Children + Seen, R: Eprint> Telling<'a, C, R> {
             rt,
             alloc,
             tally,
+            keeping,
             repeats: RefCell::new(Repeats::new(alloc)),
             is_gone: false,
         }
@@ -143,6 +155,19 @@ impl<'a, C: Children + Seen, R: Eprint> Telling<'a, C, R> {
     fn tell_unsignalled(&self) {
         if let Some(number) = self.children.unsignalled() {
             self.tell_why(Deed::Signal, number, "it can't be signalled");
+        }
+    }
+
+    /// Notes for what a process prints that it was started.
+    fn note_start(&self, number: ProcessNumber) {
+        self.keeping
+            .note_start(number, self.children.output_fault());
+    }
+
+    /// Notes for what a process prints what became of it.
+    fn note_fate(&self, number: ProcessNumber, answer: &Result<Fate, ChildFault>) {
+        if let Ok(fate) = answer {
+            self.keeping.note_fate(number, *fate);
         }
     }
 
@@ -213,6 +238,9 @@ pub trait Seen {
 
     /// The greatest number of which files stand there although it was never started.
     fn foreign(&self) -> Option<ProcessNumber>;
+
+    /// Why no file could be made for what the process prints that was started last.
+    fn output_fault(&self) -> Option<&io::Error>;
 }
 
 impl<'a, R: Files + Processes + Clock> Seen for RunnerDir<'a, R> {
@@ -251,6 +279,10 @@ impl<'a, R: Files + Processes + Clock> Seen for RunnerDir<'a, R> {
     fn foreign(&self) -> Option<ProcessNumber> {
         self.foreign()
     }
+
+    fn output_fault(&self) -> Option<&io::Error> {
+        self.output_fault()
+    }
 }
 
 /// Children of which it can be seen, without asking any of them, that something may have happened.
@@ -266,9 +298,19 @@ pub trait News {
 
     /// Says how often failures weren't told, each that is due at this moment.
     fn tell_counts(&self, now: Instant);
+
+    /// What is noted from now on is of this moment.
+    fn begin(&self, moment: Moment);
+
+    /// A turn has left this state.
+    fn settle(&self, state: &State);
+
+    /// Looks after what processes print that are live by this state.
+    fn tend(&self, state: &State, now: Instant);
 }
 
-impl<'a, 'b, R: Files + Processes + Clock, E: Eprint> News for Telling<'a, RunnerDir<'b, R>, E> {
+impl<'a, 'b, R: Files + Processes + Clock, E: Eprint, K: Keeps> News
+    for Telling<'a, RunnerDir<'b, R>, E, K> {
     fn has_news(&self) -> bool {
         self.children.has_news()
     }
@@ -292,9 +334,26 @@ impl<'a, 'b, R: Files + Processes + Clock, E: Eprint> News for Telling<'a, Runne
             let _unheard = eprintln!(self.rt; "umd: {deed} processes: {why}: {more} more");
         }
     }
+
+    fn begin(&self, moment: Moment) {
+        self.keeping.begin(moment);
+    }
+
+    fn settle(&self, state: &State) {
+        self.keeping.settle(state);
+    }
+
+    fn tend(&self, state: &State, now: Instant) {
+        self.keeping.tend(state, now);
+    }
 }
 
-impl<'a, 'b, R: Files + Processes + Clock, E: Eprint> Telling<'a, RunnerDir<'b, R>, E> {
+impl<'a, 'b, R: Files + Processes + Clock, E: Eprint, K: Keeps> Telling<
+    'a,
+    RunnerDir<'b, R>,
+    E,
+    K,
+> {
     /// Says that the folder is another store's, where it is. Nothing was done in it then, and nothing will be.
     pub fn is_foreign(&self) -> bool {
         let Some(number) = self.children.foreign() else {
@@ -308,7 +367,7 @@ impl<'a, 'b, R: Files + Processes + Clock, E: Eprint> Telling<'a, RunnerDir<'b, 
     }
 }
 
-impl<'a, C: Children + Seen, R: Eprint> Children for Telling<'a, C, R> {
+impl<'a, C: Children + Seen, R: Eprint, K: Keeps> Children for Telling<'a, C, R, K> {
     ghost past = { λ t. C.past t.children };
 
     ghost whole = { λ t. C.whole t.children };
@@ -323,6 +382,7 @@ impl<'a, C: Children + Seen, R: Eprint> Children for Telling<'a, C, R> {
         let number = order.number();
         let answer = self.children.spawn(order);
         self.tally.note_start();
+        self.note_start(number);
         self.tell(Deed::Start, number, &answer);
         answer
     }
@@ -336,6 +396,7 @@ impl<'a, C: Children + Seen, R: Eprint> Children for Telling<'a, C, R> {
     fn fate(&mut self, number: ProcessNumber, claim: bool) -> Result<Fate, ChildFault> {
         let answer = self.children.fate(number, claim);
         self.tally.note_fate(&answer);
+        self.note_fate(number, &answer);
         self.tell_silent();
         self.tell_unsignalled();
         self.tell_gone();

@@ -1,5 +1,5 @@
 use Rattle.std.proofs.Common.{IfOk, map, string_bytes, sym, subst, ◌∙◌}
-use Rattle.um_line.specs.Line.{IsLineBy, IsServeLine, IsCtlLine}
+use Rattle.um_line.specs.Line.{IsLineBy, IsServeLine, IsCtlLine, IsLogsLine}
 use Rattle.um_line.proofs.line.read_line.Goals as goal
 
 pub returns-in-Serve : goal.returns-in-Serve
@@ -13,3 +13,9 @@ returns-in-Ctl c =
     let named = sym c.subcommand_of.ensures ∙ c.in-Ctl.is in
     subst (λ s. IfOk c.read_ctl.result (IsLineBy s (map string_bytes c.args.words.now))) (sym named)
     (subst (λ ws. IfOk c.read_ctl.result (IsCtlLine ws)) c.behind-in-Ctl.ensures c.read_ctl.ensures)
+
+pub returns-in-Logs : goal.returns-in-Logs
+returns-in-Logs c =
+    let named = sym c.subcommand_of.ensures ∙ c.in-Logs.is in
+    subst (λ s. IfOk c.read_logs.result (IsLineBy s (map string_bytes c.args.words.now))) (sym named)
+    (subst (λ ws. IfOk c.read_logs.result (IsLogsLine ws)) c.behind-in-Logs.ensures c.read_logs.ensures)

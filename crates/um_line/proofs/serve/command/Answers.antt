@@ -7,4 +7,6 @@ returns c =
     let socket = added _ _ _ _ c.in_ok-command-2.ensures boot in
     let dir = added _ _ _ _ c.in_ok-command-3.ensures socket in
     let runner = added _ _ _ _ c.in_ok-command-4.ensures dir in
-    let start = added _ _ _ _ c.in_ok-command-5.ensures runner in added_last _ _ _ _ c.with_word.ensures start
+    let start = added _ _ _ _ c.in_ok-command-5.ensures runner in
+    let output = added _ _ _ _ c.in_ok-command-6.ensures start in
+    let size = added _ _ _ _ c.in_ok-command-7.ensures output in added_last _ _ _ _ c.with_word.ensures size

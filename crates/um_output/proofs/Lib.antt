@@ -1,0 +1,5 @@
+mod FileNames
+mod KeptLaws
+mod OpenEnds
+mod PlainLaws
+mod ShownLaws

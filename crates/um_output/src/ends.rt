@@ -1,0 +1,109 @@
+//! The lines by which it is kept how processes ended.
+
+ghost use Rattle.std.specs.Prelude.{◌≡◌, IfOk, string_bytes};
+ghost use Rattle.um_output.specs.Ends as model;
+
+use crate::files::{MODE, is_regular, make_folder, make_new, path_of_name};
+use crate::lines::newer_half;
+use std::alloc::{AllocError, Global};
+use std::fs::{Files, OpenFile, OpenOptions};
+use std::io::{ErrorKind, Read, Write};
+use std::os::unix::fs::OpenOptionsExt;
+use std::{fs, io};
+use um_model::{End, Fate, Moment, ProcessNumber};
+
+/// How a process ended, or that it never started.
+#[derive(Clone, Copy, Debug, PartialEq, Eq)]
+pub enum Ended {
+    By(End),
+    NotStarted,
+}
+
+/// The file of these lines.
+const NAME: &str = "ends";
+
+/// And its draft.
+const DRAFT: &str = "ends.new";
+
+/// Past so many bytes its older half goes.
+const LONGEST: u64 = 65_536;
+
+impl Ended {
+    /// What the fate tells of an end; none of a process that hasn't ended.
+    pub fn of(fate: Fate) -> Option<Ended>
+        ensures { result ≡ model.ended_of fate }
+    {
+        match fate {
+            Fate::Ended(end) => Some(Ended::By(end)),
+            Fate::Absent => Some(Ended::NotStarted),
+            Fate::Starting | Fate::Executed => None,
+        }
+    }
+}
+
+/// How it ended, as its line has it.
+fn ended_text(alloc: Global, ended: Ended) -> Result<String, AllocError>
+    ensures { IfOk result (λ text. string_bytes text ≡ model.ended_text ended) }
+{
+    match ended {
+        Ended::By(End::Code(code)) => format!(in alloc; "code {code}\n"),
+        Ended::By(End::Signal(number)) => format!(in alloc; "signal {number}\n"),
+        Ended::By(End::Lost) => String::from_str(alloc, "lost\n"),
+        Ended::NotStarted => String::from_str(alloc, "not-started\n"),
+    }
+}
+
+/// The line of an end: the process's number, the moment in microseconds at which it was told, and how it ended.
+pub fn end_line(
+    alloc: Global,
+    number: ProcessNumber,
+    moment: Moment,
+    ended: Ended,
+) -> Result<String, AllocError>
+    ensures { IfOk result (λ text. string_bytes text ≡ model.end_line number moment ended) }
+{
+    let (number, moment) = (number.get(), moment.micros());
+    let text = ended_text(alloc, ended)?;
+    format!(in alloc; "{number} {moment} {text}")
+}
+
+/// Gives the file the newer half of its text, by way of a draft.
+fn halve<R: Files>(rt: &R, alloc: Global, folder: &str, path: &str) -> io::Result<()> {
+    let mut text = Vec::new(alloc);
+    OpenOptions::new()
+        .read(true)
+        .open(rt, path)?
+        .read_to_end(&mut text)?;
+    let draft = path_of_name(alloc, folder, DRAFT)?;
+    make_new(rt, draft.as_str())?.write_all(newer_half(text.as_slice()))?;
+    fs::rename(rt, draft.as_str(), path)
+}
+
+/// Opens the file at the path to be added to; it is made where it isn't there, and so is its folder.
+fn open_to_add<R: Files>(rt: &R, folder: &str, path: &str) -> io::Result<R::File> {
+    let mut how = OpenOptions::new();
+    how.append(true).create(true).mode(MODE);
+    match how.open(rt, path) {
+        Err(fault) if fault.kind() == ErrorKind::NotFound => {
+            make_folder(rt, folder)?;
+            how.open(rt, path)
+        }
+        answer => answer,
+    }
+}
+
+/// Adds the line to the ends in the folder of a unit, of which the older half goes where they are too long.
+pub(crate) fn add_end<R: Files>(rt: &R, alloc: Global, folder: &str, line: &str) -> io::Result<()> {
+    let path = path_of_name(alloc, folder, NAME)?;
+    let path = path.as_str();
+    // what is no regular file is left as it is: the opening of a pipe would wait
+    if !is_regular(rt, path)? {
+        return Ok(());
+    }
+    let mut file = open_to_add(rt, folder, path)?;
+    file.write_all(line.as_bytes())?;
+    if file.metadata()?.len() > LONGEST {
+        halve(rt, alloc, folder, path)?;
+    }
+    Ok(())
+}

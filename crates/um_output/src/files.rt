@@ -1,0 +1,173 @@
+//! The names of the files of output, and the small things that are done with files.
+
+ghost use Rattle.std.specs.Prelude.{◌≡◌, ◌≢◌, ◌<◌, ◌≤◌, ℕ, IfOk, MatchOption, string_bytes};
+ghost use Rattle.um_model.specs.Moments.{process_limit};
+ghost use Rattle.um_output.specs.Files as model;
+ghost use Rattle.um_output.specs.declared.files.Part.{Part};
+
+use std::alloc::Global;
+use std::fs::{DirBuilder, Files, OpenOptions};
+use std::io::ErrorKind;
+use std::os::unix::fs::{DirBuilderExt, OpenOptionsExt};
+use std::{fs, io};
+use um_model::ProcessNumber;
+use um_runner::number_in;
+
+/// The owner alone reads and writes a file.
+pub(crate) const MODE: u32 = 0o600;
+
+/// And a folder.
+const FOLDER_MODE: u32 = 0o700;
+
+/// So often a draft is made anew that another one has made in the meantime.
+const TRIES: u32 = 8;
+
+/// What a file of a number is.
+#[derive(Clone, Copy, Debug, PartialEq, Eq)]
+pub(crate) enum Part {
+    /// What the process prints.
+    Printed,
+    /// The last of what was cut off.
+    Old,
+    /// The draft of that.
+    Draft,
+}
+
+impl Part {
+    /// What the file's name has behind the number.
+    pub(crate) fn ending(self) -> &'static str
+        ensures { result.now ≡ model.ending self }
+    {
+        match self {
+            Part::Printed => "",
+            Part::Old => ".old",
+            Part::Draft => ".old.new",
+        }
+    }
+}
+
+/// A file of a number.
+#[derive(Clone, Copy, Debug, PartialEq, Eq)]
+pub(crate) struct OutputFile {
+    pub(crate) number: ProcessNumber,
+    pub(crate) part: Part,
+}
+
+/// The file of this name, where its name tells it as this part of a number's.
+fn file_of(name: &str, part: Part) -> Option<OutputFile>
+    ensures { MatchOption result ((n : ℕ) → 1 ≤ n → n < process_limit → name.now ≢ model.name_of n part) (λ f. (name.now ≡ model.name_of f.number f.part) × (f.part ≡ part)) }
+{
+    let digits = name.strip_suffix(part.ending())?;
+    let number = ProcessNumber::new(number_in(digits.as_bytes())?)?;
+    Some(OutputFile { number, part })
+}
+
+/// The file of this name; none for other names.
+pub(crate) fn file_named(name: &str) -> Option<OutputFile>
+    ensures { MatchOption result ((n : ℕ) → (part : Part) → 1 ≤ n → n < process_limit → name.now ≢ model.name_of n part) (λ f. name.now ≡ model.name_of f.number f.part) }
+{
+    if let Some(file) = file_of(name, Part::Draft) {
+        return Some(file);
+    }
+    if let Some(file) = file_of(name, Part::Old) {
+        return Some(file);
+    }
+    file_of(name, Part::Printed)
+}
+
+/// The path of what has this name in the folder.
+pub(crate) fn path_of_name(alloc: Global, folder: &str, name: &str) -> io::Result<String>
+    ensures { IfOk result (λ path. string_bytes path ≡ model.path folder.now name.now) }
+{
+    Ok(format!(in alloc; "{folder}/{name}")?)
+}
+
+/// The path of a file of the number in the folder.
+pub(crate) fn path_of(
+    alloc: Global,
+    folder: &str,
+    number: ProcessNumber,
+    part: Part,
+) -> io::Result<String>
+    ensures { IfOk result (λ path. string_bytes path ≡ model.path folder.now (model.name_of number part)) }
+{
+    let (number, ending) = (number.get(), part.ending());
+    Ok(format!(in alloc; "{folder}/{number}{ending}")?)
+}
+
+/// The files of numbers that stand in the folder; none where it isn't there.
+pub(crate) fn files_in<R: Files>(
+    rt: &R,
+    alloc: Global,
+    folder: &str,
+) -> io::Result<Vec<OutputFile>> {
+    let mut files = Vec::new(alloc);
+    let entries = match fs::read_dir(&(rt, alloc), folder) {
+        Ok(entries) => entries,
+        Err(fault) if fault.kind() == ErrorKind::NotFound => return Ok(files),
+        Err(fault) => return Err(fault),
+    };
+    for entry in entries {
+        if let Some(file) = file_named(entry?.file_name()) {
+            files.push(file)?;
+        }
+    }
+    Ok(files)
+}
+
+/// Whether a folder stands at the path.
+pub(crate) fn is_folder<R: Files>(rt: &R, path: &str) -> io::Result<bool> {
+    match fs::symlink_metadata(rt, path) {
+        Ok(about) => Ok(about.is_dir()),
+        Err(fault) if fault.kind() == ErrorKind::NotFound => Ok(false),
+        Err(fault) => Err(fault),
+    }
+}
+
+/// Whether a regular file stands at the path, or nothing.
+pub(crate) fn is_regular<R: Files>(rt: &R, path: &str) -> io::Result<bool> {
+    match fs::symlink_metadata(rt, path) {
+        Ok(about) => Ok(about.is_file()),
+        Err(fault) if fault.kind() == ErrorKind::NotFound => Ok(true),
+        Err(fault) => Err(fault),
+    }
+}
+
+/// How long the regular file at the path is, in bytes. None where something else stands there, or nothing.
+pub(crate) fn length_of<R: Files>(rt: &R, path: &str) -> io::Result<Option<u64>> {
+    match fs::symlink_metadata(rt, path) {
+        Ok(about) if about.is_file() => Ok(Some(about.len())),
+        Ok(_) => Ok(None),
+        Err(fault) if fault.kind() == ErrorKind::NotFound => Ok(None),
+        Err(fault) => Err(fault),
+    }
+}
+
+/// Removes what stands at the path, where something does.
+pub(crate) fn remove<R: Files>(rt: &R, path: &str) -> io::Result<()> {
+    match fs::remove_file(rt, path) {
+        Err(fault) if fault.kind() != ErrorKind::NotFound => Err(fault),
+        Ok(()) | Err(_) => Ok(()),
+    }
+}
+
+/// Makes the folder, where nothing stands there.
+pub(crate) fn make_folder<R: Files>(rt: &R, path: &str) -> io::Result<()> {
+    match DirBuilder::new().mode(FOLDER_MODE).create(rt, path) {
+        Err(fault) if fault.kind() != ErrorKind::AlreadyExists => Err(fault),
+        Ok(()) | Err(_) => Ok(()),
+    }
+}
+
+/// Makes a new file in place of what stood there: never one that was there before, nor one that a link leads to.
+pub(crate) fn make_new<R: Files>(rt: &R, path: &str) -> io::Result<R::File> {
+    let mut how = OpenOptions::new();
+    how.write(true).create_new(true).mode(MODE);
+    for _ in 0..TRIES {
+        match how.open(rt, path) {
+            Err(fault) if fault.kind() == ErrorKind::AlreadyExists => remove(rt, path)?,
+            answer => return answer,
+        }
+    }
+    Err(io::Error::from(ErrorKind::AlreadyExists))
+}
