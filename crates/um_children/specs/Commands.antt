@@ -1,7 +1,7 @@
 -- The command lines by which the manager looks for its runner, starts one, and signals a process.
 -- Follows sh(1) and kill(1); the runner's own words are the project's (docs/FORMATS.md, "The program").
 -- Children through runners stand on this file.
-use Rattle.std.specs.Prelude.{◌≡◌, ◌∷◌, List, ℕ, map, codes, decimal}
+use Rattle.std.specs.Prelude.{◌≡◌, ◌∷◌, ◌++◌, List, ℕ, map, codes, decimal}
 use Rattle.std.specs.Borrow.{Bor}
 use Rattle.std.specs.Process.{command_program, command_args}
 use Rattle.std.specs.declared.process.command.Command.{Command}
@@ -13,7 +13,9 @@ use Rattle.um_runner.specs.RunnerLines.{handed_words}
 -- word names no file that it can execute, it ends with 126 and runs nothing. What the command prints is added to the file of the first word, where that
 -- is a regular file which can be written; else it goes to /dev/null
 abbrev pub detaching : List ℕ
-detaching = codes "o=$1; shift; case $1 in */*) p=$1;; *) p=$(command -v \"$1\");; esac && test -f \"$p\" && test -x \"$p\" || exit 126; test -f \"$o\" && true 2>/dev/null >>\"$o\" || o=/dev/null; exec </dev/null >>\"$o\" 2>&1; \"$@\" &"
+detaching =
+    codes "o=$1; shift; case $1 in */*) p=$1;; *) p=$(command -v \"$1\");; esac && test -f \"$p\" && test -x \"$p\" || exit 126; "
+    ++ codes "test -f \"$o\" && true 2>/dev/null >>\"$o\" || o=/dev/null; exec </dev/null >>\"$o\" 2>&1; \"$@\" &"
 
 -- what the shell runs: nothing, and it fails where its word names no file that it can execute
 abbrev pub finding : List ℕ

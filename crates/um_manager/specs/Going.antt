@@ -48,7 +48,8 @@ offers_told (Err e) offered = all_untold offered
 
 -- what one turn offered, with what came of each
 abbrev pub offers_in_turn : {at : Place} {honest whole : Bool} {result : Result Unit declared.Refusal} {moment : ℕ} {pieces : List Piece} {disk : Past}
-    {before : List Call} {a b : Now} {past : History disk before a} {all : History disk before b} → IsTurn at honest whole result moment pieces past all → List Offer
+    {before : List Call} {a b : Now} {past : History disk before a} {all : History disk before b} → IsTurn at honest whole result moment pieces past all
+    → List Offer
 offers_in_turn (is_turn turned) = offers_told turned.store (offers_of_turn turned)
 offers_in_turn (is_none want still out) = []
 

@@ -20,8 +20,8 @@ pub(crate) fn is_among(numbers: &[ProcessNumber], number: ProcessNumber) -> bool
     false
 }
 
-#[tactic(auto, using(crate::proofs::KeptLaws::distinct_push))]
 /// Notes the number, where it isn't live and isn't noted yet.
+#[tactic(auto, using(crate::proofs::KeptLaws::distinct_push))]
 fn note(
     idle: &mut Vec<ProcessNumber>,
     live: &[ProcessNumber],
