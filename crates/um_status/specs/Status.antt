@@ -1,7 +1,7 @@
 -- How a unit stands, as a person reads it: of the replies to `show` and `list-jobs`, of a pid, and of the line by which the end of its last process is kept.
 -- No manual page has this: it is the project's own (docs/FORMATS.md, "The program").
 -- What `umd status` prints, and what `umd ctl --wait` goes by, stand on this file.
-use Rattle.std.specs.Prelude.{◌≡◌, ◌⊎◌, ℕ, ◌-◌, ◌*◌, ◌/◌, ◌^◌, List, [], ◌∷◌, ◌++◌, Bool, false, ◌&&◌, ◌||◌, not, max, ◌==◌, Option, Some, None, codes, decimal, find, flat_map, fold, if◌then◌else◌, length, option_and_then, replicate, pos}
+use Rattle.std.specs.Prelude.{◌≡◌, ◌≢◌, ◌<◌, ◌⊎◌, ℕ, ◌-◌, ◌*◌, ◌/◌, ◌^◌, List, [], ◌∷◌, ◌++◌, Bool, false, ◌&&◌, ◌||◌, not, max, ◌==◌, Option, Some, None, codes, decimal, find, flat_map, fold, if◌then◌else◌, length, option_and_then, replicate, pos}
 use Rattle.std.specs.List.{list_any}
 use Rattle.std.specs.Option.{option_map_or}
 use Rattle.std.specs.Str.{bytes_eq}
@@ -208,6 +208,10 @@ detail_line text = codes "  " ++ (text ++ codes "\n")
 -- the parts of the line by which the end of a process is kept: its number, the moment in microseconds, and how it ended
 abbrev pub end_text : (number moment : ℕ) → List ℕ → List ℕ
 end_text number moment how = decimal number ++ (codes " " ++ (decimal moment ++ (codes " " ++ how)))
+
+-- no number, moment and end have this line
+abbrev pub IsNoEnd : List ℕ → Type 0
+IsNoEnd line = (number moment : ℕ) (how : List ℕ) → number < 2 ^ 64 → moment < 2 ^ 64 → line ≢ end_text number moment how
 
 -- how a process ended, to a person: code 203 is a command that can't be executed
 abbrev pub how_told : List ℕ → List ℕ

@@ -1,6 +1,6 @@
 //! How the last process of a unit ended, of the line by which that is kept.
 
-ghost use Rattle.std.specs.Prelude.{◌≡◌, IfOk, IfSome, MatchOption, string_bytes};
+ghost use Rattle.std.specs.Prelude.{◌≡◌, IfOk, MatchOption, string_bytes};
 ghost use Rattle.um_status.specs.Status as model;
 
 use jiff::Timestamp;
@@ -21,7 +21,7 @@ pub struct LastEnd<'a> {
 
 /// What the line tells, without its line feed. None where it is no line of an end.
 pub fn last_end(line: &str) -> Option<LastEnd<'_>>
-    ensures { IfSome result (λ end. line.now ≡ model.end_text end.number end.moment end.how.now) }
+    ensures { MatchOption result (model.IsNoEnd line.now) (λ end. line.now ≡ model.end_text end.number end.moment end.how.now) }
 {
     let (number, rest) = line.split_once(' ')?;
     let (moment, how) = rest.split_once(' ')?;

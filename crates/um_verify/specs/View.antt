@@ -1,7 +1,5 @@
 -- Assignments and files of the code as those of the definitions.
-use Rattle.std.specs.Prelude.{◌≡◌, ◌⊎◌, ◌++◌, Ok, List, [], ℕ, true, Option, None, IsPermutation, MatchOption, fold, map, string_bytes}
-use Rattle.std.specs.FinMap as finite
-use Rattle.std.specs.Result.{result_unwrap_or}
+use Rattle.std.specs.Prelude.{◌≡◌, ◌⊎◌, ◌++◌, Ok, List, [], ℕ, true, Option, None, IsPermutation, MatchOption, map, string_bytes}
 use Rattle.um_model.specs.FileForms.{in_sections}
 use Rattle.um_model.specs.Names.{named}
 use Rattle.um_model.specs.Tree.{Tree, put_file}
@@ -36,14 +34,14 @@ abbrev pub place_of : Finding → List ℕ × Option ℕ
 place_of f = (string_bytes f.path, f.line)
 
 -- an obstacle tells the reason, which stops the unit
-abbrev pub TellsObstacle : List ℕ → Obstacle → Type 0
-TellsObstacle reason o = model.SaysReason reason (string_bytes o.finding.text) × (o.finding.stops ≡ true)
+abbrev pub IsObstacle : (model.Told → (text : List ℕ) → Type 0) → Obstacle → Type 0
+IsObstacle Tells o = Tells (told_of o.finding) (string_bytes o.text) × (o.finding.stops ≡ true)
 
--- what became of a reason: it is told, and its file has another text; or the tree is as it was
-abbrev pub IsTaken : (before after : Tree) → List ℕ → Taken → Type 0
-IsTaken before after reason (taken.Out f) =
-    model.SaysReason reason (string_bytes f.text) × (f.stops ≡ true) × (text : List ℕ) × (put_file before (string_bytes f.path) text ≡ Ok after)
-IsTaken before after reason (taken.Left f) = before ≡ after
+-- what became of a reason: it is told, and its file has the text without it; or the tree is as it was
+abbrev pub IsTaken : (before after : Tree) → (unit reason : List ℕ) → Taken → Type 0
+IsTaken before after unit reason (taken.Out f) =
+    (text : List ℕ) × model.TellsIn before unit reason (told_of f) text × (f.stops ≡ true) × (put_file before (string_bytes f.path) text ≡ Ok after)
+IsTaken before after unit reason (taken.Left f) = before ≡ after
 
 -- what is told behind the reasons: the warnings of the unit that is found then, or whatever is told where a reason couldn't be taken out
 abbrev pub IsRest : Tree → List ℕ → List Finding → Type 0
@@ -62,14 +60,6 @@ abbrev pub LooksAt : (before after : Tree) → List ℕ → Looked → Type 0
 LooksAt before after unit l = (reasons : List model.Told) × model.Tells before unit reasons after × EndsAs after unit reasons l
 
 -- ---- files that are given by their texts
-
--- the tree with a file more, unless it can't stand there
-abbrev pub with_file : Tree → List ℕ × List ℕ → Tree
-with_file tree (path, text) = result_unwrap_or (put_file tree path text) tree
-
--- the tree of these files
-abbrev pub tree_with : List (List ℕ × List ℕ) → Tree
-tree_with files = fold with_file finite.empty files
 
 -- what is told of a unit
 abbrev pub findings_in : Looked → List Finding

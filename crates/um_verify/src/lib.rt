@@ -5,10 +5,14 @@
 mod fault;
 mod finding;
 mod folder;
+mod given;
+mod marking;
 mod obstacle;
 mod places;
 mod reasons;
+mod seeking;
 mod spots;
+mod starts;
 mod units;
 
 pub use fault::VerifyFault;

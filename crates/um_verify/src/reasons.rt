@@ -7,11 +7,12 @@ ghost use Rattle.um_verify.specs.View.{IsTaken, LooksAt, place_of};
 ghost use Rattle.um_verify.specs.declared.finding.Finding as findings_of;
 
 use crate::finding::Finding;
-use crate::obstacle::{Obstacle, file_text, line_text, obstacle_of};
+use crate::marking::line_text;
+use crate::obstacle::{Obstacle, obstacle_of};
 use std::alloc::{AllocError, Global};
 use um_name::UnitName;
 use um_sentences::warning_at;
-use um_tree::Tree;
+use um_tree::{Entry, Tree};
 use um_unit::{FileWarnings, LoadedUnit, Loading, load};
 use um_wire::Refusal;
 
@@ -32,6 +33,14 @@ pub(crate) enum Taken {
     Out(Finding),
     /// The tree is as it was. The reason is told, where a line was found for it.
     Left(Option<Finding>),
+}
+
+/// The text of the file at the path of the tree.
+fn file_text<'t>(tree: &'t Tree, path: &str) -> Option<&'t str> {
+    match tree.get(path) {
+        Some(Entry::File(text)) => Some(text),
+        Some(Entry::Link(_)) | None => None,
+    }
 }
 
 /// Adds the warnings of a file.
@@ -77,7 +86,7 @@ fn take_out(
     unit: &UnitName,
     reason: &str,
 ) -> Result<Taken, AllocError>
-    ensures { IfOk result (IsTaken tree.old tree.new reason.now) }
+    ensures { IfOk result (IsTaken tree.old tree.new unit.now reason.now) }
 {
     let Some(obstacle) = obstacle_of(alloc, tree, unit, reason)? else {
         return Ok(Taken::Left(None));

@@ -1,11 +1,13 @@
 //! The units of a tree that was read, one behind the other.
 
-ghost use Rattle.std.specs.Prelude.{◌≡◌, IsPermutation, IfOk, OnOk, map};
-ghost use Rattle.um_verify.specs.View.{AreFindingsOf, LooksAt, findings_in, tree_with, with_file};
+ghost use Rattle.std.specs.Prelude.{IsPermutation, IfOk, map};
+ghost use Rattle.um_verify.specs.Findings.{tree_with};
+ghost use Rattle.um_verify.specs.View.{AreFindingsOf, LooksAt, findings_in};
 ghost use Rattle.um_verify.specs.declared.reasons.Looked as looks;
 
 use crate::fault::VerifyFault;
 use crate::finding::Finding;
+use crate::given::tree_of;
 use crate::places::Collected;
 use crate::reasons::{Looked, look_at};
 use std::alloc::{AllocError, Global};
@@ -13,7 +15,6 @@ use std::collections::BTreeMap;
 use um_model::Suffix;
 use um_name::UnitName;
 use um_tree::{Place, ServedPath, Tree};
-use um_wire::Refusal;
 
 /// The units of which something stands in the tree, and where the first of that lies.
 fn units_in(alloc: Global, tree: &Tree) -> Result<BTreeMap<String, String>, VerifyFault> {
@@ -118,31 +119,6 @@ pub fn verify(collected: Collected) -> Result<Vec<Finding>, VerifyFault> {
         add_findings(&origins, found, &mut findings)?;
     }
     Ok(in_order(findings)?)
-}
-
-/// Puts a file into the tree; one that can't stand there is left out.
-fn put(tree: &mut Tree, path: &str, text: &str) -> Result<(), AllocError>
-    ensures { OnOk result (tree.new ≡ with_file tree.old (path.now, text.now)) }
-{
-    match tree.put(path, text) {
-        Err(Refusal::NoMemory) => Err(AllocError),
-        Err(refusal) => {
-            drop(refusal);
-            Ok(())
-        }
-        Ok(()) => Ok(()),
-    }
-}
-
-/// The tree of these files, each its path in the tree and its text.
-fn tree_of(alloc: Global, files: &[(&str, &str)]) -> Result<Tree, AllocError>
-    ensures { IfOk result (λ tree. tree ≡ tree_with (map (λ f. (f.0.now, f.1.now)) files.now)) }
-{
-    let mut tree = Tree::new(alloc);
-    for (path, text) in files {
-        put(&mut tree, path, text)?;
-    }
-    Ok(tree)
 }
 
 /// What is told of a unit of the tree, in order.

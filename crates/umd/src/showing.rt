@@ -120,6 +120,17 @@ fn tail_of<R: Files>(rt: &R, alloc: Global, path: &str) -> io::Result<Vec<u8>> {
     Ok(bytes)
 }
 
+/// The last whole line of the text; what stands behind its last line feed is none.
+fn last_line(text: &str) -> &str {
+    let Some((lines, _begun)) = text.rsplit_once('\n') else {
+        return "";
+    };
+    match lines.rsplit_once('\n') {
+        Some((_, line)) => line,
+        None => lines,
+    }
+}
+
 /// The last line by which it is kept how processes of the unit ended; an empty text where none is.
 fn end_kept<R: Files>(
     rt: &R,
@@ -139,12 +150,7 @@ fn end_kept<R: Files>(
     let Ok(text) = String::from_utf8(bytes) else {
         return Ok(String::new(alloc));
     };
-    let lines = text.as_str().strip_suffix('\n').unwrap_or("");
-    let last = match lines.rsplit_once('\n') {
-        Some((_, line)) => line,
-        None => lines,
-    };
-    Ok(String::from_str(alloc, last)?)
+    Ok(String::from_str(alloc, last_line(text.as_str()))?)
 }
 
 /// What is told of a unit that no line of its files tells.

@@ -2,7 +2,8 @@ use Rattle.std.proofs.Common.{◌≡◌, [], map, MatchOption, Some, sym, ◌∙
 use Rattle.std.specs.Prelude.{IsPermutation}
 use Rattle.um_model.specs.Names.{named}
 use Rattle.um_model.specs.Tree.{Tree}
-use Rattle.um_verify.specs.View.{LooksAt, findings_in, tree_with}
+use Rattle.um_verify.specs.Findings.{tree_with}
+use Rattle.um_verify.specs.View.{LooksAt, findings_in}
 use Rattle.um_verify.specs.declared.reasons.Looked.{Looked}
 use Rattle.um_verify.proofs.units.verify_files.Goals as goal
 

@@ -1,6 +1,6 @@
 use Rattle.std.proofs.Common.{◌≡◌, map, take}
-use Rattle.um_verify.specs.View.{tree_with}
-use Rattle.um_verify.proofs.units.tree_of.Given as goal
+use Rattle.um_verify.specs.Findings.{tree_with}
+use Rattle.um_verify.proofs.given.tree_of.Given as goal
 
 -- the tree of the files so far
 abbrev pub invariant-loop-path : goal.invariant-loop-path

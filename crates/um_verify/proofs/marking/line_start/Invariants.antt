@@ -1,5 +1,5 @@
 use Rattle.std.proofs.Common.{◌≡◌, ◌≤◌, ◌==◌, count_by, take}
-use Rattle.um_verify.proofs.obstacle.line_start.Given as goal
+use Rattle.um_verify.proofs.marking.line_start.Given as goal
 
 -- so many line feeds so far
 abbrev pub invariant-loop-place : goal.invariant-loop-place

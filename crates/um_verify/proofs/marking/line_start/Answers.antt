@@ -1,7 +1,7 @@
 use Rattle.std.proofs.Common.{◌≡◌, ◌+◌, ◌==◌, true, slice_index_or, ap, sym, ◌∙◌, arith, inr, ◌-◌, Some, slice_get}
 use Rattle.std.proofs.lemmas.Option.{slice_get-get_or}
 use Rattle.std.proofs.lemmas.List.Sums.{count_by_more_yes}
-use Rattle.um_verify.proofs.obstacle.line_start.Goals as goal
+use Rattle.um_verify.proofs.marking.line_start.Goals as goal
 
 pub returns-then-feeds-line : goal.returns-then-feeds-line
 returns-then-feeds-line c =
