@@ -1,9 +1,10 @@
 -- Lines that are cut at spaces.
-use Rattle.std.proofs.Common.{◌≡◌, ◌≢◌, ◌<◌, ◌+◌, ◌^◌, ℕ, List, [], ◌∷◌, ◌++◌, length, get_or, refl, sym, suc, arith, ◌∙◌}
+use Rattle.std.proofs.Common.{◌≡◌, ◌≢◌, ◌<◌, ◌+◌, ◌^◌, ℕ, List, [], ◌∷◌, ◌++◌, length, get_or, refl, sym, subst, ap, suc, zero, arith, ◌∙◌}
 use Rattle.std.proofs.Math.Seq.{get_or-append_seam}
 use Rattle.std.proofs.lemmas.List.{length-append}
 use Rattle.std.proofs.lemmas.Fmt.{decimal_is_IsNumeral}
 use Rattle.std.specs.Prelude.{decimal}
+use Rattle.std.specs.Char.{digit_value}
 use Rattle.std.specs.Str.Parse.{AllDigits}
 use Rattle.um_status.specs.Status.{IsNoEnd, end_text}
 
@@ -14,11 +15,11 @@ Lacks c bs = (i : ℕ) → i < length bs → get_or bs i 0 ≢ c
 -- digits are no spaces
 digits_lack : (bs : List ℕ) → AllDigits 10 bs → Lacks 32 bs
 digits_lack [] digits i below = absurd (omega arith)
-digits_lack (b ∷ bs) digits zero below = ?
+digits_lack (b ∷ bs) digits zero below = λ same. let bad : digit_value 32 < 10 = subst (λ v. digit_value v < 10) same digits.0 in absurd (omega arith)
 digits_lack (b ∷ bs) digits (suc i) below = digits_lack bs digits.1 i (omega arith)
 
 decimal_lacks : (n : ℕ) → n < 2 ^ 64 → Lacks 32 (decimal n)
-decimal_lacks n small = digits_lack (decimal n) ?
+decimal_lacks n small = digits_lack (decimal n) (decimal_is_IsNumeral n small).0.1
 
 -- a text is cut at its first such byte in one way
 cut_once : (c : ℕ) (xs us ys vs : List ℕ) → Lacks c xs → Lacks c us → xs ++ c ∷ ys ≡ us ++ c ∷ vs → (xs ≡ us) × (ys ≡ vs)
@@ -29,7 +30,7 @@ cut_once c (x ∷ xs) (u ∷ us) ys vs none lacks same =
     let rest : xs ++ c ∷ ys ≡ us ++ c ∷ vs = cc in
     let first : x ≡ u = cc in
     let both = cut_once c xs us ys vs (λ (i : ℕ) (h : i < length xs). none (suc i) (omega arith)) (λ (i : ℕ) (h : i < length us). lacks (suc i) (omega arith)) rest in
-    (grind (both.0, first), both.1)
+    (cc (both.0, first), both.1)
 
 -- what lacks a byte has none behind anything
 never_cut : (c : ℕ) (bs xs ys : List ℕ) → Lacks c bs → bs ≢ xs ++ c ∷ ys

@@ -1,1 +1,2 @@
+mod Obstacles
 mod TellsLaws

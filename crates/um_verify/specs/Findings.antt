@@ -16,6 +16,8 @@ use Rattle.um_model.specs.Text.{is_empty}
 use Rattle.um_model.specs.Tree.{Tree, put_file}
 use Rattle.um_model.specs.Units.{BadSetting, Found, Loading, Source, Warning, load, source_of}
 use Rattle.um_model.specs.declared.names.Suffix.{Suffix}
+use Rattle.um_verify.specs.declared.obstacle.Reason.{Reason}
+use Rattle.um_verify.specs.declared.obstacle.Reason.TheVariants.{Setting, ServiceType, Restart, ExecCount}
 use Rattle.um_sentences.specs.Sentences.{further_command, key_sentence, key_why, no_command, restart_sentence, type_sentence}
 
 -- ---- lines
@@ -140,7 +142,7 @@ TellsAt files s told t text = (t ≡ told_at s told) × IsWithout files s text
 -- a key that no unit may have: at the first one with a value
 abbrev pub TellsSetting : List ℕ → List UnitFile → List Spot → Told → (text : List ℕ) → Type 0
 TellsSetting key files spots t text =
-    (why : List ℕ) (s : Spot) × (key_why key ≡ Some why) × (first_with key spots ≡ Some s) × TellsAt files s (key_sentence key why) t text
+    (why : List ℕ) × (s : Spot) × (key_why key ≡ Some why) × (first_with key spots ≡ Some s) × TellsAt files s (key_sentence key why) t text
 
 -- a type that isn't served: at the last Type= that names one
 abbrev pub TellsType : List UnitFile → List Spot → Told → (text : List ℕ) → Type 0
@@ -163,20 +165,26 @@ TellsLack files t text =
 -- a command too many: at the last ExecStart= that counts, without which the file has a command more where it was the only one
 abbrev pub TellsFurther : List UnitFile → List Spot → Told → (text : List ℕ) → Type 0
 TellsFurther files starts t text =
-    (s : Spot) (without : List ℕ) × (slice_get starts (length starts - 1) ≡ Some s) × TellsAt files s further_command t without
+    (s : Spot) × (without : List ℕ) × (slice_get starts (length starts - 1) ≡ Some s) × TellsAt files s further_command t without
     × (text ≡ (if length starts == 1 then without ++ command else without))
 
 -- what is wrong with the number of commands: there is none, or one too many
 abbrev pub TellsCount : List UnitFile → List Spot → Told → (text : List ℕ) → Type 0
 TellsCount files starts t text = ((starts ≡ []) × TellsLack files t text) ⊎ TellsFurther files starts t text
 
+-- the text is that of the reason
+abbrev pub Spells : Reason → List ℕ → Type 0
+Spells (Setting key) text = text ≡ codes "setting " ++ key.now
+Spells ServiceType text = text ≡ codes "type"
+Spells Restart text = text ≡ codes "restart"
+Spells ExecCount text = text ≡ codes "exec-count"
+
 -- a reason why a unit can't be loaded is told where it stands, and the text is that of the file told, without it
-abbrev pub TellsReason : (unit reason : List ℕ) → List UnitFile → List Spot → Told → (text : List ℕ) → Type 0
-TellsReason unit reason files spots t text =
-    ((key : List ℕ) × (reason ≡ codes "setting " ++ key) × TellsSetting key files spots t text)
-    ⊎ ((reason ≡ codes "type") × TellsType files spots t text)
-    ⊎ ((reason ≡ codes "restart") × TellsRestart files spots t text)
-    ⊎ ((reason ≡ codes "exec-count") × TellsCount files (starts_in unit spots) t text)
+abbrev pub TellsReason : (unit : List ℕ) → Reason → List UnitFile → List Spot → Told → (text : List ℕ) → Type 0
+TellsReason unit (Setting key) files spots t text = TellsSetting key.now files spots t text
+TellsReason unit ServiceType files spots t text = TellsType files spots t text
+TellsReason unit Restart files spots t text = TellsRestart files spots t text
+TellsReason unit ExecCount files spots t text = TellsCount files (starts_in unit spots) t text
 
 -- the files of the unit in the tree
 abbrev pub unit_files : Tree → List ℕ → List UnitFile
@@ -186,9 +194,9 @@ unit_files tree unit = files_at tree (resolution_of tree unit)
 abbrev pub unit_spots : Tree → List ℕ → List Spot
 unit_spots tree unit = all_spots (suffix_of unit) (map source_of (unit_files tree unit))
 
--- the same by the tree
+-- the reason that a text is, by the tree
 abbrev pub TellsIn : Tree → (unit reason : List ℕ) → Told → (text : List ℕ) → Type 0
-TellsIn tree unit reason t text = TellsReason unit reason (unit_files tree unit) (unit_spots tree unit) t text
+TellsIn tree unit reason t text = (r : Reason) × Spells r reason × TellsReason unit r (unit_files tree unit) (unit_spots tree unit) t text
 
 -- the reason why the unit can't be loaded is told where it stands, and the tree is without it behind that
 abbrev pub TakesOut : (before after : Tree) → (unit : List ℕ) → Told → Type 0

@@ -1,9 +1,9 @@
 //! What stands in the way of a unit's loading, and its files without that.
 
-ghost use Rattle.std.specs.Prelude.{◌≡◌, ◌⊎◌, ◌++◌, ◌==◌, [], IfOk, IfSome, codes, if◌then◌else◌, length, map, option_map, string_bytes};
+ghost use Rattle.std.specs.Prelude.{◌≡◌, ◌++◌, ◌-◌, ◌==◌, IfOk, IfSome, if◌then◌else◌, length, map, option_map, slice_get, string_bytes, true};
 ghost use Rattle.um_resolve.specs.View.{unit_file_of};
 ghost use Rattle.um_verify.specs.Findings as model;
-ghost use Rattle.um_verify.specs.View.{IsObstacle, spot_of};
+ghost use Rattle.um_verify.specs.View.{IsObstacle, spot_of, told_of};
 
 use crate::finding::Finding;
 use crate::marking::without_line;
@@ -25,6 +25,19 @@ pub struct Obstacle {
     pub finding: Finding,
     /// The text of the file at that path, without it.
     pub text: String,
+}
+
+/// Why a unit can't be loaded.
+#[derive(Clone, Copy)]
+pub enum Reason<'r> {
+    /// A key that no unit may have is given a value.
+    Setting(&'r str),
+    /// The type isn't served.
+    ServiceType,
+    /// A oneshot would be started again behind a success.
+    Restart,
+    /// There is no command, or there are too many.
+    ExecCount,
 }
 
 /// The types of services that aren't served.
@@ -122,7 +135,7 @@ fn command_too_many(
     starts: &[Spot<'_>],
     last: Spot<'_>,
 ) -> Result<Option<Obstacle>, AllocError>
-    requires { slice_get starts.now (length starts.now - 1) ≡ Some last.entry }
+    requires { slice_get starts.now (length starts.now - 1) ≡ Some last }
     ensures { IfOk result (λ o. IfSome o (IsObstacle (model.TellsFurther (map unit_file_of files.now) (map spot_of starts.now)))) }
 {
     let told = String::from_str(alloc, further_command())?;
@@ -134,8 +147,8 @@ fn command_too_many(
     Ok(Some(Obstacle { finding, text }))
 }
 
-/// What is wrong with the number of commands.
-fn wrong_count(
+/// What is wrong with the number of commands, which stand there.
+fn wrong_count_of(
     alloc: Global,
     files: &[SourceFile<'_>],
     starts: &[Spot<'_>],
@@ -146,6 +159,19 @@ fn wrong_count(
         Some(last) => command_too_many(alloc, files, starts, *last),
         None => lack_of_command(alloc, files),
     }
+}
+
+/// What is wrong with the number of commands of the unit.
+fn wrong_count(
+    alloc: Global,
+    unit: &UnitName,
+    files: &[SourceFile<'_>],
+    spots: &[Spot<'_>],
+) -> Result<Option<Obstacle>, AllocError>
+    ensures { IfOk result (λ o. IfSome o (IsObstacle (model.TellsCount (map unit_file_of files.now) (model.starts_in unit.now (map spot_of spots.now))))) }
+{
+    let starts = starts_in(alloc, unit, spots)?;
+    wrong_count_of(alloc, files, starts.as_slice())
 }
 
 /// A key that no unit may have, at its first value.
@@ -197,30 +223,57 @@ fn unserved_restart(
     obstacle_at(alloc, files, spot, told)
 }
 
+/// The reason that the text is.
+fn reason_named(text: &str) -> Option<Reason<'_>>
+    ensures { IfSome result (λ reason. model.Spells reason text.now) }
+{
+    if let Some(key) = text.strip_prefix("setting ") {
+        return Some(Reason::Setting(key));
+    }
+    if text == "type" {
+        return Some(Reason::ServiceType);
+    }
+    if text == "restart" {
+        return Some(Reason::Restart);
+    }
+    if text == "exec-count" {
+        return Some(Reason::ExecCount);
+    }
+    None
+}
+
 /// The reason where it stands.
 fn reason_at(
     alloc: Global,
     unit: &UnitName,
     files: &[SourceFile<'_>],
     spots: &[Spot<'_>],
-    reason: &str,
+    reason: Reason<'_>,
 ) -> Result<Option<Obstacle>, AllocError>
-    ensures { IfOk result (λ o. IfSome o (IsObstacle (model.TellsReason unit.now reason.now (map unit_file_of files.now) (map spot_of spots.now)))) }
+    ensures { IfOk result (λ o. IfSome o (IsObstacle (model.TellsReason unit.now reason.entry (map unit_file_of files.now) (map spot_of spots.now)))) }
 {
-    if let Some(key) = reason.strip_prefix("setting ") {
-        return refused_setting(alloc, files, spots, key);
+    match reason {
+        Reason::Setting(key) => refused_setting(alloc, files, spots, key),
+        Reason::ServiceType => unserved_type(alloc, files, spots),
+        Reason::Restart => unserved_restart(alloc, files, spots),
+        Reason::ExecCount => wrong_count(alloc, unit, files, spots),
     }
-    if reason == "type" {
-        return unserved_type(alloc, files, spots);
-    }
-    if reason == "restart" {
-        return unserved_restart(alloc, files, spots);
-    }
-    if reason == "exec-count" {
-        let starts = starts_in(alloc, unit, spots)?;
-        return wrong_count(alloc, files, starts.as_slice());
-    }
-    Ok(None)
+}
+
+/// The reason where it stands in the unit's files.
+fn reason_in(
+    alloc: Global,
+    tree: &Tree,
+    unit: &UnitName,
+    reason: Reason<'_>,
+) -> Result<Option<Obstacle>, AllocError>
+    ensures { IfOk result (λ o. IfSome o (IsObstacle (model.TellsReason unit.now reason.entry (model.unit_files tree.now unit.now) (model.unit_spots tree.now unit.now)))) }
+{
+    let resolution = resolve(alloc, tree, unit)?;
+    let files = source_files(alloc, tree, &resolution)?;
+    let readings = readings(alloc, files.as_slice())?;
+    let spots = spots(alloc, unit.suffix(), readings.as_slice())?;
+    reason_at(alloc, unit, files.as_slice(), spots.as_slice(), reason)
 }
 
 /// Why the unit of the tree isn't loaded, where that reason stands. None where that isn't found.
@@ -232,9 +285,8 @@ pub fn obstacle_of(
 ) -> Result<Option<Obstacle>, AllocError>
     ensures { IfOk result (λ o. IfSome o (IsObstacle (model.TellsIn tree.now unit.now reason.now))) }
 {
-    let resolution = resolve(alloc, tree, unit)?;
-    let files = source_files(alloc, tree, &resolution)?;
-    let readings = readings(alloc, files.as_slice())?;
-    let spots = spots(alloc, unit.suffix(), readings.as_slice())?;
-    reason_at(alloc, unit, files.as_slice(), spots.as_slice(), reason)
+    let Some(reason) = reason_named(reason) else {
+        return Ok(None);
+    };
+    reason_in(alloc, tree, unit, reason)
 }
