@@ -1,6 +1,5 @@
-use Rattle.std.proofs.Common.{◌≡◌, ◌∙◌, Some, None, ap, map, option_map, string_bytes, sym, slice_get}
+use Rattle.std.proofs.Common.{◌≡◌, ◌∙◌, Some, None, ap, map, option_map, sym, slice_get}
 use Rattle.um_resolve.specs.View.{unit_file_of}
-use Rattle.um_verify.specs.Findings.{Told}
 use Rattle.um_verify.specs.View.{told_of}
 use Rattle.um_sentences.specs.Sentences.{no_command}
 use Rattle.std.proofs.lemmas.Option.{slice_get-map}

@@ -3,7 +3,7 @@ use Rattle.um_model.specs.Resolution.{UnitFile, files_at}
 use Rattle.um_model.specs.Units.{source_of}
 use Rattle.um_resolve.specs.View.{unit_file_of}
 use Rattle.um_verify.proofs.Obstacles.{by_parts}
-use Rattle.um_verify.specs.Findings.{Spot, TellsReason, all_spots, unit_files, unit_spots}
+use Rattle.um_verify.specs.Findings.{Spot, TellsReason, all_spots, unit_files}
 use Rattle.um_verify.specs.View.{IsObstacle, source_seen, spot_of}
 use Rattle.um_verify.proofs.obstacle.reason_in.Goals as goal
 
