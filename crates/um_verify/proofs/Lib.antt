@@ -1,2 +1,3 @@
 mod Obstacles
+mod SpotLaws
 mod TellsLaws

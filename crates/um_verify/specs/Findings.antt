@@ -7,14 +7,14 @@ use Rattle.std.specs.FinMap as finite
 use Rattle.std.specs.List.{flat_map}
 use Rattle.std.specs.Result.{result_unwrap_or}
 use Rattle.std.specs.Str.{bytes_eq}
-use Rattle.um_model.specs.Keys.{is_known_section}
+use Rattle.um_model.specs.Keys.{is_known_section, is_refused_key}
 use Rattle.um_model.specs.Names.{suffix_of}
 use Rattle.um_model.specs.Requests.{is_among}
 use Rattle.um_model.specs.Resolution.{UnitFile, files_at, resolution_of}
 use Rattle.um_model.specs.Syntax.{Item, Assignment, Placed}
 use Rattle.um_model.specs.Text.{is_empty}
 use Rattle.um_model.specs.Tree.{Tree, put_file}
-use Rattle.um_model.specs.Units.{BadSetting, Found, Loading, Source, Warning, load, source_of}
+use Rattle.um_model.specs.Units.{Assigned, BadSetting, Found, Loading, Source, Warning, load, source_of}
 use Rattle.um_model.specs.declared.names.Suffix.{Suffix}
 use Rattle.um_verify.specs.declared.obstacle.Reason.{Reason}
 use Rattle.um_verify.specs.declared.obstacle.Reason.TheVariants.{Setting, ServiceType, Restart, ExecCount}
@@ -69,6 +69,18 @@ gives key s = bytes_eq s.key key && not (is_empty s.value)
 -- the first assignment that does
 abbrev pub first_with : List ℕ → List Spot → Option Spot
 first_with key spots = find (gives key) spots
+
+-- the assignment as it counts for loading: its place doesn't
+abbrev pub assigned_at : Spot → Assigned
+assigned_at s = record { section = s.section; key = s.key; value = s.value }
+
+-- an assignment gives a value to a key that no unit may have
+abbrev pub is_refused : Spot → Bool
+is_refused s = is_refused_key s.key && not (is_empty s.value)
+
+-- the first assignment that does
+abbrev pub first_refused : List Spot → Option Spot
+first_refused spots = find is_refused spots
 
 -- an assignment of [Service] gives this key one of these values
 abbrev pub says : List ℕ → List (List ℕ) → Spot → Bool
