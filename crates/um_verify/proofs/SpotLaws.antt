@@ -76,6 +76,7 @@ first_told (x ∷ xs) s found = step (is_refused x) (gives s.key x) refl refl (�
   where
     valued : is_refused s ≡ true
     valued = passes is_refused (x ∷ xs) s found
+
     step : (r g : Bool) → is_refused x ≡ r → gives s.key x ≡ g → (first_refused xs ≡ Some s → first_with s.key xs ≡ Some s) → first_with s.key (x ∷ xs) ≡ Some s
     step true true refused given more =
         let same : Some x ≡ Some s = subst (λ b. cond b (Some x) (first_refused xs) ≡ Some s) refused found in

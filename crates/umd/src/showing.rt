@@ -70,10 +70,10 @@ struct Kept<'a> {
 }
 
 /// The value of the reply to a query.
-fn asked<R: Net + Clock + Input>(
+fn asked<'w, R: Net + Clock + Input>(
     asking: &Asking<'_, R>,
-    verb: &str,
-    arguments: &[&str],
+    verb: &'w str,
+    arguments: &'w [&'w str],
 ) -> Result<Value, ShowFault> {
     match value_of(asking, verb, arguments)? {
         Answer::Value(value) => Ok(value),

@@ -124,10 +124,10 @@ pub enum Answer {
 }
 
 /// The value of the reply to a query, of a unit where one is named.
-pub fn value_of<R: Net + Clock + Input>(
+pub fn value_of<'w, R: Net + Clock + Input>(
     asking: &Asking<'_, R>,
-    verb: &str,
-    arguments: &[&str],
+    verb: &'w str,
+    arguments: &'w [&'w str],
 ) -> Result<Answer, CtlFault> {
     let words = Words {
         verb,

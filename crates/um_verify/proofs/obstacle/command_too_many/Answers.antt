@@ -18,5 +18,5 @@ returns c =
     let tells = subst (λ s. TellsAt files spot s (told_of c.in-Some.obstacle.finding) without) said obstacle.0 in
     let count : length (map spot_of starts) ≡ length starts = length-map starts spot_of in
     let here : slice_get (map spot_of starts) (length (map spot_of starts) - 1) ≡ Some spot =
-        ap (λ n. slice_get (map spot_of starts) (n - 1)) count ∙ slice_get-map spot_of starts (length starts - 1) ∙ ap (option_map spot_of) c.requires in
+    ap (λ n. slice_get (map spot_of starts) (n - 1)) count ∙ slice_get-map spot_of starts (length starts - 1) ∙ ap (option_map spot_of) c.requires in
     ((spot, without, here, tells, c.in_ok-text.ensures ∙ ap (λ (n : ℕ). if n == 1 then without ++ command else without) (sym count)), obstacle.1)
