@@ -1,7 +1,8 @@
 -- How a unit stands, as a person reads it: of the replies to `show` and `list-jobs`, of a pid, and of the line by which the end of its last process is kept.
 -- No manual page has this: it is the project's own (docs/FORMATS.md, "The program").
 -- What `umd status` prints, and what `umd ctl --wait` goes by, stand on this file.
-use Rattle.std.specs.Prelude.{◌≡◌, ◌≢◌, ◌<◌, ◌⊎◌, ℕ, ◌-◌, ◌*◌, ◌/◌, ◌^◌, List, [], ◌∷◌, ◌++◌, Bool, false, ◌&&◌, ◌||◌, not, max, ◌==◌, Option, Some, None, codes, decimal, find, flat_map, fold, if◌then◌else◌, length, option_and_then, replicate, pos}
+use Rattle.std.specs.Prelude.{◌≡◌, ◌≢◌, ◌<◌, ◌⊎◌, ℕ, ◌-◌, ◌*◌, ◌/◌, ◌^◌, List, [], ◌∷◌, ◌++◌, Bool, false, ◌&&◌, ◌||◌, not, max, ◌==◌}
+use Rattle.std.specs.Prelude.{Option, Some, None, codes, decimal, find, flat_map, fold, if◌then◌else◌, length, option_and_then, replicate, pos}
 use Rattle.std.specs.List.{list_any}
 use Rattle.std.specs.Option.{option_map_or}
 use Rattle.std.specs.Str.{bytes_eq}

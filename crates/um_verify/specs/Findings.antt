@@ -1,8 +1,8 @@
 -- What is told of a unit before any manager has it: each reason why it can't be loaded, at its line, and the same without that line.
 -- Follows systemd.unit(5) in what `X-` before a key means; the sentences are the project's own (docs/FORMATS.md, "The program").
 -- `umd verify`, and why `umd status` tells that a unit isn't loaded, stand on this file.
-use Rattle.std.specs.Prelude.{◌≡◌, Ok, ◌⊎◌, ℕ, ◌+◌, ◌-◌, ◌≤◌, ◌==◌, ◌&&◌, not, Bool, true, false, List, [], ◌∷◌, ◌++◌, Option, Some, None, codes, count_by, decimal, drop}
-use Rattle.std.specs.Prelude.{find, fold, if◌then◌else◌, length, map, option_map, slice_get, take}
+use Rattle.std.specs.Prelude.{◌≡◌, Ok, ◌⊎◌, ℕ, ◌+◌, ◌-◌, ◌≤◌, ◌==◌, ◌&&◌, not, Bool, true, false, List, [], ◌∷◌, ◌++◌, Option, Some, None}
+use Rattle.std.specs.Prelude.{codes, count_by, decimal, drop, find, fold, if◌then◌else◌, length, map, option_map, slice_get, take}
 use Rattle.std.specs.FinMap as finite
 use Rattle.std.specs.List.{flat_map}
 use Rattle.std.specs.Result.{result_unwrap_or}

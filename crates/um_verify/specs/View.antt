@@ -51,7 +51,8 @@ IsRest tree unit rest =
 
 -- what became of a look, by the tree that is left
 abbrev pub EndsAs : Tree → List ℕ → List model.Told → Looked → Type 0
-EndsAs tree unit reasons (looked.Found found) = (first rest : List Finding) × (found.items ≡ first ++ rest) × (map told_of first ≡ reasons) × IsRest tree unit rest
+EndsAs tree unit reasons (looked.Found found) =
+    (first rest : List Finding) × (found.items ≡ first ++ rest) × (map told_of first ≡ reasons) × IsRest tree unit rest
 EndsAs tree unit reasons looked.Masked = (named : List ℕ) × (load tree unit ≡ Masked named)
 EndsAs tree unit reasons looked.NotFound = load tree unit ≡ NotFound
 

@@ -1,7 +1,6 @@
-use Rattle.std.proofs.Common.{◌≡◌, ◌≢◌, ◌<◌, ◌^◌, ◌++◌, ◌∷◌, ℕ, MatchOption, None, Option, Some, arith, ap, subst, sym, ◌∙◌}
+use Rattle.std.proofs.Common.{◌≡◌, ◌<◌, ◌^◌, ◌++◌, ◌∷◌, ℕ, None, Some, arith, ap, ◌∙◌}
 use Rattle.std.proofs.lemmas.Str.Pattern.{split_parts}
 use Rattle.std.specs.Prelude.{decimal}
-use Rattle.um_status.specs.Status.{IsNoEnd, end_text}
 use Rattle.um_status.proofs.Cuts.{no_end_whole, no_end_once, no_end_number, no_end_moment}
 use Rattle.um_status.proofs.ends.last_end.Goals as goal
 
