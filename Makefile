@@ -8,6 +8,7 @@
 # make runner-rows: plays the rows of a runner against the proved program, with real processes.
 # make serve-rows: plays the rows of a served store against the proved program, with real processes, sockets and files.
 # make ctl-rows: plays the rows of the command line against the proved program: create and ctl, their faults, statuses, help and what is printed.
+# make status-rows: plays the rows of what is told people against the proved program: status, verify, ctl --wait and help.
 # make memory-rows: lets each single allocation of a manager in memory fail in turn, and asserts that nothing changes (it needs cc).
 # make mutated: plays 200,000 frames, 50,000 unit files, 20,000 images and 5,000 folders of runners that were changed at random through the proved
 # program, outside the gate (tools/mutated --help); the gate plays a selection of them.
@@ -16,7 +17,7 @@
 # make bench: measures the proved program, and the writing and reading of states (um_bench); the figures that a document calls
 # measured come from it. It ends with an error where a wanted ratio isn't met, that of queries while services run, or a step costs more than it may
 # (docs/DECISIONS.md, "Serving").
-.PHONY: run umd unproved test edits bench runner-rows serve-rows ctl-rows memory-rows mutated in-turn
+.PHONY: run umd unproved test edits bench runner-rows serve-rows ctl-rows status-rows memory-rows mutated in-turn
 run:
 	@sh tools/show
 
@@ -56,6 +57,9 @@ serve-rows: umd
 
 ctl-rows: umd
 	@tools/ctl-rows crates/umd/out/umd
+
+status-rows: umd
+	@tools/status-rows crates/umd/out/umd
 
 mutated: umd
 	@tools/mutated crates/umd/out/umd

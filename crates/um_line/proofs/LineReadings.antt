@@ -7,11 +7,13 @@ use Rattle.clap.specs.declared.error.Error.{Error}
 use Rattle.clap.specs.declared.error.kind.ErrorKind.{ErrorKind}
 use Rattle.clap.specs.declared.error.kind.ErrorKind.TheVariants.{OutOfMemory}
 use Rattle.std.proofs.lemmas.Fmt.{decimal_injective}
-use Rattle.std.specs.Prelude.{decimal}
+use Rattle.std.specs.Prelude.{codes, decimal, None}
 use Rattle.std.specs.declared.alloc.AllocError.{AllocError}
-use Rattle.um_line.specs.Line.{IsNoCode, IsNoNumber, IsReadLine, last_refusal, IsToldAs, TellsMistake, umd_words, create_words, check_words, serve_words, ctl_words, logs_words}
+use Rattle.um_line.specs.Line.{HasNoHelp, named, IsNoCode, IsNoNumber, IsReadLine, last_refusal, IsToldAs, TellsMistake, umd_words, create_words, check_words, serve_words, ctl_words, logs_words, status_words, verify_words}
 use Rattle.um_line.specs.declared.line.Line.{Line}
-use Rattle.um_line.specs.declared.line.Line.TheVariants.{Memory, Run, Create, Check, Serve, LongBoot, Ctl, Logs, Help, Told, Wrong}
+use Rattle.um_line.specs.declared.line.Subcommand.TheVariants.{Nothing}
+use Rattle.um_sentences.specs.Sentences.{topic_named}
+use Rattle.um_line.specs.declared.line.Line.TheVariants.{Memory, Run, Create, Check, Serve, LongBoot, Ctl, Status, Verify, Logs, Help, Topic, Told, Wrong}
 
 -- the words of the program are simple ones
 pub umd_simple : is_simple_and_free umd_words ≡ true
@@ -58,6 +60,22 @@ pub logs_plain : is_simple logs_words ≡ true
 unfolding clap_on_literals
 logs_plain = refl
 
+pub status_simple : is_simple_and_free status_words ≡ true
+unfolding clap_on_literals
+status_simple = refl
+
+pub status_plain : is_simple status_words ≡ true
+unfolding clap_on_literals
+status_plain = refl
+
+pub verify_simple : is_simple_and_free verify_words ≡ true
+unfolding clap_on_literals
+verify_simple = refl
+
+pub verify_plain : is_simple verify_words ≡ true
+unfolding clap_on_literals
+verify_plain = refl
+
 told : (mistakes : Kinds) (kind : ErrorKind) (line : Line) → IsAmong kind mistakes → IsToldAs kind line → TellsMistake mistakes line
 told mistakes kind (Told text) among (inl is) = inl (subst (λ k. IsAmong k mistakes) is among)
 told mistakes kind (Told text) among (inr is) = inr (subst (λ k. IsAmong k mistakes) is among)
@@ -71,6 +89,9 @@ told mistakes kind LongBoot among is = absurd is
 told mistakes kind (Ctl line) among is = absurd is
 told mistakes kind (Logs line) among is = absurd is
 told mistakes kind (Help n) among is = absurd is
+told mistakes kind (Status line) among is = absurd is
+told mistakes kind (Verify line) among is = absurd is
+told mistakes kind (Topic line) among is = absurd is
 
 -- a mistake is told
 pub mistaken : {E : Type 0} (mistakes : Kinds) (Takes : Line → Type 0) (e : Error) (r : Result Line E) → HasKind mistakes e
@@ -122,11 +143,20 @@ outside low high m bytes text some is below small (inr over) n least most same =
     let eq = decimal_injective m n below (omega arith) e in omega arith
 
 -- a number outside the refusals' is the word for none of them
-pub no_code : (m : ℕ) (word digits : List ℕ) → word ≡ 69 ∷ digits → digits ≡ decimal m → m < 2 ^ 64 → (m < 1) ⊎ ((1 ≤ m) × (last_refusal < m))
+pub no_code : (m first : ℕ) (word digits : List ℕ) → word ≡ first ∷ digits → digits ≡ decimal m → m < 2 ^ 64 → (m < 1) ⊎ ((1 ≤ m) × (last_refusal < m))
     → IsNoCode word
-no_code m word digits is said below (inl under) n least most same =
+no_code m first word digits is said below (inl under) letter n fits least most same =
     let e : decimal m ≡ decimal n = sym said ∙ ap (drop 1) (sym is ∙ same) in
     let eq = decimal_injective m n below (omega arith) e in omega arith
-no_code m word digits is said below (inr (not_under, over)) n least most same =
+no_code m first word digits is said below (inr (not_under, over)) letter n fits least most same =
     let e : decimal m ≡ decimal n = sym said ∙ ap (drop 1) (sym is ∙ same) in
     let eq = decimal_injective m n below (omega arith) e in omega arith
+
+-- a word that has no help is told wrong
+pub wrong_word : (word : List ℕ) → IsNoCode word → named (Some word) ≡ Nothing → topic_named word ≡ None → word ≢ codes "--help"
+    → (word ∷ [] ≢ []) × (word ∷ [] ≢ codes "--help" ∷ []) × ((w : List ℕ) → word ∷ [] ≡ w ∷ [] → HasNoHelp w)
+wrong_word word code none topic other = (
+  (λ e. let bad : ⊥ = cc in bad),
+  (λ e. let same : word ≡ codes "--help" = cc in other same),
+  (λ w e. let same : word ≡ w = cc in subst HasNoHelp same (code, none, topic)),
+)

@@ -12,12 +12,16 @@ use Rattle.um_line.specs.declared.create.CreateLine.{CreateLine}
 use Rattle.um_line.specs.declared.ctl.CtlLine.{CtlLine}
 use Rattle.um_line.specs.declared.logs.LogsLine.{LogsLine}
 use Rattle.um_line.specs.declared.serve.ServeLine.{ServeLine}
+use Rattle.um_line.specs.declared.status.StatusLine.{StatusLine}
+use Rattle.um_line.specs.declared.verify.VerifyLine.{VerifyLine}
 use Rattle.um_line.specs.declared.line.Line.{Line}
-use Rattle.um_line.specs.declared.line.Line.TheVariants.{Memory, Run, Create, Check, Serve, LongBoot, Ctl, Logs, Help, Told, Wrong}
+use Rattle.um_line.specs.declared.help.TopicLine.{TopicLine}
+use Rattle.um_line.specs.declared.line.Line.TheVariants.{Memory, Run, Create, Check, Serve, LongBoot, Ctl, Status, Verify, Logs, Help, Topic, Told, Wrong}
 use Rattle.um_line.specs.declared.line.Subcommand.{Subcommand}
 use Rattle.um_line.specs.declared.line.Subcommand.TheVariants as sub
 use Rattle.um_runner.specs.Jobs.{entries_of, words_of}
 use Rattle.um_runner.specs.RunnerLines.{TellsRunner}
+use Rattle.um_sentences.specs.Sentences.{topic_named}
 
 -- ---- what the words may be
 
@@ -49,6 +53,10 @@ letter_flag_rule name letter = record (new_rule name) { short = Some letter; act
 abbrev pub words_rule : List ℕ → Rule
 words_rule name = record (new_rule name) { required = true; value_names = 1; action = Some Append }
 
+-- words that may all be left out
+abbrev pub any_words_rule : List ℕ → Rule
+any_words_rule name = record (new_rule name) { value_names = 1; action = Some Append }
+
 -- the flag `--memory`, which has to be given
 abbrev pub memory_rule : Rule
 memory_rule = record (new_rule (codes "memory")) { long = Some (codes "memory"); required = true; action = Some SetTrue }
@@ -73,11 +81,22 @@ serve_words =
     (option_rule (codes "socket"))) (option_rule (codes "dir"))) (option_rule (codes "runner"))) (optional_rule (codes "start")))
     (optional_rule (codes "output"))) (optional_rule (codes "output-size"))) (word_rule (codes "file"))
 
--- the words of `umd ctl`: the socket, two times and a mode that may be left out, and a verb with its arguments
+-- the words of `umd ctl`: the socket, two times, a mode and a flag that may be left out, and a verb with its arguments
 abbrev pub ctl_words : App
 ctl_words =
-    with_rule (with_rule (with_rule (with_rule (with_rule (new_app (codes "umd ctl")) (option_rule (codes "socket"))) (optional_rule (codes "retry")))
-    (optional_rule (codes "timeout"))) (optional_rule (codes "mode"))) (words_rule (codes "word"))
+    with_rule (with_rule (with_rule (with_rule (with_rule (with_rule (new_app (codes "umd ctl")) (optional_rule (codes "socket")))
+    (optional_rule (codes "retry"))) (optional_rule (codes "timeout"))) (optional_rule (codes "mode"))) (flag_rule (codes "wait"))) (words_rule (codes "word"))
+
+-- the words of `umd status`: the socket, two times and two folders that may be left out, and units
+abbrev pub status_words : App
+status_words =
+    with_rule (with_rule (with_rule (with_rule (with_rule (with_rule (new_app (codes "umd status")) (optional_rule (codes "socket")))
+    (optional_rule (codes "retry"))) (optional_rule (codes "timeout"))) (optional_rule (codes "dir"))) (optional_rule (codes "output")))
+    (any_words_rule (codes "unit"))
+
+-- the words of `umd verify`: folders and files
+abbrev pub verify_words : App
+verify_words = with_rule (new_app (codes "umd verify")) (words_rule (codes "path"))
 
 -- the words of `umd logs`: where output is kept, how many lines, and two flags may be left out; and a unit
 abbrev pub logs_words : App
@@ -279,17 +298,18 @@ TakesServe rows other = ⊥
 abbrev pub IsServeLine : List (List ℕ) → Line → Type 0
 IsServeLine words = IsReadLine (fault_of serve_words words) (TakesServe (matches_of serve_words words))
 
--- a verb with its arguments, for the manager at a socket, and how long is waited
+-- a verb with its arguments, for the manager at a socket, how long is waited, and whether for what becomes of the unit
 abbrev pub IsCtl : List Row → CtlLine → Type 0
 IsCtl rows line =
-    (first_of (codes "socket") rows ≡ Some line.socket.now) × IsTime (first_of (codes "retry") rows) line.retry
+    (first_of (codes "socket") rows ≡ option_map (λ path. path.now) line.socket) × IsTime (first_of (codes "retry") rows) line.retry
     × IsTime (first_of (codes "timeout") rows) line.timeout × (first_of (codes "mode") rows ≡ option_map (λ mode. mode.now) line.mode)
+    × ((line.waits ≡ true) ↔ (first_of (codes "wait") rows ≡ Some (codes "true")))
     × (all_of (codes "word") rows ≡ Some (line.verb.now ∷ map (λ word. word.now) line.arguments.items))
 
 -- a word is missing, or a time isn't within its limits
 abbrev pub IsNoCtl : List Row → Type 0
 IsNoCtl rows =
-    (first_of (codes "socket") rows ≡ None) ⊎ IsNoTime (first_of (codes "retry") rows) ⊎ IsNoTime (first_of (codes "timeout") rows)
+    IsNoTime (first_of (codes "retry") rows) ⊎ IsNoTime (first_of (codes "timeout") rows)
     ⊎ (all_of (codes "word") rows ≡ None) ⊎ (all_of (codes "word") rows ≡ Some [])
 
 -- what they ask for by these values
@@ -301,6 +321,43 @@ TakesCtl rows other = ⊥
 -- what the words from `ctl` on ask for
 abbrev pub IsCtlLine : List (List ℕ) → Line → Type 0
 IsCtlLine words = IsReadLine (fault_of ctl_words words) (TakesCtl (matches_of ctl_words words))
+
+-- the units that words name; where none stands, none
+abbrev pub IsUnits : Option (List (List ℕ)) → List (List ℕ) → Type 0
+IsUnits None units = units ≡ []
+IsUnits (Some words) units = units ≡ words
+
+-- units whose state is asked for, of the manager at a socket, how long is waited, and where processes and their output are kept
+abbrev pub IsStatus : List Row → StatusLine → Type 0
+IsStatus rows line =
+    (first_of (codes "socket") rows ≡ option_map (λ path. path.now) line.socket) × IsTime (first_of (codes "retry") rows) line.retry
+    × IsTime (first_of (codes "timeout") rows) line.timeout × (first_of (codes "dir") rows ≡ option_map (λ folder. folder.now) line.dir)
+    × (first_of (codes "output") rows ≡ option_map (λ folder. folder.now) line.output)
+    × IsUnits (all_of (codes "unit") rows) (map (λ unit. unit.now) line.units.items)
+
+-- a time isn't within its limits
+abbrev pub IsNoStatus : List Row → Type 0
+IsNoStatus rows = IsNoTime (first_of (codes "retry") rows) ⊎ IsNoTime (first_of (codes "timeout") rows)
+
+-- what they ask for by these values
+abbrev pub TakesStatus : List Row → Line → Type 0
+TakesStatus rows (Status line) = IsStatus rows line
+TakesStatus rows (Wrong text) = IsNoStatus rows
+TakesStatus rows other = ⊥
+
+-- what the words from `status` on ask for
+abbrev pub IsStatusLine : List (List ℕ) → Line → Type 0
+IsStatusLine words = IsReadLine (fault_of status_words words) (TakesStatus (matches_of status_words words))
+
+-- what they ask for by these values: folders and files that are looked at
+abbrev pub TakesVerify : List Row → Line → Type 0
+TakesVerify rows (Verify line) = all_of (codes "path") rows ≡ Some (map (λ path. path.now) line.paths.items)
+TakesVerify rows (Wrong text) = all_of (codes "path") rows ≡ None
+TakesVerify rows other = ⊥
+
+-- what the words from `verify` on ask for
+abbrev pub IsVerifyLine : List (List ℕ) → Line → Type 0
+IsVerifyLine words = IsReadLine (fault_of verify_words words) (TakesVerify (matches_of verify_words words))
 
 -- a unit whose output is asked for, where it is kept, how many of its last lines, and whether it is followed and put out as it is
 abbrev pub IsLogs : List Row → LogsLine → Type 0
@@ -323,22 +380,19 @@ TakesLogs rows other = ⊥
 abbrev pub IsLogsLine : List (List ℕ) → Line → Type 0
 IsLogsLine words = IsReadLine (fault_of logs_words words) (TakesLogs (matches_of logs_words words))
 
--- the word for a refusal: an `E` and its number in decimal digits
+-- the letter before the number of a refusal: `E` or `e`
+abbrev pub IsLetter : ℕ → Type 0
+IsLetter b = (b ≡ 69) ⊎ (b ≡ 101)
+
+-- the word for a refusal: that letter, and its number in decimal digits
 abbrev pub IsCode : ℕ → List ℕ → Type 0
-IsCode n word = (word ≡ 69 ∷ decimal n) × (1 ≤ n) × (n ≤ last_refusal)
+IsCode n word = (letter : ℕ) × IsLetter letter × (word ≡ letter ∷ decimal n) × (1 ≤ n) × (n ≤ last_refusal)
 
 -- it is no such word
 abbrev pub IsNoCode : List ℕ → Type 0
-IsNoCode word = (n : ℕ) → 1 ≤ n → n ≤ last_refusal → word ≢ 69 ∷ decimal n
+IsNoCode word = (letter n : ℕ) → IsLetter letter → 1 ≤ n → n ≤ last_refusal → word ≢ letter ∷ decimal n
 
--- what the words behind `help` ask for: what one refusal means, or how `umd help` is used
-abbrev pub IsHelpLine : List (List ℕ) → Line → Type 0
-IsHelpLine words (Help n) = (word : List ℕ) × (words ≡ word ∷ []) × IsCode n word
-IsHelpLine words (Told text) = (words ≡ []) ⊎ (words ≡ codes "--help" ∷ [])
-IsHelpLine words (Wrong text) = (words ≢ []) × (words ≢ codes "--help" ∷ []) × ((word : List ℕ) → words ≡ word ∷ [] → IsNoCode word)
-IsHelpLine words other = ⊥
-
--- ---- all of them
+-- ---- the subcommands
 
 abbrev pub named : Option (List ℕ) → Subcommand
 named None = sub.Nothing
@@ -348,8 +402,30 @@ named (Some word) =
     else (if bytes_eq word (codes "check") then sub.Check
     else (if bytes_eq word (codes "serve") then sub.Serve
     else (if bytes_eq word (codes "ctl") then sub.Ctl
+    else (if bytes_eq word (codes "status") then sub.Status
+    else (if bytes_eq word (codes "verify") then sub.Verify
     else (if bytes_eq word (codes "logs") then sub.Logs
-    else (if bytes_eq word (codes "help") then sub.Help else sub.Nothing))))))
+    else (if bytes_eq word (codes "help") then sub.Help else sub.Nothing))))))))
+
+-- ---- help
+
+-- one word that the words are
+abbrev pub IsOneWord : List (List ℕ) → (List ℕ → Type 0) → Type 0
+IsOneWord words Is = (word : List ℕ) × (words ≡ word ∷ []) × Is word
+
+-- the word has no help: it is no refusal, no subcommand and no word with a sentence
+abbrev pub HasNoHelp : List ℕ → Type 0
+HasNoHelp word = IsNoCode word × (named (Some word) ≡ sub.Nothing) × (topic_named word ≡ None)
+
+-- what the words behind `help` ask for: what one refusal or one word means, or how `umd help` or a subcommand is used
+abbrev pub IsHelpLine : List (List ℕ) → Line → Type 0
+IsHelpLine words (Help n) = IsOneWord words (IsCode n)
+IsHelpLine words (Topic line) = (words ≡ line.word.now ∷ []) × (topic_named line.word.now ≡ Some line.topic)
+IsHelpLine words (Told text) = (words ≡ []) ⊎ (words ≡ codes "--help" ∷ []) ⊎ IsOneWord words (λ word. named (Some word) ≢ sub.Nothing)
+IsHelpLine words (Wrong text) = (words ≢ []) × (words ≢ codes "--help" ∷ []) × ((word : List ℕ) → words ≡ word ∷ [] → HasNoHelp word)
+IsHelpLine words other = ⊥
+
+-- ---- all of them
 
 -- the subcommand behind the program's name
 abbrev pub subcommand_of : List (List ℕ) → Subcommand
@@ -361,6 +437,8 @@ IsLineBy sub.Create words = IsCreateLine (drop 1 words)
 IsLineBy sub.Check words = IsCheckLine (drop 1 words)
 IsLineBy sub.Serve words = IsServeLine (drop 1 words)
 IsLineBy sub.Ctl words = IsCtlLine (drop 1 words)
+IsLineBy sub.Status words = IsStatusLine (drop 1 words)
+IsLineBy sub.Verify words = IsVerifyLine (drop 1 words)
 IsLineBy sub.Logs words = IsLogsLine (drop 1 words)
 IsLineBy sub.Help words = IsHelpLine (drop 1 (drop 1 words))
 IsLineBy sub.Nothing words = IsTopLine words

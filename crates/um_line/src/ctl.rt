@@ -7,7 +7,9 @@ ghost use Rattle.um_line.specs.Line.{ctl_words, IsCtlLine, IsToldAs, TakesCtl};
 use crate::line::Line;
 use crate::mistake::line_of_mistake;
 use crate::numbers::time;
-use crate::values::{described, value, values, with_option, with_optional, with_words};
+use crate::values::{
+    copied, described, is_given, value, values, with_flag, with_optional, with_words,
+};
 use clap::error::ErrorKind;
 use clap::{ArgMatches, Command, Error};
 use std::alloc::{AllocError, Global};
@@ -16,8 +18,8 @@ use um_ctl::verb_lines;
 /// What the manager at a socket is asked.
 #[derive(Debug, Drop)]
 pub struct CtlLine<'a> {
-    /// The path of the socket.
-    pub socket: &'a str,
+    /// The path of the socket: what `--socket` told.
+    pub socket: Option<&'a str>,
     /// For so many seconds it connects again where nobody reads the request: what `--retry` told.
     pub retry: Option<u32>,
     /// For so many seconds it waits for the reply: what `--timeout` told.
@@ -26,12 +28,14 @@ pub struct CtlLine<'a> {
     pub arguments: Vec<&'a str>,
     /// What `--mode` told.
     pub mode: Option<&'a str>,
+    /// It is waited for what becomes of the unit.
+    pub waits: bool,
 }
 
 /// What is told where a word is missing.
 const USAGE: &str = "error: a word is missing
 
-Usage: umd ctl --socket <PATH> [--retry <SECONDS>] [--timeout <SECONDS>] [--mode <MODE>] <VERB> [ARG]..
+Usage: umd ctl [--socket <PATH>] [--retry <SECONDS>] [--timeout <SECONDS>] [--mode <MODE>] [--wait] <VERB> [ARG]..
 
 For more information, try '--help'.
 ";
@@ -39,12 +43,13 @@ For more information, try '--help'.
 /// What is told where a time isn't within its limits.
 const NO_TIME: &str = "error: --retry and --timeout are 1 to 86400 seconds
 
-Usage: umd ctl --socket <PATH> [--retry <SECONDS>] [--timeout <SECONDS>] [--mode <MODE>] <VERB> [ARG]..
+Usage: umd ctl [--socket <PATH>] [--retry <SECONDS>] [--timeout <SECONDS>] [--mode <MODE>] [--wait] <VERB> [ARG]..
 
 For more information, try '--help'.
 ";
 
-const SOCKET_HELP: &str = "The socket that the manager serves";
+const SOCKET_HELP: &str =
+    "The socket that the manager serves; where it is left out, what the variable UMD_SOCKET holds";
 
 const RETRY_HELP: &str =
     "Where nothing stands at the socket, nobody answers there or the connection is closed unread: connects again for so long, 1 to 86400 seconds";
@@ -57,16 +62,22 @@ const WORD_HELP: &str = "A verb, and its fields in their order";
 const MODE_HELP: &str =
     "For start, stop, restart and try-restart: fail, where a pending job would be dropped, or replace";
 
+const WAIT_HELP: &str =
+    "For start, stop and restart: goes on until no job of the unit is pending and it neither starts nor stops, and ends with 0, printing nothing, where that is what was asked for, else with 1 and a line that says how the unit stands; --timeout is of the whole";
+
 const AFTER_HELP: &str =
     "Words after -- may begin with a -. A refusal prints one line, as E4 NotFound a.service; umd help E4 says what it means and what to do.
 
-Exit statuses: 0 done; 1 refused; 2 wrong words; 3 not active, not failed, not enabled; 4 no connection, or it was closed unread and the request not taken; 5 a fault; 6 no reply in time.
+With --wait start and restart end with 0 where the unit is active, one that runs still under the same process a second later, or where it has ended with success; stop where it is inactive or failed, but for result timeout.
+
+Exit statuses: 0 done; 1 refused, or with --wait not as asked; 2 wrong words; 3 not active, not failed, not enabled; 4 no connection, or it was closed unread and the request not taken; 5 a fault; 6 no reply in time.
 
 For example:
   umd ctl --socket /run/umd/socket put-file lib/a.service < a.service
   umd ctl --socket /run/umd/socket daemon-reload
   umd ctl --socket /run/umd/socket start --mode fail a
   umd ctl --socket /run/umd/socket --retry 10 --timeout 60 list-units
+  UMD_SOCKET=/run/umd/socket umd ctl --wait --timeout 60 start a
   umd ctl --socket /run/umd/socket start shutdown.target
 
 The last one stops everything but units with DefaultDependencies=no.
@@ -80,24 +91,16 @@ fn command<'a>(alloc: Global) -> Result<Command<'a>, AllocError>
     let command = described(
         alloc,
         "umd ctl",
-        "umd ctl --socket <PATH> [--retry <SECONDS>] [--timeout <SECONDS>] [--mode <MODE>] <VERB> [ARG]..",
+        "umd ctl [--socket <PATH>] [--retry <SECONDS>] [--timeout <SECONDS>] [--mode <MODE>] [--wait] <VERB> [ARG]..",
         "Asks the manager at a socket, and prints the value of its reply as JSON",
         AFTER_HELP,
     );
-    let command = with_option(command, alloc, "socket", "PATH", SOCKET_HELP)?;
+    let command = with_optional(command, alloc, "socket", "PATH", SOCKET_HELP)?;
     let command = with_optional(command, alloc, "retry", "SECONDS", RETRY_HELP)?;
     let command = with_optional(command, alloc, "timeout", "SECONDS", TIMEOUT_HELP)?;
     let command = with_optional(command, alloc, "mode", "MODE", MODE_HELP)?;
+    let command = with_flag(command, alloc, "wait", WAIT_HELP)?;
     with_words(command, alloc, "word", "WORD", WORD_HELP)
-}
-
-/// The texts again.
-fn copied<'a>(alloc: Global, texts: &[&'a str]) -> Result<Vec<&'a str>, AllocError>
-    ensures { IfOk result (λ copies. copies.items ≡ texts.now) }
-{
-    let mut copies = Vec::new(alloc);
-    copies.extend_from_slice(texts)?;
-    Ok(copies)
 }
 
 fn usage(alloc: Global) -> Result<String, AllocError> {
@@ -108,9 +111,6 @@ fn usage(alloc: Global) -> Result<String, AllocError> {
 fn ctl_line<'a>(alloc: Global, matches: &ArgMatches<'a>) -> Result<Line<'a>, AllocError>
     ensures { IfOk result (TakesCtl (rows_of (found_of matches.now))) }
 {
-    let Some(socket) = value(matches, "socket") else {
-        return Ok(Line::Wrong(usage(alloc)?));
-    };
     let Some(retry) = time(value(matches, "retry")) else {
         return Ok(Line::Wrong(String::from_str(alloc, NO_TIME)?));
     };
@@ -125,12 +125,13 @@ fn ctl_line<'a>(alloc: Global, matches: &ArgMatches<'a>) -> Result<Line<'a>, All
     };
     let arguments = copied(alloc, arguments)?;
     Ok(Line::Ctl(CtlLine {
-        socket,
+        socket: value(matches, "socket"),
         retry,
         timeout,
         verb: *verb,
         arguments,
         mode: value(matches, "mode"),
+        waits: is_given(matches, "wait"),
     }))
 }
 

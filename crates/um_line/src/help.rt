@@ -3,28 +3,48 @@
 ghost use Rattle.std.specs.Prelude.{◌∷◌, [], IfOk, MatchOption, map, string_bytes};
 ghost use Rattle.um_line.specs.Line.{IsCode, IsHelpLine, IsNoCode};
 
-use crate::line::Line;
+use crate::check::read_check;
+use crate::create::read_create;
+use crate::ctl::read_ctl;
+use crate::line::{Line, Subcommand, named};
+use crate::logs::read_logs;
+use crate::run::read_run;
+use crate::serve::read_serve;
+use crate::status::read_status;
+use crate::verify::read_verify;
 use std::alloc::{AllocError, Global};
 use um_runner::number_in;
+use um_sentences::{Topic, topic_named};
+
+/// A word of a reply whose meaning is asked for.
+#[derive(Clone, Copy, Debug)]
+pub struct TopicLine<'a> {
+    pub word: &'a str,
+    /// What it is about.
+    pub topic: Topic,
+}
 
 /// The number of the last refusal.
 const LAST: u64 = 22;
 
 /// What `umd help --help` tells.
-const HELP: &str = "Says in one sentence what a refusal means, and what to do
+const HELP: &str =
+    "Says what a refusal means and what to do, what a reason or a result means, or how a subcommand is used
 
-Usage: umd help <CODE>
+Usage: umd help <WORD>
 
-CODE is the first word of the line that a refusal prints: E1 to E22. 'umd --help' lists the subcommands.
+WORD is the first word of the line that a refusal prints, E1 to E22; a reason of E6, as exec-count, or setting; a result, as exit-code; or a subcommand. 'umd --help' lists the subcommands.
 
 For example:
   umd help E9
+  umd help exec-count
+  umd help serve
 ";
 
 /// What is told of other words behind `umd help`.
-const USAGE: &str = "error: a refusal is E1 to E22
+const USAGE: &str = "error: there is no help for these words: a refusal is E1 to E22
 
-Usage: umd help <CODE>
+Usage: umd help <WORD>
 
 For more information, try 'umd help --help', or 'umd --help' for the subcommands.
 ";
@@ -34,7 +54,7 @@ fn code_in(word: &str) -> Option<u32>
     ensures { MatchOption result (IsNoCode word.now) (λ n. IsCode n word.now) }
 {
     let (first, digits) = word.as_bytes().split_first()?;
-    if *first != b'E' {
+    if *first != b'E' && *first != b'e' {
         return None;
     }
     let number = number_in(digits)?;
@@ -44,12 +64,52 @@ fn code_in(word: &str) -> Option<u32>
     Some(number as u32)
 }
 
+/// What the words of a subcommand with `--help` behind it tell.
+fn told_of<'a>(
+    alloc: Global,
+    subcommand: Subcommand,
+    words: &'a [String],
+) -> Result<Line<'a>, AllocError> {
+    match subcommand {
+        Subcommand::Create => read_create(alloc, words),
+        Subcommand::Check => read_check(alloc, words),
+        Subcommand::Serve => read_serve(alloc, words),
+        Subcommand::Ctl => read_ctl(alloc, words),
+        Subcommand::Status => read_status(alloc, words),
+        Subcommand::Verify => read_verify(alloc, words),
+        Subcommand::Logs => read_logs(alloc, words),
+        Subcommand::Run => read_run(alloc, words.get(1..).unwrap_or(&[])),
+        Subcommand::Help | Subcommand::Nothing => { Ok(Line::Told(String::from_str(alloc, HELP)?)) }
+    }
+}
+
+/// How the subcommand of this name is used.
+fn usage_of(alloc: Global, subcommand: Subcommand, name: &str) -> Result<String, AllocError> {
+    let mut words = Vec::new(alloc);
+    words.push(String::from_str(alloc, name)?)?;
+    words.push(String::from_str(alloc, "--help")?)?;
+    match told_of(alloc, subcommand, words.as_slice())? {
+        Line::Told(text) => Ok(text),
+        line => {
+            drop(line);
+            Ok(String::new(alloc))
+        }
+    }
+}
+
 /// What one word behind `help` asks for.
-fn help_line<'a>(alloc: Global, word: &str) -> Result<Line<'a>, AllocError>
-    ensures { IfOk result (IsHelpLine (word.now ∷ [])) }
+fn help_line<'a>(alloc: Global, word: &'a str) -> Result<Line<'a>, AllocError>
+    ensures { IfOk result (IsHelpLine (word.entry.now ∷ [])) }
 {
     if let Some(number) = code_in(word) {
         return Ok(Line::Help(number));
+    }
+    let subcommand = named(word);
+    if subcommand != Subcommand::Nothing {
+        return Ok(Line::Told(usage_of(alloc, subcommand, word)?));
+    }
+    if let Some(topic) = topic_named(word) {
+        return Ok(Line::Topic(TopicLine { word, topic }));
     }
     if word == "--help" {
         Ok(Line::Told(String::from_str(alloc, HELP)?))
@@ -58,7 +118,7 @@ fn help_line<'a>(alloc: Global, word: &str) -> Result<Line<'a>, AllocError>
     }
 }
 
-/// Reads the words behind `help`: the code of a refusal, or none or `--help` for how it is used.
+/// Reads the words behind `help`: the code of a refusal, a reason of E6 or a result, a subcommand, or none or `--help` for how it is used.
 pub fn read_help<'a>(alloc: Global, words: &'a [String]) -> Result<Line<'a>, AllocError>
     ensures { IfOk result (IsHelpLine (map string_bytes words.now)) }
 {

@@ -4,11 +4,13 @@ ghost use Rattle.um_line.specs.Line as model;
 use crate::check::{CheckLine, read_check};
 use crate::create::{CreateLine, read_create};
 use crate::ctl::{CtlLine, read_ctl};
-use crate::help::read_help;
+use crate::help::{TopicLine, read_help};
 use crate::logs::{LogsLine, read_logs};
 use crate::run::read_run;
 use crate::serve::{ServeLine, read_serve};
+use crate::status::{StatusLine, read_status};
 use crate::top::read_top;
+use crate::verify::{VerifyLine, read_verify};
 use std::alloc::{AllocError, Global};
 use um_runner::RunnerLine;
 
@@ -29,10 +31,16 @@ pub enum Line<'a> {
     LongBoot,
     /// To ask the manager at a socket.
     Ctl(CtlLine<'a>),
+    /// To show how units stand.
+    Status(StatusLine<'a>),
+    /// To look at unit files.
+    Verify(VerifyLine<'a>),
     /// To print what a unit's processes printed.
     Logs(LogsLine<'a>),
     /// To be told what the refusal of this number means, 1 to 22.
     Help(u32),
+    /// To be told what a word of a reply means.
+    Topic(TopicLine<'a>),
     /// To be told something: the help or the version, for standard output.
     Told(String),
     /// The words are not those of the program: what is wrong and how it is used, for standard error.
@@ -47,6 +55,8 @@ pub enum Subcommand {
     Check,
     Serve,
     Ctl,
+    Status,
+    Verify,
     Logs,
     Help,
     /// Another word, or none.
@@ -54,7 +64,7 @@ pub enum Subcommand {
 }
 
 /// The subcommand of this name.
-fn named(word: &str) -> Subcommand
+pub(crate) fn named(word: &str) -> Subcommand
     ensures { result ≡ model.named (Some word.now) }
 {
     if word == "run" {
@@ -67,6 +77,10 @@ fn named(word: &str) -> Subcommand
         Subcommand::Serve
     } else if word == "ctl" {
         Subcommand::Ctl
+    } else if word == "status" {
+        Subcommand::Status
+    } else if word == "verify" {
+        Subcommand::Verify
     } else if word == "logs" {
         Subcommand::Logs
     } else if word == "help" {
@@ -108,6 +122,8 @@ pub fn read_line<'a>(alloc: Global, words: &'a [String]) -> Result<Line<'a>, All
         Subcommand::Check => read_check(alloc, behind(words)),
         Subcommand::Serve => read_serve(alloc, behind(words)),
         Subcommand::Ctl => read_ctl(alloc, behind(words)),
+        Subcommand::Status => read_status(alloc, behind(words)),
+        Subcommand::Verify => read_verify(alloc, behind(words)),
         Subcommand::Logs => read_logs(alloc, behind(words)),
         Subcommand::Help => read_help(alloc, behind(behind(words))),
         Subcommand::Nothing => read_top(alloc, words),

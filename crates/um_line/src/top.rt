@@ -19,9 +19,11 @@ Subcommands, each with its own --help:
   umd check     looks at a store that nobody serves, and says what it stands for, or why it can't be opened
   umd serve     serves a store over a socket, and runs the processes of its services
   umd ctl       asks the manager at a socket
+  umd status    shows how units stand
+  umd verify    says which unit files can't be loaded and why, and which lines have no effect
   umd logs      prints what the processes of a unit printed
   umd run       runs one command as a process of the manager, which calls it
-  umd help      says what a refusal means, and what to do: umd help E9
+  umd help      says what a refusal, a reason or a result means: umd help E9
   umd --memory  serves one client over standard input and output, with a store in memory";
 
 /// What is told where no word is there.

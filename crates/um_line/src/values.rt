@@ -2,7 +2,7 @@
 
 ghost use Rattle.std.specs.Prelude.{◌≡◌, ◌↔◌, Some, IfOk, IsTrue, codes, false, map, option_map};
 ghost use Rattle.clap.specs.Words.{all_of, app_of, first_of, found_of, new_app, rows_of, rule_of, with_rule};
-ghost use Rattle.um_line.specs.Line.{flag_rule, letter_flag_rule, letter_rule, option_rule, optional_rule, word_rule, words_rule};
+ghost use Rattle.um_line.specs.Line.{any_words_rule, flag_rule, letter_flag_rule, letter_rule, option_rule, optional_rule, word_rule, words_rule};
 
 use clap::{Arg, ArgAction, ArgMatches, Command};
 use std::alloc::{AllocError, Global};
@@ -199,6 +199,30 @@ pub fn with_words<'a>(
     command.arg(words(alloc, name, value, help))
 }
 
+/// Words that may all be left out.
+pub fn any_words<'a>(alloc: Global, name: &'a str, value: &'a str, help: &'a str) -> Arg<'a>
+    ensures rule { rule_of result ≡ any_words_rule name.entry.now }
+    ensures local { result.global ≡ false }
+{
+    Arg::new(alloc, name)
+        .value_name(value)
+        .help(help)
+        .action(ArgAction::Append)
+}
+
+/// The command with words more that may all be left out.
+pub fn with_any_words<'a>(
+    command: Command<'a>,
+    alloc: Global,
+    name: &'a str,
+    value: &'a str,
+    help: &'a str,
+) -> Result<Command<'a>, AllocError>
+    ensures { IfOk result (λ c. app_of c ≡ with_rule (app_of command.entry) (any_words_rule name.entry.now)) }
+{
+    command.arg(any_words(alloc, name, value, help))
+}
+
 /// The value of an option or a word.
 pub fn value<'a>(matches: &ArgMatches<'a>, name: &str) -> Option<&'a str>
     ensures { option_map (λ s. s.now) result ≡ first_of name.now (rows_of (found_of matches.now)) }
@@ -211,6 +235,15 @@ pub fn is_given(matches: &ArgMatches<'_>, name: &str) -> bool
     ensures { IsTrue result ↔ (first_of name.now (rows_of (found_of matches.now)) ≡ Some (codes "true")) }
 {
     value(matches, name) == Some("true")
+}
+
+/// The texts again.
+pub fn copied<'a>(alloc: Global, texts: &[&'a str]) -> Result<Vec<&'a str>, AllocError>
+    ensures { IfOk result (λ copies. copies.items ≡ texts.now) }
+{
+    let mut copies = Vec::new(alloc);
+    copies.extend_from_slice(texts)?;
+    Ok(copies)
 }
 
 /// The values of a word that may stand several times.

@@ -1,9 +1,10 @@
 //! The program `umd`: `--memory` answers the frames of standard input on standard output, `create` makes a store, `check` looks at one, `ctl` asks a
-//! manager, `run` runs a command for the manager, `serve` serves a store over a socket, `logs` prints what services printed, `help` says what a refusal
-//! means.
+//! manager, `status` shows how its units stand, `verify` looks at unit files, `run` runs a command for the manager, `serve` serves a store over a socket,
+//! `logs` prints what services printed, `help` says what a refusal or a word means.
 #![tactic(auto)]
 
 mod checking;
+mod controlling;
 mod keeping;
 mod lines;
 mod logging;
@@ -11,15 +12,21 @@ mod messages;
 mod places;
 mod repeats;
 mod serving;
+mod showing;
 mod starting;
+mod surroundings;
 mod telling;
 mod um_bin;
+mod verifying;
+mod waiting;
 mod waking;
 
 use checking::check;
+use controlling::ctl;
 use logging::logs;
-use messages::{DEVICE, REFUSED, USAGE, ctl_fault, put_text, report, status_of, tell_create};
+use messages::{DEVICE, REFUSED, USAGE, put_text, report, status_of, tell_create};
 use serving::serve_store;
+use showing::show_units;
 use std::alloc::{AllocError, Global};
 use std::env::Env;
 use std::fs::{File, Files};
@@ -28,12 +35,15 @@ use std::net::Net;
 use std::process::{ExitCode, Processes};
 use std::time::Clock;
 use std::{env, io};
+use surroundings::Surroundings;
 use um_bin::{memory, read_line};
 use um_create::{Layout, create_store};
-use um_ctl::{Patience, Told, Words, ask, meaning_line, on_terminal, shown};
-use um_line::{CreateLine, CtlLine, Line};
+use um_ctl::{meaning_line, shown};
+use um_line::{CreateLine, Line, TopicLine};
 use um_memory::{Ending, Fault};
 use um_runner::{FolderFault, RunnerLine};
+use um_sentences::{reason_lines, topic_help};
+use verifying::verify;
 
 fn serve_memory<R: Input + Print>(rt: &R, alloc: Global) -> Result<u8, Fault> {
     let mut input = rt.reader();
@@ -43,15 +53,6 @@ fn serve_memory<R: Input + Print>(rt: &R, alloc: Global) -> Result<u8, Fault> {
         Ending::Inside => Ok(USAGE),
         Ending::TooLong => Ok(REFUSED),
     }
-}
-
-/// What a run of the program is given beside its words.
-#[derive(Clone, Copy)]
-struct Surroundings<'a> {
-    /// Standard output is a terminal.
-    is_terminal: bool,
-    /// What the variable UMD_OUTPUT holds.
-    output: Option<&'a str>,
 }
 
 /// Runs a command for the manager, and notes in a folder what becomes of it.
@@ -88,65 +89,25 @@ fn create<R: Files<File = File> + Eprint>(rt: &R, alloc: Global, line: &CreateLi
     }
 }
 
-/// Puts out a text of JSON; on a terminal without what could mislead it.
-fn put_json<R: Print>(rt: &R, alloc: Global, text: &str, is_terminal: bool) -> Result<u8, Fault> {
-    if is_terminal {
-        put_text(rt, on_terminal(alloc, text)?.as_str())
-    } else {
-        put_text(rt, text)
-    }
-}
+/// The number of the refusal that tells a reason.
+const BAD_SETTING: u32 = 6;
 
-/// Puts out what a reply tells.
-fn tell<R: Print + Eprint>(
-    rt: &R,
-    alloc: Global,
-    told: &Told,
-    is_terminal: bool,
-) -> Result<u8, Fault> {
-    let Told {
-        output,
-        error,
-        status,
-    } = told;
-    put_json(rt, alloc, output.as_str(), is_terminal)?;
-    match eprint!(rt; "{error}") {
-        Ok(()) => Ok(*status),
-        Err(e) => Err(Fault::Write(e)),
-    }
-}
-
-/// Asks the manager at a socket.
-fn ctl<R: Net + Clock + Input + Print + Eprint>(
-    rt: &R,
-    alloc: Global,
-    line: &CtlLine<'_>,
-    is_terminal: bool,
-) -> Result<u8, Fault> {
-    let words = Words {
-        verb: line.verb,
-        arguments: line.arguments.as_slice(),
-        mode: line.mode,
-    };
-    let patience = Patience {
-        retry: line.retry,
-        timeout: line.timeout,
-    };
-    match ask(rt, alloc, line.socket, &words, patience, &mut rt.reader()) {
-        Ok(told) => tell(rt, alloc, &told, is_terminal),
-        Err(fault) => {
-            ctl_fault(rt, alloc, &fault, line);
-            Ok(fault.status())
-        }
-    }
-}
-
-/// Puts out what the refusal of this number means.
+/// Puts out what the refusal of this number means; of one that tells a reason, what each reason means too.
 fn explain<R: Print>(rt: &R, alloc: Global, number: u32) -> Result<u8, Fault> {
-    match meaning_line(alloc, u64::from(number))? {
-        Some(line) => put_text(rt, line.as_str()),
-        None => Ok(USAGE),
+    let Some(line) = meaning_line(alloc, u64::from(number))? else {
+        return Ok(USAGE);
+    };
+    put_text(rt, line.as_str())?;
+    if number == BAD_SETTING {
+        put_text(rt, reason_lines(alloc)?.as_str())
+    } else {
+        Ok(0)
     }
+}
+
+/// Puts out what a word of a reply means.
+fn explain_word<R: Print>(rt: &R, alloc: Global, line: TopicLine<'_>) -> Result<u8, Fault> {
+    put_text(rt, topic_help(alloc, line.word, line.topic)?.as_str())
 }
 
 /// What is told of wrong words, as they are shown.
@@ -215,10 +176,13 @@ where
         Line::Run(line) => run_runner(rt, alloc, line),
         Line::Create(line) => Ok(create(rt, alloc, line)),
         Line::Check(line) => check(rt, alloc, line),
-        Line::Ctl(line) => ctl(rt, alloc, line, surroundings.is_terminal),
+        Line::Ctl(line) => ctl(rt, alloc, line, surroundings),
+        Line::Status(line) => show_units(rt, alloc, line, surroundings),
         Line::Logs(line) => logs(rt, alloc, line, surroundings.output),
         Line::Serve(line) => Ok(serve_store(rt, alloc, line)),
         Line::Help(number) => explain(rt, alloc, *number),
+        Line::Topic(line) => explain_word(rt, alloc, *line),
+        Line::Verify(line) => verify(rt, alloc, line),
         Line::LongBoot => Ok(put_refusal(rt)),
         Line::Told(text) => put_text(rt, text.as_str()),
         Line::Wrong(text) => Ok(put_usage(rt, text.as_str())),
@@ -249,9 +213,13 @@ where
     match env::args(rt) {
         Ok(args) => {
             let words: Vec<String> = args.collect(alloc)?;
+            let socket = env::var(rt, "UMD_SOCKET").ok();
+            let dir = env::var(rt, "UMD_DIR").ok();
             let output = env::var(rt, "UMD_OUTPUT").ok();
             let surroundings = Surroundings {
                 is_terminal,
+                socket: socket.as_deref(),
+                dir: dir.as_deref(),
                 output: output.as_deref(),
             };
             run_words(rt, alloc, words.as_slice(), surroundings)

@@ -5,7 +5,6 @@ use std::alloc::Global;
 use um_create::CreateFault;
 use um_ctl::{CtlFault, meaning};
 use um_keeper::Uncounted;
-use um_line::CtlLine;
 use um_memory::Fault;
 use um_wire::Refusal;
 
@@ -74,10 +73,8 @@ pub fn tell_ending<R: Eprint>(rt: &R, refusal: &Refusal) {
     }
 }
 
-/// Says why there is no reply.
-pub fn ctl_fault<R: Eprint>(rt: &R, alloc: Global, fault: &CtlFault, line: &CtlLine<'_>) {
-    let verb = line.verb;
-    let socket = line.socket;
+/// Says why there is no reply to the verb at a socket.
+pub fn ctl_fault<R: Eprint>(rt: &R, alloc: Global, fault: &CtlFault, verb: &str, socket: &str) {
     match fault {
         CtlFault::Usage => put_line(
             rt,

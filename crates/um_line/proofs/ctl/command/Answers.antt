@@ -6,4 +6,5 @@ returns c =
     let socket = added _ _ _ _ c.in_ok-command.ensures c.described-command.ensures in
     let retry = added _ _ _ _ c.in_ok-command-2.ensures socket in
     let timeout = added _ _ _ _ c.in_ok-command-3.ensures retry in
-    let mode = added _ _ _ _ c.in_ok-command-4.ensures timeout in added_last _ _ _ _ c.with_words.ensures mode
+    let mode = added _ _ _ _ c.in_ok-command-4.ensures timeout in
+    let wait = added _ _ _ _ c.in_ok-command-5.ensures mode in added_last _ _ _ _ c.with_words.ensures wait

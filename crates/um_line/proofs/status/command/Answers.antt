@@ -1,0 +1,10 @@
+use Rattle.um_line.proofs.LineReadings.{added, added_last}
+use Rattle.um_line.proofs.status.command.Goals as goal
+
+pub returns : goal.returns
+returns c =
+    let socket = added _ _ _ _ c.in_ok-command.ensures c.described-command.ensures in
+    let retry = added _ _ _ _ c.in_ok-command-2.ensures socket in
+    let timeout = added _ _ _ _ c.in_ok-command-3.ensures retry in
+    let dir = added _ _ _ _ c.in_ok-command-4.ensures timeout in
+    let output = added _ _ _ _ c.in_ok-command-5.ensures dir in added_last _ _ _ _ c.with_any_words.ensures output

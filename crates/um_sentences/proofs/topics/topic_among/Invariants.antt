@@ -1,0 +1,8 @@
+use Rattle.std.proofs.Common.{◌≡◌, map, drop}
+use Rattle.std.specs.Map.{lookup}
+use Rattle.std.specs.Str.{bytes_eq}
+use Rattle.um_sentences.proofs.topics.topic_among.Given as goal
+
+-- the word is none of those so far
+abbrev pub invariant-loop-name : goal.invariant-loop-name
+invariant-loop-name l = lookup (bytes_eq l.word) (map (λ k. (k.0.now, k.1)) (drop l.name-index l.known)) ≡ lookup (bytes_eq l.word) (map (λ k. (k.0.now, k.1)) l.known)

@@ -1,0 +1,3 @@
+mod Obstacles
+mod SpotLaws
+mod TellsLaws

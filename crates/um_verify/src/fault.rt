@@ -1,0 +1,37 @@
+use std::alloc::{AllocError, AllocFailed};
+use std::io;
+use um_wire::Refusal;
+
+/// Why unit files aren't looked at.
+#[derive(Debug, Drop)]
+pub enum VerifyFault {
+    /// Two files are the same unit's in the same layer.
+    Twice { path: String, other: String },
+    /// What stands at this path can't be read.
+    Read(String, io::Error),
+    /// There are more files than a tree may have.
+    Refused(Refusal),
+    /// A growth of memory was refused.
+    NoMemory,
+}
+
+impl From<AllocError> for VerifyFault {
+    fn from(_refused: AllocError) -> VerifyFault {
+        VerifyFault::NoMemory
+    }
+}
+
+impl<T: Drop> From<AllocFailed<T>> for VerifyFault {
+    fn from(_refused: AllocFailed<T>) -> VerifyFault {
+        VerifyFault::NoMemory
+    }
+}
+
+impl From<Refusal> for VerifyFault {
+    fn from(refusal: Refusal) -> VerifyFault {
+        match refusal {
+            Refusal::NoMemory => VerifyFault::NoMemory,
+            refusal => VerifyFault::Refused(refusal),
+        }
+    }
+}

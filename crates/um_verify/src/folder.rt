@@ -1,0 +1,248 @@
+//! Folders and files as they lie on a disk, read into a tree.
+
+use crate::fault::VerifyFault;
+use crate::places::Collected;
+use std::alloc::Global;
+use std::fs::{File, Files};
+use std::io::Read;
+use std::{fs, io};
+
+/// The layers of a tree, by their folders.
+const LAYERS: [&str; 3] = ["etc", "run", "lib"];
+
+/// What the folders of a unit end in.
+const FOLDERS: [&str; 3] = [".d", ".wants", ".requires"];
+
+/// So many bytes of a file are read: one more than a tree's may have.
+const LONGEST: u64 = 65_537;
+
+/// That what stands at the path can't be read; want of memory as such.
+fn unread(alloc: Global, path: &str, fault: io::Error) -> VerifyFault {
+    if fault.kind() == io::ErrorKind::OutOfMemory {
+        return VerifyFault::NoMemory;
+    }
+    match String::from_str(alloc, path) {
+        Ok(path) => VerifyFault::Read(path, fault),
+        Err(_) => VerifyFault::NoMemory,
+    }
+}
+
+/// The first bytes of a file.
+fn bytes_of<R: Files>(rt: &R, alloc: Global, path: &str) -> io::Result<Vec<u8>> {
+    let mut bytes = Vec::new(alloc);
+    File::open(rt, path)?.take(LONGEST).read_to_end(&mut bytes)?;
+    Ok(bytes)
+}
+
+/// Reads a file into the tree.
+fn read_file<R: Files>(
+    rt: &R,
+    collected: &mut Collected,
+    place: &str,
+    path: &str,
+) -> Result<(), VerifyFault> {
+    let alloc = collected.alloc;
+    match bytes_of(rt, alloc, path) {
+        Ok(bytes) => match String::from_utf8(bytes) {
+            Ok(text) => collected.put_file(place, path, text.as_str()),
+            Err(_) => collected.tell(path, "not UTF-8", true),
+        },
+        Err(fault) => Err(unread(alloc, path, fault)),
+    }
+}
+
+/// Where a link leads, as it is written. None where that isn't UTF-8.
+fn target_of<R: Files>(rt: &R, alloc: Global, path: &str) -> Result<Option<String>, VerifyFault> {
+    match fs::read_link(&(rt, alloc), path) {
+        Ok(target) => match target.to_str() {
+            Some(target) => Ok(Some(String::from_str(alloc, target)?)),
+            None => Ok(None),
+        },
+        Err(fault) => Err(unread(alloc, path, fault)),
+    }
+}
+
+/// Reads a link into the tree, or, where such a link can't stand there, the file that it leads to.
+fn read_link<R: Files>(
+    rt: &R,
+    collected: &mut Collected,
+    place: &str,
+    path: &str,
+) -> Result<(), VerifyFault> {
+    let target = target_of(rt, collected.alloc, path)?;
+    if let Some(target) = &target {
+        if collected.put_link(place, path, target.as_str())? {
+            return Ok(());
+        }
+    }
+    match fs::metadata(rt, path) {
+        Ok(about) if about.is_file() => read_file(rt, collected, place, path),
+        _ => collected.tell_no_unit(path),
+    }
+}
+
+/// Reads what stands at the path into the tree.
+fn read_entry<R: Files>(
+    rt: &R,
+    collected: &mut Collected,
+    place: &str,
+    path: &str,
+) -> Result<(), VerifyFault> {
+    if !collected.takes(place, path)? {
+        return Ok(());
+    }
+    match fs::symlink_metadata(rt, path) {
+        Ok(about) if about.is_symlink() => read_link(rt, collected, place, path),
+        Ok(about) if about.is_file() => read_file(rt, collected, place, path),
+        Ok(_) => collected.tell_no_unit(path),
+        Err(fault) => Err(unread(collected.alloc, path, fault)),
+    }
+}
+
+/// The names in a folder.
+fn names_in<R: Files>(rt: &R, alloc: Global, path: &str) -> Result<Vec<String>, VerifyFault> {
+    let mut names = Vec::new(alloc);
+    let entries = match fs::read_dir(&(rt, alloc), path) {
+        Ok(entries) => entries,
+        Err(fault) => return Err(unread(alloc, path, fault)),
+    };
+    for entry in entries {
+        match entry {
+            Ok(entry) => names.push(String::from_str(alloc, entry.file_name())?)?,
+            Err(fault) => return Err(unread(alloc, path, fault)),
+        }
+    }
+    Ok(names)
+}
+
+/// A name in a folder, as a path.
+fn joined(alloc: Global, folder: &str, name: &str) -> Result<String, VerifyFault> {
+    Ok(format!(in alloc; "{folder}/{name}")?)
+}
+
+/// Whether a folder stands at the path, and no link.
+fn is_folder<R: Files>(rt: &R, path: &str) -> bool {
+    match fs::symlink_metadata(rt, path) {
+        Ok(about) => about.is_dir(),
+        Err(_) => false,
+    }
+}
+
+/// Reads a folder of a unit, as `x.service.d`.
+fn read_inner<R: Files>(
+    rt: &R,
+    collected: &mut Collected,
+    place: &str,
+    path: &str,
+) -> Result<(), VerifyFault> {
+    let alloc = collected.alloc;
+    for name in &names_in(rt, alloc, path)? {
+        let place = joined(alloc, place, name.as_str())?;
+        let path = joined(alloc, path, name.as_str())?;
+        read_entry(rt, collected, place.as_str(), path.as_str())?;
+    }
+    Ok(())
+}
+
+/// Whether a folder of this name is one of a unit.
+fn is_of_unit(name: &str) -> bool {
+    FOLDERS.iter().any(|end| name.ends_with(*end))
+}
+
+/// Reads a layer of the tree.
+fn read_layer<R: Files>(
+    rt: &R,
+    collected: &mut Collected,
+    layer: &str,
+    path: &str,
+) -> Result<(), VerifyFault> {
+    let alloc = collected.alloc;
+    for name in &names_in(rt, alloc, path)? {
+        let place = joined(alloc, layer, name.as_str())?;
+        let path = joined(alloc, path, name.as_str())?;
+        if is_of_unit(name.as_str()) && is_folder(rt, path.as_str()) {
+            read_inner(rt, collected, place.as_str(), path.as_str())?;
+        } else {
+            read_entry(rt, collected, place.as_str(), path.as_str())?;
+        }
+    }
+    Ok(())
+}
+
+/// Whether the name is a layer's, and its folder stands in this one.
+fn is_layer<R: Files>(rt: &R, alloc: Global, path: &str, name: &str) -> Result<bool, VerifyFault> {
+    let inner = joined(alloc, path, name)?;
+    Ok(LAYERS.contains(&name) && is_folder(rt, inner.as_str()))
+}
+
+/// Whether a folder has one of a layer.
+fn has_layers<R: Files>(rt: &R, alloc: Global, path: &str) -> Result<bool, VerifyFault> {
+    for name in LAYERS {
+        if is_layer(rt, alloc, path, name)? {
+            return Ok(true);
+        }
+    }
+    Ok(false)
+}
+
+/// Reads a folder with its layers.
+fn read_layers<R: Files>(rt: &R, collected: &mut Collected, path: &str) -> Result<(), VerifyFault> {
+    let alloc = collected.alloc;
+    for name in &names_in(rt, alloc, path)? {
+        let inner = joined(alloc, path, name.as_str())?;
+        if is_layer(rt, alloc, path, name.as_str())? {
+            read_layer(rt, collected, name.as_str(), inner.as_str())?;
+        } else {
+            collected.tell_no_unit(inner.as_str())?;
+        }
+    }
+    Ok(())
+}
+
+/// The last part of a path.
+fn last_part(path: &str) -> &str {
+    match path.rsplit_once('/') {
+        Some((_, name)) => name,
+        None => path,
+    }
+}
+
+/// Reads a file that was named by itself, as one of `lib`.
+fn read_named<R: Files>(rt: &R, collected: &mut Collected, path: &str) -> Result<(), VerifyFault> {
+    let place = joined(collected.alloc, "lib", last_part(path))?;
+    if collected.takes(place.as_str(), path)? {
+        read_file(rt, collected, place.as_str(), path)
+    } else {
+        Ok(())
+    }
+}
+
+/// Reads what a path names.
+fn read_path<R: Files>(rt: &R, collected: &mut Collected, path: &str) -> Result<(), VerifyFault> {
+    let alloc = collected.alloc;
+    let folder = path.trim_end_matches('/');
+    match fs::metadata(rt, path) {
+        Ok(about) if about.is_dir() => {
+            let folder = if folder.is_empty() { "/" } else { folder };
+            if has_layers(rt, alloc, folder)? {
+                read_layers(rt, collected, folder)
+            } else {
+                read_layer(rt, collected, "lib", folder)
+            }
+        }
+        Ok(about) if about.is_file() => read_named(rt, collected, path),
+        Ok(_) => collected.tell_no_unit(path),
+        Err(fault) => Err(unread(alloc, path, fault)),
+    }
+}
+
+/// Reads folders and files into a tree: a folder with its folders `etc`, `run` and `lib`, or, where it has none of them, as `lib`, with links as links; a file
+/// as one of `lib`. What has no served path, or can't be a file of a unit, is told and left. `Twice` where two files would stand at one path of the tree,
+/// `Read` for what can't be read.
+pub fn collect<R: Files>(rt: &R, alloc: Global, paths: &[&str]) -> Result<Collected, VerifyFault> {
+    let mut collected = Collected::new(alloc);
+    for path in paths {
+        read_path(rt, &mut collected, path)?;
+    }
+    Ok(collected)
+}

@@ -1,0 +1,71 @@
+//! `umd verify`: which units of folders and files can't be loaded and why, and which of their lines have no effect.
+
+use crate::lines::put_line;
+use crate::messages::{DEVICE, REFUSED, USAGE, put_text};
+use std::alloc::{AllocError, Global};
+use std::fs::Files;
+use um_ctl::shown;
+use um_line::VerifyLine;
+use um_memory::Fault;
+use um_verify::{Finding, VerifyFault, collect};
+
+/// All that is told, a line each.
+fn text_of(alloc: Global, findings: &[Finding]) -> Result<String, AllocError> {
+    let mut text = String::new(alloc);
+    for finding in findings {
+        let line = finding.to_line(alloc)?;
+        text.push_str(shown(alloc, line.as_str())?.as_str())?;
+        text.push_str("\n")?;
+    }
+    Ok(text)
+}
+
+/// What is told of the units in folders and files.
+fn findings_in<R: Files>(
+    rt: &R,
+    alloc: Global,
+    paths: &[&str],
+) -> Result<Vec<Finding>, VerifyFault> {
+    um_verify::verify(collect(rt, alloc, paths)?)
+}
+
+/// Says why nothing is looked at, and gives the exit status.
+fn tell<R: Eprint>(rt: &R, alloc: Global, fault: &VerifyFault) -> Result<u8, Fault> {
+    match fault {
+        VerifyFault::Twice { path, other } => {
+            put_line(
+                rt,
+                alloc,
+                format_args!("error: {other} and {path} are the same file of a tree"),
+            );
+            Ok(USAGE)
+        }
+        VerifyFault::Read(path, error) => {
+            put_line(rt, alloc, format_args!("umd: {path}: {error}"));
+            Ok(DEVICE)
+        }
+        VerifyFault::Refused(refusal) => {
+            put_line(rt, alloc, format_args!("{refusal}"));
+            Ok(REFUSED)
+        }
+        VerifyFault::NoMemory => Err(Fault::NoMemory),
+    }
+}
+
+/// Looks at unit files.
+pub fn verify<R: Files + Print + Eprint>(
+    rt: &R,
+    alloc: Global,
+    line: &VerifyLine<'_>,
+) -> Result<u8, Fault> {
+    let findings = match findings_in(rt, alloc, line.paths.as_slice()) {
+        Ok(findings) => findings,
+        Err(fault) => return tell(rt, alloc, &fault),
+    };
+    put_text(rt, text_of(alloc, findings.as_slice())?.as_str())?;
+    if findings.iter().any(|finding| finding.stops) {
+        Ok(REFUSED)
+    } else {
+        Ok(0)
+    }
+}

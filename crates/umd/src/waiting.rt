@@ -1,0 +1,311 @@
+//! `umd ctl --wait`: what becomes of a unit that was started or stopped.
+
+use crate::lines::put_line;
+use crate::messages::{DEVICE, REFUSED, ctl_fault};
+use serde_json::Value;
+use std::alloc::Global;
+use std::net::Net;
+use std::thread;
+use std::time::{Clock, Duration, Instant};
+use um_ctl::{CtlFault, Patience, Told, Words, ask};
+use um_line::CtlLine;
+use um_memory::Fault;
+use um_status::{Goal, Standing, standing_line, standing_of, unit_shown};
+
+/// It is asked so many milliseconds apart.
+const APART: u64 = 50;
+
+/// A process that is still the same after so many milliseconds counts as running.
+const STAYS: u64 = 1_000;
+
+/// A manager that is asked again and again, within one time.
+#[derive(Clone, Copy)]
+pub struct Asking<'a, R> {
+    rt: &'a R,
+    alloc: Global,
+    socket: &'a str,
+    retry: Option<u32>,
+    timeout: Option<u32>,
+    begun: Option<Instant>,
+}
+
+impl<'a, R: Net + Clock + Input> Asking<'a, R> {
+    /// The time begins now.
+    pub fn starting(
+        rt: &'a R,
+        alloc: Global,
+        socket: &'a str,
+        retry: Option<u32>,
+        timeout: Option<u32>,
+    ) -> Asking<'a, R> {
+        Asking {
+            rt,
+            alloc,
+            socket,
+            retry,
+            timeout,
+            begun: Instant::now(rt).ok(),
+        }
+    }
+
+    /// The system that it goes by.
+    pub fn rt(&self) -> &'a R {
+        self.rt
+    }
+
+    /// Where memory comes from.
+    pub fn alloc(&self) -> Global {
+        self.alloc
+    }
+
+    /// The path of the socket.
+    pub fn socket(&self) -> &'a str {
+        self.socket
+    }
+
+    /// How long ago it began.
+    fn spent(&self) -> Duration {
+        match self.begun {
+            Some(begun) => begun.elapsed(self.rt).unwrap_or(Duration::ZERO),
+            None => Duration::ZERO,
+        }
+    }
+
+    /// How many seconds are left, rounded up; none left is `Late`.
+    fn left(&self) -> Result<Option<u32>, CtlFault> {
+        let Some(seconds) = self.timeout else {
+            return Ok(None);
+        };
+        let whole = Duration::from_secs(u64::from(seconds));
+        match whole.checked_sub(self.spent()) {
+            Some(left) if !left.is_zero() => {
+                let more = if left.subsec_nanos() > 0 { 1 } else { 0 };
+                let left = left.as_secs().saturating_add(more);
+                Ok(Some(u32::try_from(left).unwrap_or(seconds)))
+            }
+            _ => Err(CtlFault::Late(seconds)),
+        }
+    }
+
+    /// What is told of the reply to these words.
+    pub fn ask(&self, words: &Words<'_>) -> Result<Told, CtlFault> {
+        let patience = Patience {
+            retry: self.retry,
+            timeout: self.left()?,
+        };
+        let (rt, alloc, socket) = (self.rt, self.alloc, self.socket);
+        match ask(rt, alloc, socket, words, patience, &mut rt.reader()) {
+            Ok(told) => Ok(told),
+            Err(fault) => Err(self.of_whole(fault)),
+        }
+    }
+
+    /// A time that is up is told as the whole of it, and not as what was left of it.
+    fn of_whole(&self, fault: CtlFault) -> CtlFault {
+        match fault {
+            CtlFault::Late(left) => CtlFault::Late(self.timeout.unwrap_or(left)),
+            fault => fault,
+        }
+    }
+
+    /// Waits until it is asked again. `Late` where the time is up.
+    fn pause(&self) -> Result<(), CtlFault> {
+        let _left = self.left()?;
+        thread::sleep(self.rt, Duration::from_millis(APART));
+        Ok(())
+    }
+}
+
+/// A value that was asked for, or what is told of its refusal.
+#[derive(Drop)]
+pub enum Answer {
+    Value(Value),
+    Refused(Told),
+}
+
+/// The value of the reply to a query, of a unit where one is named.
+pub fn value_of<'w, R: Net + Clock + Input>(
+    asking: &Asking<'_, R>,
+    verb: &'w str,
+    arguments: &'w [&'w str],
+) -> Result<Answer, CtlFault> {
+    let words = Words {
+        verb,
+        arguments,
+        mode: None,
+    };
+    let told = asking.ask(&words)?;
+    if told.status != 0 {
+        return Ok(Answer::Refused(told));
+    }
+    match Value::from_str(asking.alloc, told.output.as_str()) {
+        Ok(value) => Ok(Answer::Value(value)),
+        Err(fault) if fault.is_memory() => Err(CtlFault::NoMemory),
+        Err(_) => Err(CtlFault::NoReply),
+    }
+}
+
+/// What is known of a unit that is waited for.
+#[derive(Drop)]
+enum Found {
+    /// How it stands, and the line that says so.
+    Standing(Standing, String),
+    Refused(Told),
+}
+
+/// How the unit stands now.
+fn look<R: Net + Clock + Input>(
+    asking: &Asking<'_, R>,
+    goal: Goal,
+    unit: &str,
+) -> Result<Found, CtlFault> {
+    let jobs = match value_of(asking, "list-jobs", &[])? {
+        Answer::Value(jobs) => jobs,
+        Answer::Refused(told) => return Ok(Found::Refused(told)),
+    };
+    let value = match value_of(asking, "show", &[unit])? {
+        Answer::Value(value) => value,
+        Answer::Refused(told) => return Ok(Found::Refused(told)),
+    };
+    let (Some(unit), Some(jobs)) = (unit_shown(&value), jobs.as_array()) else {
+        return Err(CtlFault::NoReply);
+    };
+    let line = standing_line(asking.alloc, unit)?;
+    Ok(Found::Standing(standing_of(goal, unit, jobs.as_slice()), line))
+}
+
+/// A process that ran when it was looked at, and when that was for the first time.
+#[derive(Clone, Copy)]
+struct Running {
+    number: u64,
+    since: Duration,
+}
+
+/// What comes of a look.
+#[derive(Clone, Copy)]
+enum Next {
+    /// It is looked again.
+    Again(Option<Running>),
+    Reached,
+    Missed,
+}
+
+/// What comes of a look at which a process runs under this number, where this ran before.
+fn next_of_running(number: u64, before: Option<Running>, spent: Duration) -> Next {
+    let Some(running) = before else {
+        let since = spent;
+        return Next::Again(Some(Running { number, since }));
+    };
+    if running.number != number {
+        return Next::Missed;
+    }
+    if spent.saturating_sub(running.since) < Duration::from_millis(STAYS) {
+        Next::Again(before)
+    } else {
+        Next::Reached
+    }
+}
+
+/// What comes of a look at which the unit stands so, where this ran before.
+fn next_of(standing: Standing, before: Option<Running>, spent: Duration) -> Next {
+    match standing {
+        Standing::Moving => Next::Again(before),
+        Standing::Runs(number) => next_of_running(number, before, spent),
+        Standing::Reached => Next::Reached,
+        Standing::Missed => Next::Missed,
+    }
+}
+
+/// How a wait ended.
+#[derive(Drop)]
+enum Outcome {
+    Reached,
+    /// The line that says how the unit stands.
+    Missed(String),
+    Refused(Told),
+}
+
+/// Looks at the unit again and again.
+fn watch<R: Net + Clock + Input>(
+    asking: &Asking<'_, R>,
+    goal: Goal,
+    unit: &str,
+) -> Result<Outcome, CtlFault> {
+    let mut before = None;
+    for _ in 0..u64::MAX {
+        let (standing, line) = match look(asking, goal, unit)? {
+            Found::Standing(standing, line) => (standing, line),
+            Found::Refused(told) => return Ok(Outcome::Refused(told)),
+        };
+        match next_of(standing, before, asking.spent()) {
+            Next::Again(running) => before = running,
+            Next::Reached => return Ok(Outcome::Reached),
+            Next::Missed => return Ok(Outcome::Missed(line)),
+        }
+        asking.pause()?;
+    }
+    Ok(Outcome::Reached)
+}
+
+/// Puts what a refusal tells on standard error, and gives the exit status.
+pub fn refused<R: Eprint>(rt: &R, told: &Told) -> Result<u8, Fault> {
+    let error = &told.error;
+    match eprint!(rt; "{error}") {
+        Ok(()) => Ok(told.status),
+        Err(e) => Err(Fault::Write(e)),
+    }
+}
+
+/// The exit status of a fault behind the command: that the manager is gone is one of the device then.
+fn status_behind(fault: &CtlFault) -> u8 {
+    match fault {
+        CtlFault::NoConnection(_) | CtlFault::Unread => DEVICE,
+        _ => fault.status(),
+    }
+}
+
+/// Waits for what becomes of the unit, and gives the exit status.
+fn wait_behind<R: Net + Clock + Input + Eprint>(
+    asking: &Asking<'_, R>,
+    line: &CtlLine<'_>,
+    goal: Goal,
+    unit: &str,
+) -> Result<u8, Fault> {
+    match watch(asking, goal, unit) {
+        Ok(Outcome::Reached) => Ok(0),
+        Ok(Outcome::Missed(told)) => {
+            put_line(asking.rt, asking.alloc, format_args!("umd: {told}"));
+            Ok(REFUSED)
+        }
+        Ok(Outcome::Refused(told)) => refused(asking.rt, &told),
+        Err(fault) => {
+            ctl_fault(asking.rt, asking.alloc, &fault, line.verb, asking.socket);
+            Ok(status_behind(&fault))
+        }
+    }
+}
+
+/// Asks the manager at the socket to start or to stop a unit, waits for what becomes of it, and gives the exit status.
+pub fn wait<R: Net + Clock + Input + Eprint>(
+    rt: &R,
+    alloc: Global,
+    line: &CtlLine<'_>,
+    socket: &str,
+    goal: Goal,
+    unit: &str,
+) -> Result<u8, Fault> {
+    let asking = Asking::starting(rt, alloc, socket, line.retry, line.timeout);
+    let words = Words {
+        verb: line.verb,
+        arguments: line.arguments.as_slice(),
+        mode: line.mode,
+    };
+    match asking.ask(&words) {
+        Ok(told) if told.status == 0 => wait_behind(&asking, line, goal, unit),
+        Ok(told) => refused(rt, &told),
+        Err(fault) => {
+            ctl_fault(rt, alloc, &fault, line.verb, socket);
+            Ok(fault.status())
+        }
+    }
+}
