@@ -27,13 +27,16 @@ use std::io::{ErrorKind, IsTerminal};
 use std::net::Net;
 use std::process::{ExitCode, Processes};
 use std::time::Clock;
-use std::{env, io};
+use std::{env, io, process};
 use um_bin::{memory, read_line};
 use um_create::{Layout, create_store};
 use um_ctl::{Patience, Told, Words, ask, meaning_line, on_terminal, shown};
 use um_line::{CreateLine, CtlLine, Line};
 use um_memory::{Ending, Fault};
 use um_runner::{FolderFault, RunnerLine};
+
+/// The number of the first process of a machine or container.
+const FIRST: u32 = 1;
 
 fn serve_memory<R: Input + Print>(rt: &R, alloc: Global) -> Result<u8, Fault> {
     let mut input = rt.reader();
@@ -52,6 +55,8 @@ struct Surroundings<'a> {
     is_terminal: bool,
     /// What the variable UMD_OUTPUT holds.
     output: Option<&'a str>,
+    /// It is the first process of its machine or container.
+    is_first: bool,
 }
 
 /// Runs a command for the manager, and notes in a folder what becomes of it.
@@ -217,7 +222,7 @@ where
         Line::Check(line) => check(rt, alloc, line),
         Line::Ctl(line) => ctl(rt, alloc, line, surroundings.is_terminal),
         Line::Logs(line) => logs(rt, alloc, line, surroundings.output),
-        Line::Serve(line) => Ok(serve_store(rt, alloc, line)),
+        Line::Serve(line) => Ok(serve_store(rt, alloc, line, surroundings.is_first)),
         Line::Help(number) => explain(rt, alloc, *number),
         Line::LongBoot => Ok(put_refusal(rt)),
         Line::Told(text) => put_text(rt, text.as_str()),
@@ -239,8 +244,8 @@ where
     run_line(rt, alloc, &line, surroundings)
 }
 
-/// Runs the program, whose standard output is a terminal or not, and gives its exit status.
-fn run<R>(rt: &R, is_terminal: bool) -> Result<u8, Fault>
+/// Runs the program, whose standard output is a terminal or not, and which is the first process or not, and gives its exit status.
+fn run<R>(rt: &R, is_terminal: bool, is_first: bool) -> Result<u8, Fault>
 where
     R: AllocGlobal + Env + Input + Print + Eprint + Files<File = File> + Net + Processes + Clock,
 {
@@ -253,6 +258,7 @@ where
             let surroundings = Surroundings {
                 is_terminal,
                 output: output.as_deref(),
+                is_first,
             };
             run_words(rt, alloc, words.as_slice(), surroundings)
         }
@@ -265,7 +271,8 @@ where
 
 fn main(rt: HostRuntime) -> ExitCode {
     let is_terminal = rt.stdout().is_terminal();
-    let status = match run(&rt, is_terminal) {
+    let is_first = process::id(rt.process()) == FIRST;
+    let status = match run(&rt, is_terminal, is_first) {
         Ok(status) => status,
         Err(fault) => {
             report(&rt, &fault);
