@@ -13,7 +13,8 @@
 # program, outside the gate (tools/mutated --help); the gate plays a selection of them.
 # make in-turn: refuses everything that can be refused, one after another, and asserts what must hold each time (it needs cc; README.md has its
 # time). `tools/in-turn --wrong` plays wrong programs in the same way, each of which must fail.
-# make install: copies the proved program, its man pages, completion and documents below PREFIX (/usr/local) and DESTDIR; builds nothing. UNPROVED=1 takes the program of make unproved.
+# make install: copies the proved program, its man pages, completion and documents below PREFIX (/usr/local) and DESTDIR; builds nothing. UNPROVED=1 takes the
+# program of make unproved.
 # make uninstall: removes just these, with the same PREFIX and DESTDIR.
 # make deb: packs the same for Debian, out/umd_VERSION_ARCHITECTURE.deb (it needs dpkg-deb). UNPROVED=1 as above.
 # make soak MINUTES=N: 200 services, 16 clients and a kill each 10 s for so long, 1 to 1440 minutes; a table of what grows (tools/soak --help).
