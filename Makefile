@@ -14,10 +14,22 @@
 # program, outside the gate (tools/mutated --help); the gate plays a selection of them.
 # make in-turn: refuses everything that can be refused, one after another, and asserts what must hold each time (it needs cc; README.md has its
 # time). `tools/in-turn --wrong` plays wrong programs in the same way, each of which must fail.
+# make install: copies the proved program, its man pages, completion and documents below PREFIX (/usr/local) and DESTDIR; builds nothing. UNPROVED=1 takes the
+# program of make unproved.
+# make uninstall: removes just these, with the same PREFIX and DESTDIR.
+# make deb: packs the same for Debian, out/umd_VERSION_ARCHITECTURE.deb (it needs dpkg-deb). UNPROVED=1 as above.
+# make soak MINUTES=N: 200 services, 16 clients and a kill each 10 s for so long, 1 to 1440 minutes; a table of what grows (tools/soak --help).
+# make pictures: the tables of bench as pictures, out/pictures, beside what is installed of systemd, s6, runit and supervisord (tools/pictures --help).
+# make installed-rows: plays the rows of what is installed: pages, completion, package, container, systemd, s6, soak. Outside the gate, since some need root and programs
+# that aren't everywhere; one that is missing fails its row and is named.
 # make bench: measures the proved program, and the writing and reading of states (um_bench); the figures that a document calls
 # measured come from it. It ends with an error where a wanted ratio isn't met, that of queries while services run, or a step costs more than it may
 # (docs/DECISIONS.md, "Serving").
-.PHONY: run umd unproved test edits bench runner-rows serve-rows ctl-rows status-rows memory-rows mutated in-turn
+.PHONY: run umd unproved test edits bench runner-rows serve-rows ctl-rows status-rows memory-rows mutated in-turn install uninstall deb soak pictures installed-rows
+# what is told install and its kin, as their scripts take it
+export PREFIX DESTDIR UNPROVED BASHDIR ZSHDIR
+MINUTES ?= 10
+PROGRAM := $(if $(filter 1,$(UNPROVED)),out/unproved/umd,crates/umd/out/umd)
 run:
 	@sh tools/show
 
@@ -69,3 +81,21 @@ memory-rows:
 
 in-turn:
 	@tools/in-turn
+
+install:
+	@tools/install
+
+uninstall:
+	@tools/install --remove
+
+deb:
+	@tools/deb
+
+soak:
+	@tools/soak $(PROGRAM) --minutes $(MINUTES)
+
+pictures:
+	@tools/pictures $(PROGRAM)
+
+installed-rows:
+	@tools/installed-rows $(PROGRAM)

@@ -34,7 +34,7 @@ use std::io::{ErrorKind, IsTerminal};
 use std::net::Net;
 use std::process::{ExitCode, Processes};
 use std::time::Clock;
-use std::{env, io};
+use std::{env, io, process};
 use surroundings::Surroundings;
 use um_bin::{memory, read_line};
 use um_create::{Layout, create_store};
@@ -44,6 +44,9 @@ use um_memory::{Ending, Fault};
 use um_runner::{FolderFault, RunnerLine};
 use um_sentences::{reason_lines, topic_help};
 use verifying::verify;
+
+/// The number of the first process of a machine or container.
+const FIRST: u32 = 1;
 
 fn serve_memory<R: Input + Print>(rt: &R, alloc: Global) -> Result<u8, Fault> {
     let mut input = rt.reader();
@@ -179,7 +182,7 @@ where
         Line::Ctl(line) => ctl(rt, alloc, line, surroundings),
         Line::Status(line) => show_units(rt, alloc, line, surroundings),
         Line::Logs(line) => logs(rt, alloc, line, surroundings.output),
-        Line::Serve(line) => Ok(serve_store(rt, alloc, line)),
+        Line::Serve(line) => Ok(serve_store(rt, alloc, line, surroundings.is_first)),
         Line::Help(number) => explain(rt, alloc, *number),
         Line::Topic(line) => explain_word(rt, alloc, *line),
         Line::Verify(line) => verify(rt, alloc, line),
@@ -203,8 +206,8 @@ where
     run_line(rt, alloc, &line, surroundings)
 }
 
-/// Runs the program, whose standard output is a terminal or not, and gives its exit status.
-fn run<R>(rt: &R, is_terminal: bool) -> Result<u8, Fault>
+/// Runs the program, whose standard output is a terminal or not, and which is the first process or not, and gives its exit status.
+fn run<R>(rt: &R, is_terminal: bool, is_first: bool) -> Result<u8, Fault>
 where
     R: AllocGlobal + Env + Input + Print + Eprint + Files<File = File> + Net + Processes + Clock,
 {
@@ -221,6 +224,7 @@ where
                 socket: socket.as_deref(),
                 dir: dir.as_deref(),
                 output: output.as_deref(),
+                is_first,
             };
             run_words(rt, alloc, words.as_slice(), surroundings)
         }
@@ -233,7 +237,8 @@ where
 
 fn main(rt: HostRuntime) -> ExitCode {
     let is_terminal = rt.stdout().is_terminal();
-    let status = match run(&rt, is_terminal) {
+    let is_first = process::id(rt.process()) == FIRST;
+    let status = match run(&rt, is_terminal, is_first) {
         Ok(status) => status,
         Err(fault) => {
             report(&rt, &fault);

@@ -61,6 +61,13 @@ fn ends<R: Eprint>(rt: &R, refusal: Refusal) -> End {
     }
 }
 
+/// Says what becomes of a manager that is the first process, to which every process comes whose parent has ended.
+fn tell_first<E: Eprint>(lines: &E) {
+    let _unheard = eprintln!(lines;
+        "umd: it is the first process: ended ones stay as zombies, and TERM does nothing; see examples/container"
+    );
+}
+
 /// Says how the store stood that was opened, and what of it doesn't count.
 fn tell_opened<R: Eprint>(rt: &R, opened: OpenedStore) {
     let OpenedStore {
@@ -368,7 +375,12 @@ fn serve_opened<R: Files + Net + Clock, E: Eprint, D: Disk, C: Children + News>(
 }
 
 /// Opens the manager and serves it, until it fails.
-fn serve_over<'x, R>(system: &'x R, alloc: Global, line: &ServeLine<'x>) -> Result<u8, End>
+fn serve_over<'x, R>(
+    system: &'x R,
+    alloc: Global,
+    line: &ServeLine<'x>,
+    is_first: bool,
+) -> Result<u8, End>
 where
     R: Files<File = File> + Net + Processes + Clock + Eprint,
 {
@@ -383,6 +395,9 @@ where
         Ok(request) => request,
         Err(status) => return Err(End { status }),
     };
+    if is_first {
+        tell_first(&lines);
+    }
     let Taken {
         mut disk,
         mut children,
@@ -407,12 +422,12 @@ where
 }
 
 /// Serves a store over a socket, until it fails; then it has said why on standard error, and gives the exit status: 1 where the store, or
-/// memory, is refused, 5 where a file, the socket or the disk fails.
-pub fn serve_store<R>(rt: &R, alloc: Global, line: &ServeLine<'_>) -> u8
+/// memory, is refused, 5 where a file, the socket or the disk fails. As the first process it says first what that means.
+pub fn serve_store<R>(rt: &R, alloc: Global, line: &ServeLine<'_>, is_first: bool) -> u8
 where
     R: Files<File = File> + Net + Processes + Clock + Eprint,
 {
-    match serve_over(rt, alloc, line) {
+    match serve_over(rt, alloc, line, is_first) {
         Ok(status) => status,
         Err(end) => end.status,
     }

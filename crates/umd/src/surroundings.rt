@@ -11,6 +11,8 @@ pub struct Surroundings<'a> {
     pub dir: Option<&'a str>,
     /// What the variable UMD_OUTPUT holds.
     pub output: Option<&'a str>,
+    /// It is the first process of its machine or container.
+    pub is_first: bool,
 }
 
 /// What an option tells, or else the variable; an empty text tells nothing.
