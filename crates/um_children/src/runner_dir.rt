@@ -7,7 +7,7 @@ ghost use Rattle.um_children.specs.Standings.{goes_on};
 use crate::children::Children;
 use crate::commands::finding_command;
 use crate::fault::ChildFault;
-use crate::output::Output;
+use crate::output::{Output, begin_ahead, make_ahead};
 use crate::places::{
     OpenFault, bar, count_unmanaged, files_in, greatest_from, standing_in, take_folder,
 };
@@ -177,6 +177,7 @@ impl<'a, R: Files + Processes + Clock> RunnerDir<'a, R> {
     pub fn keep_output(&mut self, folder: &'a str)
         ensures failures { self.new.failures ≡ self.old.failures }
     {
+        begin_ahead(self.rt, self.alloc, folder);
         self.output = Some(folder);
     }
 
@@ -302,6 +303,7 @@ impl<'a, R: Files + Processes + Clock> RunnerDir<'a, R> {
         if answer.is_err() {
             self.printed.take_back(self.rt);
         }
+        make_ahead(self.rt, self.alloc, self.output);
         answer
     }
 

@@ -92,6 +92,16 @@ fn open_to_add<R: Files>(rt: &R, folder: &str, path: &str) -> io::Result<R::File
     }
 }
 
+/// Makes the file of the ends in the folder of a unit, where none is there yet.
+pub(crate) fn begin_ends<R: Files>(rt: &R, alloc: Global, folder: &str) -> io::Result<()> {
+    let path = path_of_name(alloc, folder, NAME)?;
+    let path = path.as_str();
+    if is_regular(rt, path)? {
+        open_to_add(rt, folder, path)?;
+    }
+    Ok(())
+}
+
 /// Adds the line to the ends in the folder of a unit, of which the older half goes where they are too long.
 pub(crate) fn add_end<R: Files>(rt: &R, alloc: Global, folder: &str, line: &str) -> io::Result<()> {
     let path = path_of_name(alloc, folder, NAME)?;

@@ -1,6 +1,6 @@
 //! The output of a manager's processes.
 
-use crate::ends::{Ended, add_end, end_line};
+use crate::ends::{Ended, add_end, begin_ends, end_line};
 use crate::fault::{Failure, OpenFault};
 use crate::files::{
     OutputFile, Part, files_in, is_folder, length_of, make_folder, path_of, path_of_name, remove,
@@ -103,6 +103,21 @@ fn unit_folders<R: Files>(rt: &R, alloc: Global, folder: &str) -> io::Result<Vec
 /// The numbers of the live processes of a state.
 fn live_in(state: &State) -> io::Result<Vec<ProcessNumber>> {
     Ok(state.units().live()?)
+}
+
+/// Moves the file of a live process into the folder of its unit. With a new folder comes the file of its ends: a new file takes a disk its time, and an
+/// end is waited for, a start that was ordered isn't.
+fn place_in<R: Files>(
+    rt: &R,
+    alloc: Global,
+    from: &str,
+    folder: &str,
+    number: ProcessNumber,
+) -> io::Result<()> {
+    if place(rt, alloc, from, folder, number)? {
+        begin_ends(rt, alloc, folder)?;
+    }
+    Ok(())
 }
 
 impl<'a, R: Files> Outputs<'a, R> {
@@ -223,14 +238,14 @@ impl<'a, R: Files> Outputs<'a, R> {
         }
         let lost = path_of_name(self.alloc, self.folder, LOST)?;
         make_folder(self.rt, lost.as_str())?;
-        place(self.rt, self.alloc, self.folder, lost.as_str(), number)?;
+        let _is_new = place(self.rt, self.alloc, self.folder, lost.as_str(), number)?;
         prune(self.rt, self.alloc, lost.as_str(), &[], LOST_KEPT)
     }
 
     /// Moves the file of a live process into the folder of its unit.
     fn place(&self, number: ProcessNumber, unit: &UnitName) -> io::Result<()> {
         let folder = path_of_name(self.alloc, self.folder, unit.as_str())?;
-        place(self.rt, self.alloc, self.folder, folder.as_str(), number)
+        place_in(self.rt, self.alloc, self.folder, folder.as_str(), number)
     }
 
     /// Takes up a number that the unit has.
@@ -340,7 +355,7 @@ impl<'a, R: Files> Outputs<'a, R> {
         };
         let folder = path_of_name(self.alloc, self.folder, live.unit.as_str())?;
         if !live.is_placed {
-            place(self.rt, self.alloc, self.folder, folder.as_str(), number)?;
+            place_in(self.rt, self.alloc, self.folder, folder.as_str(), number)?;
             live.is_placed = true;
         }
         look_after(self.rt, self.alloc, folder.as_str(), number, self.size)

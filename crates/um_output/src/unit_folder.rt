@@ -12,25 +12,28 @@ use um_model::ProcessNumber;
 /// Of a unit so many numbers stay that aren't live.
 pub(crate) const KEPT: usize = 4;
 
-/// Moves the file of a number from one folder to another one, which is made where it isn't there. Where no such file stands nothing is done.
+/// Moves the file of a number from one folder to another one, which is made where it isn't there: true where it was. Where no such file stands nothing
+/// is done.
 pub(crate) fn place<R: Files>(
     rt: &R,
     alloc: Global,
     from: &str,
     folder: &str,
     number: ProcessNumber,
-) -> io::Result<()> {
+) -> io::Result<bool> {
     let old = path_of(alloc, from, number, Part::Printed)?;
     let new = path_of(alloc, folder, number, Part::Printed)?;
     match fs::rename(rt, old.as_str(), new.as_str()) {
+        Ok(()) => return Ok(false),
         Err(fault) if fault.kind() == ErrorKind::NotFound => {}
-        answer => return answer,
+        Err(fault) => return Err(fault),
     }
     if length_of(rt, old.as_str())?.is_none() {
-        return Ok(());
+        return Ok(false);
     }
     make_folder(rt, folder)?;
-    fs::rename(rt, old.as_str(), new.as_str())
+    fs::rename(rt, old.as_str(), new.as_str())?;
+    Ok(true)
 }
 
 /// Cuts the file of a number where it is too long.
