@@ -30,15 +30,16 @@ place_is size layout honest sized sure = ap (λ n. place n layout honest) sized 
 pub opened_so_far : (layout : Layout) (size : ℕ) (honest told whole : Bool) (moment : ℕ) (boot : List ℕ) (count sectors : ℕ) {disk : Past} {before : List Call} {b : Now}
     → size ≡ body_limit layout → (all : History disk before b) → IsJustOpened (place size layout honest) told whole moment boot count sectors all
     → SoFar layout disk before (IsTrue honest) (IsTrue told × IsTrue whole) b
-opened_so_far layout size honest told whole moment boot count sectors sized (opens {at = at} sessions opened anew) (is, as_told, all_told, rest) = record {
-  past = opens sessions opened anew;
-  gone = λ sure. is ∙ place_is size layout honest sized sure;
-  found = λ sure.
-      let there : at ≡ place_on layout = is ∙ place_is size layout honest sized sure in
-      let had = opened.found (ap (λ (p : Place). p.trusted) there) in
-      (opened.a.state, subst (λ (p : Place). StandsFor p.layout (seen _) opened.a.state) there had.stands);
-  are_trusted = λ trust. (as_told ∙ trust.0, all_told ∙ trust.1);
-}
+opened_so_far layout size honest told whole moment boot count sectors {disk = disk} sized (opens {at = at} sessions opened anew)
+    (is, as_told, all_told, at_moment, of_boot, of_count, of_size) = record {
+      past = opens sessions opened anew;
+      gone = λ sure. is ∙ place_is size layout honest sized sure;
+      found = λ sure.
+          let there : at ≡ place_on layout = is ∙ place_is size layout honest sized sure in
+          let had = opened.found (ap (λ (p : Place). p.trusted) there) in
+          (opened.a.state, subst (λ (p : Place). StandsFor p.layout (seen disk) opened.a.state) there had.stands);
+      are_trusted = λ trust. (as_told ∙ trust.0, all_told ∙ trust.1);
+    }
 opened_so_far layout size honest told whole moment boot count sectors sized (turns past turned) just = absurd just
 opened_so_far layout size honest told whole moment boot count sectors sized (takes past out) just = absurd just
 
@@ -58,8 +59,8 @@ pub turned_so_far : (layout later : Layout) {at : Place} {honest whole : Bool} {
     {Sure Known More : Type 0} → later ≡ layout → (so : SoFar layout disk before Sure Known a) → (Sure → at ≡ place_on layout) → result ≡ Ok tt → (More → IsTrue honest)
     → (More → IsTrue whole) → (More → Known) → ((all : History disk before b) × IsTurn at honest whole result moment pieces so.past all)
     → SoFar later disk before Sure More b
-turned_so_far layout later {Sure = Sure} {More = More} same so is ok honest whole less (all, turn) =
-    subst (λ (l : Layout). SoFar l _ _ Sure More _) (sym same) (record {
+turned_so_far layout later {disk = disk} {before = before} {b = b} {Sure = Sure} {More = More} same so is ok honest whole less (all, turn) =
+    subst (λ (l : Layout). SoFar l disk before Sure More b) (sym same) (record {
       past = all;
       gone = λ sure. still_gone layout so.past all (offers_in_turn turn)
           (subst (λ r. Continues layout so.past all (offers_in_turn turn) r) ok (turn_continues layout so.past all turn (so.gone sure) (is sure)));
@@ -88,9 +89,9 @@ module _ (outlives : (layout : Layout) (first : State) (lives : List ManagerLife
     each = (of_layout layout other past is gone, tt);
   }
 
-  pub instance_of : {one other : Layout} {b d : Now} {next : Past} {Sure First More : Type 0} → Sure → (More → First) → (so : SoFar one made [] Sure First b) → IsLeftBy b.disk next
-      → (then : SoFar other next b.past Sure More d) → IsInstance layout d.disk d.past More
-  instance_of {one} {other} {b} {d} {next} sure less so left then =
+  pub instance_of : {one other : Layout} {b d : Now} {next : Past} {Sure First More Known : Type 0} → Sure → (Known → First) → (Known → More)
+      → (so : SoFar one made [] Sure First b) → IsLeftBy b.disk next → (then : SoFar other next b.past Sure More d) → IsInstance layout d.disk d.past Known
+  instance_of {one} {other} {b} {d} {next} sure less too so left then =
       let stands = (so.found sure).1 in
       let was : one ≡ layout = one_layout one layout (seen made) stands.first (created (seen made) read).store.stands.first in
       let all = outlives layout empty_state (ended so.past ∷ []) b.disk (seen next) (one_premises so.past was (so.gone sure)) (left.no_other (seen next) left.read) in
@@ -109,6 +110,6 @@ module _ (outlives : (layout : Layout) (first : State) (lives : List ManagerLife
           before = [];
           unstarted = refl;
           follow = (refl, (refl, refl));
-          each = ((so.are_trusted (less trust), ([], sym (append-nil b.past))), ((then.are_trusted trust, ([], sym (append-nil d.past))), tt));
+          each = ((so.are_trusted (less trust), ([], sym (append-nil b.past))), ((then.are_trusted (too trust), ([], sym (append-nil d.past))), tt));
         };
       }

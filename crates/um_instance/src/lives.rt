@@ -1,6 +1,6 @@
 //! Two lives, each an opening and a turn.
 
-ghost use Rattle.std.specs.Prelude.{◌×◌, IfOk, IsTrue, not};
+ghost use Rattle.std.specs.Prelude.{IfOk, IsTrue, not};
 ghost use Rattle.um_children.specs.Calls.{calls_of};
 ghost use Rattle.um_instance.specs.Instances.{SoFar, IsInstance};
 ghost use Rattle.um_keeper.specs.Creating.{IsEmptyStore};
