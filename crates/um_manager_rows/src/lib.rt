@@ -17,6 +17,7 @@ mod gates;
 #[cfg(test)]
 mod helps;
 #[cfg(test)]
+mod instances;
 #[cfg(test)]
 mod lives;
 #[cfg(test)]
