@@ -1,5 +1,5 @@
 -- Two lives are an instance.
-use Rattle.std.proofs.Common.{◌≡◌, ◌≢◌, ◌∙◌, ℕ, List, [], ◌∷◌, Bool, true, Result, Ok, append-nil, refl, sym, ap, subst}
+use Rattle.std.proofs.Common.{◌≡◌, ◌∙◌, ℕ, List, [], ◌∷◌, Bool, true, Result, Ok, append-nil, refl, sym, ap, subst}
 use Rattle.std.specs.Bool.{IsTrue}
 use Rattle.um_instance.specs.Instances.{SoFar, IsInstance}
 use Rattle.um_keeper.specs.Creating.{IsEmptyStore}
