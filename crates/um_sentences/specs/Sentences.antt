@@ -109,7 +109,8 @@ topic_of_reason reason = if begins_with reason (codes "setting ") then Some Sett
 -- what became of a unit
 abbrev pub result_sentence : UnitResult → List ℕ
 result_sentence result.Success = codes "nothing has failed."
-result_sentence result.ExitCode = codes "a process ended with a code that counts as a failure: 'umd status UNIT' tells the code, 'umd logs UNIT' what it printed."
+result_sentence result.ExitCode =
+    codes "a process ended with a code that counts as a failure: 'umd status UNIT' tells the code, 'umd logs UNIT' what it printed."
 result_sentence result.Signal = codes "a signal that counts as a failure ended a process: 'umd status UNIT' tells which."
 result_sentence result.Timeout = codes "a start or a stop took longer than TimeoutStartSec= or TimeoutStopSec= allows."
 result_sentence result.Lost = codes "nobody can tell how a process ended, as when its files in the folder of processes are gone."
@@ -125,7 +126,8 @@ topic_sentence Setting = codes "a key has a value that umd doesn't serve and tha
 topic_sentence ServiceType = codes "the Type= isn't served: simple, exec and oneshot are."
 topic_sentence ExecCount =
     codes "a service has exactly one command in ExecStart=; of Type=oneshot it has one or more, or none with RemainAfterExit=yes and a command in ExecStop=."
-topic_sentence Restart = codes "a service of Type=oneshot isn't started again behind a success: neither Restart=always nor Restart=on-success is served with it."
+topic_sentence Restart =
+    codes "a service of Type=oneshot isn't started again behind a success: neither Restart=always nor Restart=on-success is served with it."
 topic_sentence Template = codes "a template isn't started: name an instance of it, as name@instance.service."
 topic_sentence DefaultInstance = codes "a template without a fit DefaultInstance= isn't enabled: name an instance of it, as name@instance.service."
 topic_sentence (Outcome outcome) = result_sentence outcome
