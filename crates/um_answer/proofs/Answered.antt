@@ -3,6 +3,7 @@ use Rattle.std.proofs.Common.{◌≡◌, ℕ, List, sym, subst}
 use Rattle.um_model.specs.Install.{IsEnabledAs}
 use Rattle.um_model.specs.Jobs.{jobs_shown}
 use Rattle.um_model.specs.Machine.{State, Reply, Shown, Activity, EnabledAs, Jobs, Show, IsActive, IsFailed, Cat, IsEnabled, ListJobs, shown_of, state_asked, files_told, IsReplyTo, shows, tells_activity, tells_failure, tells_files, tells_enabling, lists_jobs}
+use Rattle.um_model.specs.Profiles.{current, read_by}
 use Rattle.um_model.specs.Resolution.{resolution_of}
 use Rattle.um_model.specs.Service.{active_state_of}
 use Rattle.um_model.specs.Units.{load}
@@ -20,7 +21,7 @@ tells_failure_so s asked reply is = subst (IsReplyTo s (IsFailed asked)) (sym is
 pub tells_files_so : (s : State) (asked : List ℕ) (reply : Reply) → reply ≡ files_told s.tree asked (resolution_of s.tree asked) → IsReplyTo s (Cat asked) reply
 tells_files_so s asked reply is = subst (IsReplyTo s (Cat asked)) (sym is) tells_files
 
-pub tells_enabling_so : (s : State) (asked : List ℕ) (reply : Reply) → ((answer : Enabling) × IsEnabledAs s.tree asked answer × (reply ≡ EnabledAs answer))
+pub tells_enabling_so : (s : State) (asked : List ℕ) (reply : Reply) → ((answer : Enabling) × IsEnabledAs (read_by current s.tree) asked answer × (reply ≡ EnabledAs answer))
     → IsReplyTo s (IsEnabled asked) reply
 tells_enabling_so s asked reply (answer, enabled, is) = subst (IsReplyTo s (IsEnabled asked)) (sym is) (tells_enabling enabled)
 

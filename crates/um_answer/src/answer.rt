@@ -7,7 +7,8 @@ ghost use Rattle.um_model.specs.Service.{active_state_of, state_of_unit};
 ghost use Rattle.um_model.specs.Units.{load as load_in, name_in};
 ghost use Rattle.um_state.specs.View.{state_of, query_of, reply_of, shown_of as shown_view};
 ghost use Rattle.um_model.specs.declared.install.Enabling.{Enabling};
-ghost use Rattle.um_unit.specs.View.{loading_of, unit_of};
+ghost use Rattle.um_model.specs.Profiles.{current, read_by};
+ghost use Rattle.um_unit.specs.View.{loading_of, tree_read, unit_of};
 ghost use Rattle.um_answer.specs.Loaded.{Loads};
 ghost use Rattle.um_answer.specs.Shown.{shown_of_loaded};
 
@@ -17,12 +18,12 @@ use std::alloc::{AllocError, Global};
 use std::rc::Rc;
 use um_graph::Graph;
 use um_install::is_enabled;
-use um_model::{LoadState, UnitState};
+use um_model::{LoadState, Profile, UnitState};
 use um_name::UnitName;
 use um_resolve::{Files, files_of};
 use um_state::{Query, Reply, State, UnitShown};
 use um_tree::Tree;
-use um_unit::{LoadedUnit, Loading, load};
+use um_unit::{LoadedUnit, Loading, Reading, load};
 use um_wire::{masked, not_found};
 
 /// A unit that isn't loaded is shown with no description and no warning.
@@ -126,11 +127,21 @@ fn cat(alloc: Global, tree: &Tree, asked: &UnitName) -> Result<Reply, AllocError
     }
 }
 
-/// How a unit is enabled in the tree in hand.
-fn enabled_as(alloc: Global, tree: &Tree, asked: &UnitName) -> Result<Reply, AllocError>
-    ensures { IfOk result (λ reply. (answer : Enabling) × IsEnabledAs tree.now asked.now answer × (reply_of reply ≡ model.EnabledAs answer)) }
+/// The tree in hand as it is read where it is asked about: by the current profile.
+fn in_hand(state: &State) -> Reading<'_>
+    ensures { tree_read result ≡ read_by current (state_of state.now).tree }
 {
-    Ok(Reply::EnabledAs(is_enabled(alloc, tree, asked)?))
+    Reading {
+        tree: state.tree(),
+        profile: Profile::current(),
+    }
+}
+
+/// How a unit is enabled in the tree in hand.
+fn enabled_as(alloc: Global, reading: Reading<'_>, asked: &UnitName) -> Result<Reply, AllocError>
+    ensures { IfOk result (λ reply. (answer : Enabling) × IsEnabledAs (tree_read reading.entry) asked.now answer × (reply_of reply ≡ model.EnabledAs answer)) }
+{
+    Ok(Reply::EnabledAs(is_enabled(alloc, reading, asked)?))
 }
 
 /// The pending jobs.
@@ -154,7 +165,7 @@ pub fn reply_to(
         Query::Show { unit } => show(alloc, state, graph, unit),
         Query::IsActive { unit } | Query::IsFailed { unit } => activity(alloc, state, graph, unit),
         Query::Cat { unit } => cat(alloc, state.tree(), unit),
-        Query::IsEnabled { unit } => enabled_as(alloc, state.tree(), unit),
+        Query::IsEnabled { unit } => enabled_as(alloc, in_hand(state), unit),
         Query::ListUnits => list_units(alloc, state),
         Query::ListJobs => list_jobs(state),
     }

@@ -2,15 +2,14 @@
 
 ghost use Rattle.std.specs.Prelude.{◌≡◌, IfOk, IfSome, Contains};
 ghost use Rattle.um_answer.specs.Loaded.{Loads, is_found};
-ghost use Rattle.um_model.specs.Tree.{Tree};
+ghost use Rattle.um_model.specs.Profiles.{ReadTree};
 ghost use Rattle.um_model.specs.Units.{load as load_in, name_in, unit_named};
-ghost use Rattle.um_unit.specs.View.{loading_of};
+ghost use Rattle.um_unit.specs.View.{loading_of, tree_read};
 
 use std::alloc::{AllocError, Global};
 use um_graph::Graph;
 use um_name::UnitName;
-use um_tree::Tree;
-use um_unit::{LoadedUnit, Loading, load};
+use um_unit::{LoadedUnit, Loading, Reading, load};
 
 /// The name that counts, by what was found: the last one to which the name that was asked for leads, or that name itself where it
 /// leads nowhere.
@@ -40,7 +39,7 @@ fn is_found(loading: &Loading) -> bool
 
 /// What became of the look for a name, where the graph knows it.
 pub(crate) fn loading_in<'g>(graph: &'g Graph, asked: &UnitName) -> Option<&'g Loading>
-    ensures { (tree : Tree) → Loads graph.now tree → IfSome result (λ loading. loading_of loading.now ≡ load_in tree asked.now) }
+    ensures { (tree : ReadTree) → Loads graph.now tree → IfSome result (λ loading. loading_of loading.now ≡ load_in tree asked.now) }
 {
     graph.loading(graph.number(asked)?)
 }
@@ -66,20 +65,20 @@ impl Asked {
         })
     }
 
-    /// What the name leads to in the tree. Of a name that the tree's graph knows no file is read.
-    #[tactic(auto, using(um_model::proofs::OwnNameLaws::named_by_loading))]
+    /// What the name leads to in the tree as it is read. Of a name that the tree's graph knows no file is read.
     pub fn of(
         alloc: Global,
         graph: &Graph,
-        tree: &Tree,
+        reading: Reading<'_>,
         asked: &UnitName,
     ) -> Result<Asked, AllocError>
-        ensures unit { Loads graph.now tree.now → IfOk result (λ a. a.unit ≡ unit_named tree.now asked.now) }
-        ensures found { Loads graph.now tree.now → IfOk result (λ a. a.is_found ≡ is_found (load_in tree.now asked.now)) }
+        ensures unit { Loads graph.now (tree_read reading.entry) → IfOk result (λ a. a.unit ≡ unit_named reading.entry.tree.now asked.now) }
+        ensures found { Loads graph.now (tree_read reading.entry)
+            → IfOk result (λ a. a.is_found ≡ is_found (load_in (tree_read reading.entry) asked.now)) }
     {
         if let Some(loading) = loading_in(graph, asked) {
             return Asked::by(asked, loading);
         }
-        Asked::by(asked, &load(alloc, tree, asked)?)
+        Asked::by(asked, &load(alloc, reading, asked)?)
     }
 }

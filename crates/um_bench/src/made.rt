@@ -1,6 +1,6 @@
 //! A state of a chosen size.
 use std::alloc::Global;
-use um_model::{End, JobState, NextNumber, ProcessNumber, SubState, UnitJobs, UnitState};
+use um_model::{End, JobState, NextNumber, ProcessNumber, Profile, SubState, UnitJobs, UnitState};
 use um_name::UnitName;
 use um_state::State;
 use um_wire::Refusal;
@@ -14,7 +14,7 @@ fn put_files(alloc: Global, state: &mut State, count: u32) -> Result<(), Refusal
         let path = format!(in alloc; "lib/u{number:04}.service")?;
         state.put_file(path.as_str(), SERVICE)?;
     }
-    state.reload()?;
+    state.reload(Profile::One)?;
     Ok(())
 }
 

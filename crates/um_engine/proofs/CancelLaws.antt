@@ -1,5 +1,7 @@
 -- A cancel in a work that begins in what is served.
 use Rattle.std.proofs.Common.{◌≡◌, ◌∙◌, ℕ, false, List, ap}
+use Rattle.um_model.specs.declared.profile.Profile.{Profile}
+use Rattle.um_model.specs.Profiles.{current}
 use Rattle.um_model.specs.Jobs.{cancelled, jobs_of_unit}
 use Rattle.um_model.specs.Machine.{State, Cancel, Changes, IsMissing, Refuses, unit_asked, with_plan}
 use Rattle.um_model.specs.Refusals.{Refused, no_such_job}
@@ -21,14 +23,14 @@ module _ (v : ServedView) (t : ℕ) (asked unit : List ℕ) (u : WorkView) (begu
   jobs_are = ap (λ (x : State). jobs_of_unit x.pending unit) state_is
 
   module _ (there : (q : Refused) → ¬ IsMissing v.state asked q) where
-    pub cancels_none : (r : Refused) → HasNone r → Refuses v.state (Cancel asked) r
+    pub cancels_none : (r : Refused) → HasNone r → Refuses current v.state (Cancel asked) r
     cancels_none r h = by_none_waiting v.state asked r there (none_waits v.state asked unit (jobs_of_unit (state_of u.now).pending unit) is jobs_are r h)
 
-    pub cancels_some : ((r : Refused) → ¬ HasNone r) → (r : Refused) → ¬ Refuses v.state (Cancel asked) r
+    pub cancels_some : ((r : Refused) → ¬ HasNone r) → (r : Refused) → ¬ Refuses current v.state (Cancel asked) r
     cancels_some some = free_to_cancel v.state asked there (some_waits v.state asked unit (jobs_of_unit (state_of u.now).pending unit) is jobs_are some)
 
   module _ (w : WorkView) (put : state_of w.now ≡ with_plan (state_of u.now) unit (cancelled (jobs_of_unit (state_of u.now).pending unit))) where
-    pub cancels_so : Changes v.state (Cancel asked) (state_of w.now)
+    pub cancels_so : {profile : Profile} → Changes profile v.state (Cancel asked) (state_of w.now)
     cancels_so =
         cancels_to v.state asked (state_of u.now) (state_of w.now) unit (cancelled (jobs_of_unit (state_of u.now).pending unit)) state_is is
         (ap cancelled (jobs_are ∙ ap (jobs_of_unit v.state.pending) is)) put

@@ -1,5 +1,8 @@
 -- What commands are refused for, and what they change, from what the calls below tell.
 use Rattle.std.proofs.Common.{◌≡◌, ◌≢◌, ◌∙◌, ℕ, List, Some, None, false, Result, Ok, Err, sym, ap, subst, true, true≢false}
+use Rattle.um_model.specs.declared.profile.Profile.{Profile}
+use Rattle.um_model.specs.Machine.{as_loaded}
+use Rattle.um_model.specs.Profiles.{ReadTree, current, read_by}
 use Rattle.um_model.specs.Jobs.{cancelled, jobs_of_unit}
 use Rattle.um_model.specs.Machine as model
 use Rattle.um_model.specs.Machine.{State, IsCrowded, IsHeld, IsHeldOr, IsNotThere, to_stop, to_try_restart, IsMissing, HasNoneWaiting, PlansTooMany, by_name, by_jobs, HasNoPlan, LoadsNone, Refuses, scene_at, active_asked, demand_of, demands_nothing, Changes, puts, links, removes, reloads, plans, cancels, installs}
@@ -32,43 +35,44 @@ use Rattle.um_wire.specs.declared.refusal.Refusal.TheVariants.{NoMemory}
 
 -- ---- the tree in hand
 
-pub puts_to : (s u v : State) (path text : List ℕ) → u ≡ s → put_file u.tree path text ≡ Ok v.tree → v ≡ record u { tree = v.tree } → Changes s (model.PutFile path text) v
-puts_to s u v path text same ok rest =
-    subst (Changes s (model.PutFile path text)) (sym (rest ∙ ap (λ (x : State). record x { tree = v.tree }) same))
+pub puts_to : {profile : Profile} (s u v : State) (path text : List ℕ) → u ≡ s → put_file u.tree path text ≡ Ok v.tree → v ≡ record u { tree = v.tree } → Changes profile s (model.PutFile path text) v
+puts_to {profile} s u v path text same ok rest =
+    subst (Changes profile s (model.PutFile path text)) (sym (rest ∙ ap (λ (x : State). record x { tree = v.tree }) same))
     (puts (sym (ap (λ (x : State). put_file x.tree path text) same) ∙ ok))
 
-pub links_to : (s u v : State) (path target : List ℕ) → u ≡ s → put_link u.tree path target ≡ Ok v.tree → v ≡ record u { tree = v.tree } → Changes s (model.PutLink path target) v
-links_to s u v path target same ok rest =
-    subst (Changes s (model.PutLink path target)) (sym (rest ∙ ap (λ (x : State). record x { tree = v.tree }) same))
+pub links_to : {profile : Profile} (s u v : State) (path target : List ℕ) → u ≡ s → put_link u.tree path target ≡ Ok v.tree → v ≡ record u { tree = v.tree } → Changes profile s (model.PutLink path target) v
+links_to {profile} s u v path target same ok rest =
+    subst (Changes profile s (model.PutLink path target)) (sym (rest ∙ ap (λ (x : State). record x { tree = v.tree }) same))
     (links (sym (ap (λ (x : State). put_link x.tree path target) same) ∙ ok))
 
-pub removes_to : (s u v : State) (path : List ℕ) → u ≡ s → remove_at u.tree path ≡ Ok v.tree → v ≡ record u { tree = v.tree } → Changes s (model.Remove path) v
-removes_to s u v path same ok rest =
-    subst (Changes s (model.Remove path)) (sym (rest ∙ ap (λ (x : State). record x { tree = v.tree }) same))
+pub removes_to : {profile : Profile} (s u v : State) (path : List ℕ) → u ≡ s → remove_at u.tree path ≡ Ok v.tree → v ≡ record u { tree = v.tree } → Changes profile s (model.Remove path) v
+removes_to {profile} s u v path same ok rest =
+    subst (Changes profile s (model.Remove path)) (sym (rest ∙ ap (λ (x : State). record x { tree = v.tree }) same))
     (removes (sym (ap (λ (x : State). remove_at x.tree path) same) ∙ ok))
 
-pub reloads_to : (s u v : State) → u ≡ s → v ≡ record u { loaded = u.tree } → Changes s model.DaemonReload v
-reloads_to s u v same is = subst (Changes s model.DaemonReload) (sym (is ∙ ap (λ (x : State). record x { loaded = x.tree }) same)) reloads
+pub reloads_to : (profile : Profile) (s u v : State) → u ≡ s → v ≡ record u { loaded = as_loaded profile u u.tree } → Changes profile s model.DaemonReload v
+reloads_to profile s u v same is =
+    subst (Changes profile s model.DaemonReload) (sym (is ∙ ap (λ (x : State). record x { loaded = as_loaded profile x x.tree }) same)) reloads
 
-pub installs_to : (s u v : State) (verb : InstallVerb) (unit : List ℕ) (tree : Tree) → u ≡ s → Installs s.tree verb unit tree
-    → v ≡ record u { tree = tree; loaded = tree } → Changes s (model.Install verb unit) v
-installs_to s u v verb unit tree same made is =
-    subst (Changes s (model.Install verb unit)) (sym (is ∙ ap (λ (x : State). record x { tree = tree; loaded = tree }) same)) (installs made)
+pub installs_to : (profile : Profile) (s u v : State) (verb : InstallVerb) (unit : List ℕ) (tree : Tree) → u ≡ s → Installs (read_by profile s.tree) verb unit tree
+    → v ≡ record u { tree = tree; loaded = as_loaded profile u tree } → Changes profile s (model.Install verb unit) v
+installs_to profile s u v verb unit tree same made is =
+    subst (Changes profile s (model.Install verb unit)) (sym (is ∙ ap (λ (x : State). record x { tree = tree; loaded = as_loaded profile x tree }) same)) (installs made)
 
 pub puts_none_to : (s u : State) (path text : List ℕ) (e : Refusal) → u ≡ s → (e ≢ NoMemory → put_file u.tree path text ≡ Err (refused_of e))
-    → e ≢ NoMemory → Refuses s (model.PutFile path text) (refused_of e)
+    → e ≢ NoMemory → Refuses current s (model.PutFile path text) (refused_of e)
 puts_none_to s u path text e same refused differs = (sym (ap (λ (x : State). put_file x.tree path text) same) ∙ refused differs)
 
 pub links_none_to : (s u : State) (path target : List ℕ) (e : Refusal) → u ≡ s → (e ≢ NoMemory → put_link u.tree path target ≡ Err (refused_of e))
-    → e ≢ NoMemory → Refuses s (model.PutLink path target) (refused_of e)
+    → e ≢ NoMemory → Refuses current s (model.PutLink path target) (refused_of e)
 links_none_to s u path target e same refused differs = (sym (ap (λ (x : State). put_link x.tree path target) same) ∙ refused differs)
 
 pub removes_none_to : (s u : State) (path : List ℕ) (e : Refusal) → u ≡ s → (e ≢ NoMemory → remove_at u.tree path ≡ Err (refused_of e))
-    → e ≢ NoMemory → Refuses s (model.Remove path) (refused_of e)
+    → e ≢ NoMemory → Refuses current s (model.Remove path) (refused_of e)
 removes_none_to s u path e same refused differs = (sym (ap (λ (x : State). remove_at x.tree path) same) ∙ refused differs)
 
-pub free_to_reload : (s : State) → ((r : Refused) → ¬ model.CausesOfLoad s s.tree r) → (r : Refused) → Refuses s model.DaemonReload r → ⊥
-free_to_reload s free r h = free r h
+pub free_to_reload : (profile : Profile) (s : State) → ((r : Refused) → ¬ model.CausesOfLoad s (as_loaded profile s s.tree) r) → (r : Refused) → Refuses profile s model.DaemonReload r → ⊥
+free_to_reload profile s free r h = free r h
 
 -- ---- the causes, found before anything is copied
 
@@ -90,11 +94,11 @@ module _ (s : State) (verb : UnitVerb) (asked : List ℕ) (mode : JobMode) where
   abbrev Crowds : Refused → Type 0
   Crowds = IsCrowded s.loaded (IsHeldOr s (model.unit_asked s asked))
 
-  pub by_absence : (r : Refused) → ((q : Refused) → ¬ PlansTooMany s verb asked q) → IsNotThere s verb asked r → Refuses s (model.ForUnit verb asked mode) r
+  pub by_absence : (r : Refused) → ((q : Refused) → ¬ PlansTooMany s verb asked q) → IsNotThere s verb asked r → Refuses current s (model.ForUnit verb asked mode) r
   by_absence r few h = at_second few (at_first h)
 
   free_by : ((q : Refused) → ¬ PlansTooMany s verb asked q) → ((q : Refused) → ¬ IsNotThere s verb asked q) → ((q : Refused) → ¬ HasNoPlan s verb asked mode q)
-      → (r : Refused) → ¬ Refuses s (model.ForUnit verb asked mode) r
+      → (r : Refused) → ¬ Refuses current s (model.ForUnit verb asked mode) r
   free_by few there planned r (at_first h) = few r h
   free_by few there planned r (at_second n (at_first h)) = there r h
   free_by few there planned r (at_second n (at_second m h)) = planned r h
@@ -105,11 +109,11 @@ module _ (s : State) (verb : UnitVerb) (asked : List ℕ) (mode : JobMode) where
     few_at_rest q (by_name h) = few q h
     few_at_rest q (by_jobs {demand = d} is plan h) = none-some d (sym nothing ∙ is)
 
-    pub free_to_rest : ((q : Refused) → ¬ IsNotThere s verb asked q) → (r : Refused) → ¬ Refuses s (model.ForUnit verb asked mode) r
+    pub free_to_rest : ((q : Refused) → ¬ IsNotThere s verb asked q) → (r : Refused) → ¬ Refuses current s (model.ForUnit verb asked mode) r
     free_to_rest there = free_by few_at_rest there (λ q h. none-some h.demand (sym nothing ∙ h.demanded))
 
-  pub rests_so : (u : State) → demand_of verb (active_asked s asked) ≡ None → u ≡ s → Changes s (model.ForUnit verb asked mode) u
-  rests_so u nothing is = subst (Changes s (model.ForUnit verb asked mode)) (sym is) (demands_nothing nothing)
+  pub rests_so : {profile : Profile} (u : State) → demand_of verb (active_asked s asked) ≡ None → u ≡ s → Changes profile s (model.ForUnit verb asked mode) u
+  rests_so {profile} u nothing is = subst (Changes profile s (model.ForUnit verb asked mode)) (sym is) (demands_nothing nothing)
 
   -- ---- the plan for what is demanded
   module _ (demand : Demand) (demanded : demand_of verb (active_asked s asked) ≡ Some demand) (u : State) (planned : HasPlan s (demand, model.unit_asked s asked) u) where
@@ -127,7 +131,7 @@ module _ (s : State) (verb : UnitVerb) (asked : List ℕ) (mode : JobMode) where
         (subst (λ e. Holds e other) same holds)
 
     -- too many units would be known with it
-    pub by_fullness : (r : Refused) → IsCrowded u.loaded (IsHeld u) r → Refuses s (model.ForUnit verb asked mode) r
+    pub by_fullness : (r : Refused) → IsCrowded u.loaded (IsHeld u) r → Refuses current s (model.ForUnit verb asked mode) r
     by_fullness r h = at_first (by_jobs demanded planned.plan (subst (λ (x : State). IsCrowded x.loaded (IsHeld x) r) planned.rest h))
 
     pub few_planned : ((q : Refused) → ¬ Crowds q) → IsFew u → (q : Refused) → ¬ PlansTooMany s verb asked q
@@ -138,17 +142,17 @@ module _ (s : State) (verb : UnitVerb) (asked : List ℕ) (mode : JobMode) where
         (of_this_plan (λ e jobs. IsCrowded s.loaded (IsHeld (record s { pending = jobs })) q) d other is plan h))
 
     pub by_plan : ((q : Refused) → ¬ PlansTooMany s verb asked q) → ((q : Refused) → ¬ IsNotThere s verb asked q) → (r : Refused)
-        → CausesOfPlan (scene_at s named) (demand, named) mode u.pending r → Refuses s (model.ForUnit verb asked mode) r
+        → CausesOfPlan (scene_at s named) (demand, named) mode u.pending r → Refuses current s (model.ForUnit verb asked mode) r
     by_plan few there r h = at_second few (at_second there (record { demand = demand; demanded = demanded; after = u.pending; plan = planned.plan; cause = h }))
 
     pub free_to_plan : ((q : Refused) → ¬ PlansTooMany s verb asked q) → ((q : Refused) → ¬ IsNotThere s verb asked q)
-        → ((q : Refused) → ¬ CausesOfPlan (scene_at s named) (demand, named) mode u.pending q) → (r : Refused) → ¬ Refuses s (model.ForUnit verb asked mode) r
+        → ((q : Refused) → ¬ CausesOfPlan (scene_at s named) (demand, named) mode u.pending q) → (r : Refused) → ¬ Refuses current s (model.ForUnit verb asked mode) r
     free_to_plan few there unrefused =
         free_by few there
         (λ q h. unrefused q (of_this_plan (λ e jobs. CausesOfPlan (scene_at s named) (e, named) mode jobs q) h.demand h.after h.demanded h.plan h.cause))
 
-    pub plans_to : Changes s (model.ForUnit verb asked mode) u
-    plans_to = subst (Changes s (model.ForUnit verb asked mode)) (sym planned.rest) (plans demanded planned.plan)
+    pub plans_to : {profile : Profile} → Changes profile s (model.ForUnit verb asked mode) u
+    plans_to {profile} = subst (Changes profile s (model.ForUnit verb asked mode)) (sym planned.rest) (plans demanded planned.plan)
 
 -- ---- a unit that is there already
 
@@ -167,17 +171,17 @@ refuses_there s verb asked wanted (Err e) cause = λ differs. not_there s verb a
 -- ---- the waiting jobs of a unit
 
 module _ (s : State) (asked : List ℕ) where
-  pub by_none_waiting : (r : Refused) → ((q : Refused) → ¬ IsMissing s asked q) → HasNoneWaiting s asked r → Refuses s (model.Cancel asked) r
+  pub by_none_waiting : (r : Refused) → ((q : Refused) → ¬ IsMissing s asked q) → HasNoneWaiting s asked r → Refuses current s (model.Cancel asked) r
   by_none_waiting r there h = at_second there h
 
-  pub free_to_cancel : ((q : Refused) → ¬ IsMissing s asked q) → ((q : Refused) → ¬ HasNoneWaiting s asked q) → (r : Refused) → Refuses s (model.Cancel asked) r → ⊥
+  pub free_to_cancel : ((q : Refused) → ¬ IsMissing s asked q) → ((q : Refused) → ¬ HasNoneWaiting s asked q) → (r : Refused) → Refuses current s (model.Cancel asked) r → ⊥
   free_to_cancel there waits r (at_first h) = there r h
   free_to_cancel there waits r (at_second n h) = waits r h
 
-  pub cancels_to : (u v : State) (unit : List ℕ) (jobs : UnitJobs) → u ≡ s → unit ≡ model.unit_asked s asked → jobs ≡ cancelled (model.jobs_asked s asked)
-      → v ≡ model.with_plan u unit jobs → Changes s (model.Cancel asked) v
-  cancels_to u v unit jobs same e f is =
-      subst (Changes s (model.Cancel asked))
+  pub cancels_to : {profile : Profile} (u v : State) (unit : List ℕ) (jobs : UnitJobs) → u ≡ s → unit ≡ model.unit_asked s asked → jobs ≡ cancelled (model.jobs_asked s asked)
+      → v ≡ model.with_plan u unit jobs → Changes profile s (model.Cancel asked) v
+  cancels_to {profile} u v unit jobs same e f is =
+      subst (Changes profile s (model.Cancel asked))
       (sym (is ∙ (ap (λ (x : State). model.with_plan x unit jobs) same ∙ (ap (λ x. model.with_plan s x jobs) e ∙ ap (λ x. model.with_plan s (model.unit_asked s asked) x) f)))) cancels
 
 -- ---- what has no waiting job, and what isn't loaded
@@ -196,35 +200,35 @@ some_waits s asked unit jobs is held waits r h =
 
 -- ---- enabling and its kin
 
-module _ (s : State) (verb : InstallVerb) (unit : List ℕ) where
-  abbrev Crowded : Tree → Refused → Type 0
+module _ (profile : Profile) (s : State) (verb : InstallVerb) (unit : List ℕ) where
+  abbrev Crowded : ReadTree → Refused → Type 0
   Crowded tree = IsCrowded tree (IsHeld s)
 
-  abbrev Circles : Tree → Refused → Type 0
+  abbrev Circles : ReadTree → Refused → Type 0
   Circles tree = NamesCycle (model.IsBefore tree) s.pending
 
-  pub by_links : (r : Refused) → RefusesLinks s.tree verb unit r → Refuses s (model.Install verb unit) r
+  pub by_links : (r : Refused) → RefusesLinks (read_by profile s.tree) verb unit r → Refuses profile s (model.Install verb unit) r
   by_links r h = at_first h
 
-  module _ (tree : Tree) (made : Installs s.tree verb unit tree) (linked : (q : Refused) → ¬ RefusesLinks s.tree verb unit q) where
-    told : (Cause : Tree → Refused → Type 0) (r : Refused) → Cause tree r → LoadsNone s verb unit Cause r
+  module _ (tree : Tree) (made : Installs (read_by profile s.tree) verb unit tree) (linked : (q : Refused) → ¬ RefusesLinks (read_by profile s.tree) verb unit q) where
+    told : (Cause : ReadTree → Refused → Type 0) (r : Refused) → Cause (as_loaded profile s tree) r → LoadsNone profile s verb unit Cause r
     told Cause r h = record { tree = tree; installs = made; cause = h }
 
-    none_loads : (Cause : Tree → Refused → Type 0) → ((q : Refused) → ¬ Cause tree q) → (q : Refused) → ¬ LoadsNone s verb unit Cause q
-    none_loads Cause none q h = none q (subst (λ (x : Tree). Cause x q) (one_install s.tree verb unit h.tree tree h.installs made) h.cause)
+    none_loads : (Cause : ReadTree → Refused → Type 0) → ((q : Refused) → ¬ Cause (as_loaded profile s tree) q) → (q : Refused) → ¬ LoadsNone profile s verb unit Cause q
+    none_loads Cause none q h = none q (subst (λ (x : Tree). Cause (as_loaded profile s x) q) (one_install (read_by profile s.tree) verb unit h.tree tree h.installs made) h.cause)
 
-    pub by_crowd_of_install : (r : Refused) → Crowded tree r → Refuses s (model.Install verb unit) r
+    pub by_crowd_of_install : (r : Refused) → Crowded (as_loaded profile s tree) r → Refuses profile s (model.Install verb unit) r
     by_crowd_of_install r h = at_second linked (at_first (told Crowded r h))
 
-    module _ (few : (q : Refused) → ¬ Crowded tree q) where
-      pub by_units : (r : Refused) → RefusesUnits s.tree verb unit r → Refuses s (model.Install verb unit) r
+    module _ (few : (q : Refused) → ¬ Crowded (as_loaded profile s tree) q) where
+      pub by_units : (r : Refused) → RefusesUnits (read_by profile s.tree) verb unit r → Refuses profile s (model.Install verb unit) r
       by_units r h = at_second linked (at_second (none_loads Crowded few) (at_first h))
 
-      module _ (able : (q : Refused) → ¬ RefusesUnits s.tree verb unit q) where
-        pub by_circle : (r : Refused) → Circles tree r → Refuses s (model.Install verb unit) r
+      module _ (able : (q : Refused) → ¬ RefusesUnits (read_by profile s.tree) verb unit q) where
+        pub by_circle : (r : Refused) → Circles (as_loaded profile s tree) r → Refuses profile s (model.Install verb unit) r
         by_circle r h = at_second linked (at_second (none_loads Crowded few) (at_second able (told Circles r h)))
 
-        pub free_to_install : ((q : Refused) → ¬ Circles tree q) → (r : Refused) → ¬ Refuses s (model.Install verb unit) r
+        pub free_to_install : ((q : Refused) → ¬ Circles (as_loaded profile s tree) q) → (r : Refused) → ¬ Refuses profile s (model.Install verb unit) r
         free_to_install free r (at_first h) = linked r h
         free_to_install free r (at_second n (at_first h)) = none_loads Crowded few r h
         free_to_install free r (at_second n (at_second m (at_first h))) = able r h

@@ -6,6 +6,7 @@ use Rattle.std.specs.FinMap as map
 use Rattle.std.specs.Prelude.{◌&&◌, IfOk, Result, Ok, Err, slice_get, unwrap_or}
 use Rattle.um_laws.proofs.FewLaws.{step_few}
 use Rattle.um_laws.proofs.KnownLaws.{more_known}
+use Rattle.um_model.specs.Profiles.{ReadTree, lasting_tree}
 use Rattle.um_model.specs.Dependencies.{extra}
 use Rattle.um_model.specs.Jobs.{has_job, no_jobs, with_jobs}
 use Rattle.um_model.specs.Machine.{State, Input, IsHeld, Reply, Step}
@@ -14,7 +15,6 @@ use Rattle.um_model.specs.Servable.{IsFew}
 use Rattle.um_model.specs.Refusals.{too_large}
 use Rattle.um_model.specs.Service.{Action, ByUnit, dead_unit, holds_nothing, with_unit}
 use Rattle.um_model.specs.Standing.{Standing}
-use Rattle.um_model.specs.Tree.{Tree, without_run}
 use Rattle.um_model.specs.declared.jobs.UnitJobs.{UnitJobs}
 use Rattle.um_model.specs.declared.refusals.Limit.TheVariants.{Units}
 use Rattle.um_model.specs.declared.service.UnitState.{UnitState}
@@ -55,9 +55,9 @@ exact_on (Ok u) k s state known knows made = exact_at u k s state known knows ma
 exact_on (Err e) k s state known knows made = state
 
 -- too many units are known with some where they are with fewer
-pub full_less : (tree : Tree) (E F : List ℕ → Type 0) → ((x : List ℕ) → E x → F x) → IsFull tree E → IsFull tree F
+pub full_less : (tree : ReadTree) (E F : List ℕ → Type 0) → ((x : List ℕ) → E x → F x) → IsFull tree E → IsFull tree F
 full_less tree E F into (inl many) = inl (more_known tree E F (λ x e. first (extra (into x e))) many)
-full_less tree E F into (inr many) = inr (more_known (without_run tree) E F (λ x e. first (extra (into x e))) many)
+full_less tree E F into (inr many) = inr (more_known (lasting_tree tree) E F (λ x e. first (extra (into x e))) many)
 
 -- where too many would be known for the state, nothing is said
 pub exact_full : (v : ServedView) → IsFull v.state.loaded (IsHeld v.state) → IsExactIfFew v

@@ -5,11 +5,13 @@ use Rattle.std.specs.Result.{IsErrAnd}
 use Rattle.std.proofs.lemmas.List.{get_or_default}
 use Rattle.std.proofs.lemmas.Option.{get_or_from_slice_get, none-some}
 use Rattle.um_graph.proofs.NamedLaws.{got_within}
+use Rattle.um_model.specs.declared.profile.Profile.{Profile}
+use Rattle.um_model.specs.Profiles.{ReadTree, read_by, lasting_tree}
 use Rattle.um_model.specs.Dependencies.{CountsFor, IsKnown, KnowsTooMany, extra}
 use Rattle.um_model.specs.Servable.{IsFew}
 use Rattle.um_model.specs.Machine.{State, IsHeld, IsHeldOr, IsTooHeavy, Settles, booted, PutFile, PutLink, Remove, Changes, puts, links, removes}
 use Rattle.um_model.specs.Reached.{first}
-use Rattle.um_model.specs.Tree.{Tree, without_run}
+use Rattle.um_model.specs.Tree.{Tree}
 use Rattle.um_model.specs.Weight.{weight_of}
 use Rattle.um_laws.proofs.FewLaws.{booted_none}
 use Rattle.um_model.specs.Live.{HoldsNoMore}
@@ -40,7 +42,7 @@ module _ (s : State) (k : KnownView) (named : Option (List ℕ)) (knows : KnowsF
   same_here = record { into = λ x e. first (extra (made x e)); back = λ x h. held_known named refl x h }
 
   module _ (lasts : (x : List ℕ) → Contains k.graph.names x → IsHeldWith s named x → Contains k.lasting x) where
-    same_without : KnowsSame (without_run s.loaded) (Contains k.extra) (IsHeldWith s named)
+    same_without : KnowsSame (lasting_tree s.loaded) (Contains k.extra) (IsHeldWith s named)
     same_without = record {
       into = λ x e. first (extra (made x e));
       back = λ x h. (knows.lasting x).0 (lasts x ((knows.made.of.known x).1 (held_known named refl x h)) h);
@@ -69,7 +71,7 @@ none_apart k s h names same x apart held =
 pub knows_still : (k : KnownView) (s u : State) → KnowsFor k s → u.loaded ≡ s.loaded → ((unit : List ℕ) → IsHeld u unit → Contains k.graph.names unit) → KnowsFor k u
 knows_still k s u h same held = record {
   made = subst (λ tree. IsGraphFor tree (Contains k.extra) k.graph) (sym same) h.made;
-  lasting = subst (λ tree. (unit : List ℕ) → Contains k.lasting unit ↔ IsKnown (without_run tree) (Contains k.extra) unit) (sym same) h.lasting;
+  lasting = subst (λ tree. (unit : List ℕ) → Contains k.lasting unit ↔ IsKnown (lasting_tree tree) (Contains k.extra) unit) (sym same) h.lasting;
   held = held;
 }
 
@@ -77,23 +79,23 @@ knows_still k s u h same held = record {
 pub few_known : (k : KnownView) (s : State) → KnowsFor k s → ((x : List ℕ) → Contains k.graph.names x → IsHeld s x → Contains k.lasting x) → IsFew s
 few_known k s knows lasts r crowded = knows.made.few (by_tree crowded.many)
   where
-    by_tree : KnowsTooMany s.loaded (IsHeld s) ⊎ KnowsTooMany (without_run s.loaded) (IsHeld s)
-        → KnowsTooMany s.loaded (Contains k.extra) ⊎ KnowsTooMany (without_run s.loaded) (Contains k.extra)
+    by_tree : KnowsTooMany s.loaded (IsHeld s) ⊎ KnowsTooMany (lasting_tree s.loaded) (IsHeld s)
+        → KnowsTooMany s.loaded (Contains k.extra) ⊎ KnowsTooMany (lasting_tree s.loaded) (Contains k.extra)
     by_tree (inl many) = inl (more_known s.loaded (IsHeld s) (Contains k.extra) (λ x is. (knows.made.of.known x).0 (knows.held x is)) many)
     by_tree (inr many) =
-        inr (more_known (without_run s.loaded) (IsHeld s) (Contains k.extra) (λ x is. (knows.lasting x).0 (lasts x (knows.held x is) is)) many)
+        inr (more_known (lasting_tree s.loaded) (IsHeld s) (Contains k.extra) (λ x is. (knows.lasting x).0 (lasts x (knows.held x is) is)) many)
 
 -- nor after a boot: nothing is held then, and what stands under `run/` is gone
 pub few_booted : (k : KnownView) (s : State) (boot : List ℕ) → KnowsFor k s → IsFew (booted boot s)
 few_booted k s boot knows r crowded = knows.made.few (inr (by_tree crowded.many))
   where
-    fewer : KnowsTooMany (without_run s.loaded) (IsHeld (booted boot s)) → KnowsTooMany (without_run s.loaded) (Contains k.extra)
-    fewer = more_known (without_run s.loaded) (IsHeld (booted boot s)) (Contains k.extra) (λ x is. absurd (booted_none boot s x is))
+    fewer : KnowsTooMany (lasting_tree s.loaded) (IsHeld (booted boot s)) → KnowsTooMany (lasting_tree s.loaded) (Contains k.extra)
+    fewer = more_known (lasting_tree s.loaded) (IsHeld (booted boot s)) (Contains k.extra) (λ x is. absurd (booted_none boot s x is))
 
-    by_tree : KnowsTooMany (without_run s.loaded) (IsHeld (booted boot s)) ⊎ KnowsTooMany (without_run (without_run s.loaded)) (IsHeld (booted boot s))
-        → KnowsTooMany (without_run s.loaded) (Contains k.extra)
+    by_tree : KnowsTooMany (lasting_tree s.loaded) (IsHeld (booted boot s)) ⊎ KnowsTooMany (lasting_tree (lasting_tree s.loaded)) (IsHeld (booted boot s))
+        → KnowsTooMany (lasting_tree s.loaded) (Contains k.extra)
     by_tree (inl many) = fewer many
-    by_tree (inr many) = fewer (subst (λ tree. KnowsTooMany tree (IsHeld (booted boot s))) (without_run_twice s.loaded) many)
+    by_tree (inr many) = fewer (subst (λ entries. KnowsTooMany (read_by s.loaded.profile entries) (IsHeld (booted boot s))) (without_run_twice s.loaded.entries) many)
 
 pub knows_less : (k : KnownView) (s u : State) → KnowsFor k s → HoldsNoMore s u → KnowsFor k u
 knows_less k s u h less = knows_still k s u h less.loaded (λ x held. h.held x (less.held x held))
@@ -105,49 +107,49 @@ known_by names None x y b e found is t = absurd (true≢false (sym t ∙ e))
 known_by names (Some i) x y b e found is t = (i, got_within names i y (found ∙ ap Some is), get_or_from_slice_get names i y y (found ∙ ap Some is))
 
 -- what is known for the state with a tree that it may load is so for the one that loads it, and is told of the tree by itself
-pub knows_loaded : (k : KnownView) (s u : State) (hand tree : Tree) → KnowsFor k (record s { loaded = tree }) → u ≡ record s { tree = hand; loaded = tree } → KnowsFor k u
+pub knows_loaded : (k : KnownView) (s u : State) (hand : Tree) (tree : ReadTree) → KnowsFor k (record s { loaded = tree }) → u ≡ record s { tree = hand; loaded = tree } → KnowsFor k u
 knows_loaded k s u hand tree knows is = subst (KnowsFor k) (sym is) (record { made = knows.made; lasting = knows.lasting; held = knows.held })
 
 pub knows_named : (k : KnownView) (s : State) (named : List ℕ) → IsGraphFor s.loaded (Contains k.extra) k.graph
-    → ((unit : List ℕ) → Contains k.lasting unit ↔ IsKnown (without_run s.loaded) (Contains k.extra) unit) → ((unit : List ℕ) → Contains k.extra unit ↔ IsHeldOr s named unit)
+    → ((unit : List ℕ) → Contains k.lasting unit ↔ IsKnown (lasting_tree s.loaded) (Contains k.extra) unit) → ((unit : List ℕ) → Contains k.extra unit ↔ IsHeldOr s named unit)
     → KnowsFor k s
 knows_named k s named made lasting extras = record { made = made; lasting = lasting; held = λ unit held. (made.of.known unit).1 (first (extra ((extras unit).1 (inl held)))) }
 
-pub knows_of : (k : KnownView) (s : State) (tree : Tree) → tree ≡ s.loaded → KnowsFor k (record s { loaded = tree }) → KnowsFor k s
+pub knows_of : (k : KnownView) (s : State) (tree : ReadTree) → tree ≡ s.loaded → KnowsFor k (record s { loaded = tree }) → KnowsFor k s
 knows_of k s tree same knows = subst (λ t. KnowsFor k (record s { loaded = t })) same knows
 
-pub knows_made : (k : KnownView) (s : State) (tree : Tree) → IsGraphFor tree (Contains k.extra) k.graph
-    → ((unit : List ℕ) → Contains k.lasting unit ↔ IsKnown (without_run tree) (Contains k.extra) unit) → ((unit : List ℕ) → Contains k.extra unit ↔ IsHeld s unit)
+pub knows_made : (k : KnownView) (s : State) (tree : ReadTree) → IsGraphFor tree (Contains k.extra) k.graph
+    → ((unit : List ℕ) → Contains k.lasting unit ↔ IsKnown (lasting_tree tree) (Contains k.extra) unit) → ((unit : List ℕ) → Contains k.extra unit ↔ IsHeld s unit)
     → KnowsFor k (record s { loaded = tree })
 knows_made k s tree made lasting extras = record { made = made; lasting = lasting; held = λ unit held. (made.of.known unit).1 (first (extra ((extras unit).1 held))) }
 
 -- commands that leave the loaded tree make the state hold nothing new, but for plans
-pub put_holds_no_more : (s u : State) (path text : List ℕ) → Changes s (PutFile path text) u → HoldsNoMore s u
+pub put_holds_no_more : {profile : Profile} (s u : State) (path text : List ℕ) → Changes profile s (PutFile path text) u → HoldsNoMore s u
 put_holds_no_more s _ path text (puts e) = record { loaded = refl; held = λ x h. h }
 
-pub link_holds_no_more : (s u : State) (path target : List ℕ) → Changes s (PutLink path target) u → HoldsNoMore s u
+pub link_holds_no_more : {profile : Profile} (s u : State) (path target : List ℕ) → Changes profile s (PutLink path target) u → HoldsNoMore s u
 link_holds_no_more s _ path target (links e) = record { loaded = refl; held = λ x h. h }
 
-pub remove_holds_no_more : (s u : State) (path : List ℕ) → Changes s (Remove path) u → HoldsNoMore s u
+pub remove_holds_no_more : {profile : Profile} (s u : State) (path : List ℕ) → Changes profile s (Remove path) u → HoldsNoMore s u
 remove_holds_no_more s _ path (removes e) = record { loaded = refl; held = λ x h. h }
 
 -- the count for the list of what is held
-pub count_found : {E : Type 0} (s : State) (tree : Tree) (names : List (List ℕ)) → tree ≡ s.loaded → ((x : List ℕ) → Contains names x ↔ IsHeld s x)
+pub count_found : {E : Type 0} (s : State) (tree : ReadTree) (names : List (List ℕ)) → tree ≡ s.loaded → ((x : List ℕ) → Contains names x ↔ IsHeld s x)
     → (result : Result ℕ E) → IfOk result (λ units. CountsFor tree (Contains names) units) → IfOk result (λ units. CountsFor s.loaded (IsHeld s) units)
 count_found s tree names same held (Ok units) h = count_by s.loaded (Contains names) (IsHeld s) held units (subst (λ t. CountsFor t (Contains names) units) same h)
 count_found s tree names same held (Err e) h = h
 
 -- a state isn't too heavy where its weight by one count isn't
-pub light_by : (size : ℕ) (s : State) (units weight : ℕ) → CountsFor s.loaded (IsHeld s) units → weight ≡ weight_of s.tree s.loaded units → weight ≤ size → ¬ IsTooHeavy size s
+pub light_by : (size : ℕ) (s : State) (units weight : ℕ) → CountsFor s.loaded (IsHeld s) units → weight ≡ weight_of s.tree s.loaded.entries units → weight ≤ size → ¬ IsTooHeavy size s
 light_by size s units weight counts is fits heavy =
     let same : heavy.units ≡ units = one_count s.loaded (IsHeld s) heavy.units units heavy.count counts in
-    let over : size < weight_of s.tree s.loaded units = subst (λ n. size < weight_of s.tree s.loaded n) same heavy.heavy in
-    let under : weight_of s.tree s.loaded units ≤ size = subst (λ n. n ≤ size) is fits in
+    let over : size < weight_of s.tree s.loaded.entries units = subst (λ n. size < weight_of s.tree s.loaded.entries n) same heavy.heavy in
+    let under : weight_of s.tree s.loaded.entries units ≤ size = subst (λ n. n ≤ size) is fits in
     omega (arith, over, under)
 
 -- the units that are known without the entries under `run/`: those that were found apart, or those of the graph
-pub lasting_known : (tree : Tree) (others : List (List ℕ)) (g : GraphView) (o : Option (List (List ℕ))) → IsGraphOf tree (Contains others) g → AreLasting tree others o
-    → (unit : List ℕ) → Contains (unwrap_or o g.names) unit ↔ IsKnown (without_run tree) (Contains others) unit
+pub lasting_known : (tree : ReadTree) (others : List (List ℕ)) (g : GraphView) (o : Option (List (List ℕ))) → IsGraphOf tree (Contains others) g → AreLasting tree others o
+    → (unit : List ℕ) → Contains (unwrap_or o g.names) unit ↔ IsKnown (lasting_tree tree) (Contains others) unit
 lasting_known tree others g None of same unit = subst (λ t. Contains g.names unit ↔ IsKnown t (Contains others) unit) (sym same) (of.known unit)
 lasting_known tree others g (Some names) of each unit = each unit
 
@@ -173,12 +175,12 @@ works_knows v w knows works serves =
     knows_still v.known v.state (state_of w.now) knows works.loaded (λ x held. subst (λ (g : GraphView). Contains g.names x) works.graph (serves.held x held))
 
 -- what was made for those of the held units that the tree doesn't make known by itself is known for the state
-pub knows_by_named : (k : KnownView) (s : State) (tree : Tree) (held others : List (List ℕ)) → tree ≡ s.loaded → IsGraphFor tree (Contains k.extra) k.graph → k.extra ≡ others
-    → ((unit : List ℕ) → Contains k.lasting unit ↔ IsKnown (without_run tree) (Contains k.extra) unit) → ((unit : List ℕ) → Contains held unit ↔ IsHeld s unit)
+pub knows_by_named : (k : KnownView) (s : State) (tree : ReadTree) (held others : List (List ℕ)) → tree ≡ s.loaded → IsGraphFor tree (Contains k.extra) k.graph → k.extra ≡ others
+    → ((unit : List ℕ) → Contains k.lasting unit ↔ IsKnown (lasting_tree tree) (Contains k.extra) unit) → ((unit : List ℕ) → Contains held unit ↔ IsHeld s unit)
     → ((unit : List ℕ) → Contains held unit → IsKnown tree (Contains others) unit) → KnowsFor k s
 knows_by_named k s tree held others same made extras lasting is known = record {
   made = subst (λ t. IsGraphFor t (Contains k.extra) k.graph) same made;
-  lasting = subst (λ t. (unit : List ℕ) → Contains k.lasting unit ↔ IsKnown (without_run t) (Contains k.extra) unit) same lasting;
+  lasting = subst (λ t. (unit : List ℕ) → Contains k.lasting unit ↔ IsKnown (lasting_tree t) (Contains k.extra) unit) same lasting;
   held = λ unit h. (made.of.known unit).1 (subst (λ xs. IsKnown tree (Contains xs) unit) (sym extras) (known unit ((is unit).1 h)));
 }
 

@@ -4,6 +4,7 @@ use Rattle.std.specs.Bool.{⊤}
 use Rattle.std.specs.Prelude.{IsErrAnd}
 use Rattle.std.specs.FinMap as map
 use Rattle.std.proofs.lemmas.Option.{none-some, slice_get-get_or}
+use Rattle.um_model.specs.Profiles.{ReadTree, lasting_tree}
 use Rattle.um_model.specs.Dependencies.{extra}
 use Rattle.um_model.specs.Jobs.{Job, ComesBefore, GoesBefore, starts, stops, stops_then_starts, stops_then_starts_before, of_one_unit, IsPending, jobs_of_unit, job_of, no_jobs}
 use Rattle.um_model.specs.Machine.{State, IsHeld, IsBefore, CausesOfLoad}
@@ -11,7 +12,6 @@ use Rattle.um_model.specs.Plan.{AreFree, NamesCycle}
 use Rattle.um_model.specs.Reached.{first}
 use Rattle.um_model.specs.Refusals.{Refused, at_first, at_second, too_large}
 use Rattle.um_model.specs.Service.{ByUnit}
-use Rattle.um_model.specs.Tree.{Tree}
 use Rattle.um_model.specs.declared.jobs.JobKind.{JobKind}
 use Rattle.um_model.specs.declared.jobs.JobKind.TheVariants.{Start, Stop}
 use Rattle.um_model.specs.declared.jobs.JobState.TheVariants.{Waiting}
@@ -57,7 +57,7 @@ no_job_pends Stop = refl
 no_job_pends Start = refl
 
 -- the pending jobs of a state by the numbers of a graph that holds its units, and by its names
-module _ (s : State) (tree : Tree) (Extra : List ℕ → Type 0) (g : GraphView) (is : IsGraph g) (of : IsGraphOf tree Extra g)
+module _ (s : State) (tree : ReadTree) (Extra : List ℕ → Type 0) (g : GraphView) (is : IsGraph g) (of : IsGraphOf tree Extra g)
     (held : (x : List ℕ) → IsHeld s x → Contains g.names x) (pending : List UnitJobs) (pends : ArePending g s pending) where
   number : (x : List ℕ) → Contains g.names x → (i : ℕ) × IsNumberOf g i x
   number x c = (c.0, slice_get-get_or g.names c.0 x c.1 ∙ ap Some c.2)
@@ -113,7 +113,7 @@ module _ (s : State) (tree : Tree) (Extra : List ℕ → Type 0) (g : GraphView)
       free cycle (cycle_weaker (ComesBefore (IsBefore tree) s.pending) (ComesBefore (Joins g before_bit) (jobs_by g.names pending)) back cycle closed)
 
 -- the causes for which a tree isn't loaded, and that there is none
-module _ (s : State) (tree : Tree) where
+module _ (s : State) (tree : ReadTree) where
   pub loads_none_full : (r : Refused) → r ≡ too_large Units → IsFull tree (IsHeld s) → CausesOfLoad s tree r
   loads_none_full r is full = at_first (record { many = full; refusal = is })
 

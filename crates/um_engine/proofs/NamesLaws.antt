@@ -6,10 +6,10 @@ use Rattle.std.specs.Str.{bytes_eq}
 use Rattle.std.proofs.lemmas.List.{get_or_default}
 use Rattle.std.proofs.lemmas.Map.Views.{Contains-from_any, list_any-from_Contains}
 use Rattle.std.proofs.lemmas.Slice.Eq.{bytes_eq-Decides}
+use Rattle.um_model.specs.Profiles.{ReadTree, lasting_tree}
 use Rattle.um_model.specs.Dependencies.{IsKnown, extra}
 use Rattle.um_model.specs.Machine.{State, IsHeld}
 use Rattle.um_model.specs.Reached.{first}
-use Rattle.um_model.specs.Tree.{Tree}
 use Rattle.um_laws.proofs.KnownLaws.{known_grows}
 use Rattle.um_name.specs.Names.{AreAscending, IsApart}
 use Rattle.um_state.proofs.NameLists.{same_names}
@@ -42,7 +42,7 @@ one_list ns ms sorted rising same =
     (λ t. in_found x ns ((same x).1 (found_in x ms t))))
 
 -- the units that are known with a list of just those that the state holds
-pub known_by_list : (tree : Tree) (s : State) (names held units : List (List ℕ)) → tree ≡ s.loaded → ((x : List ℕ) → Contains held x ↔ IsHeld s x)
+pub known_by_list : (tree : ReadTree) (s : State) (names held units : List (List ℕ)) → tree ≡ s.loaded → ((x : List ℕ) → Contains held x ↔ IsHeld s x)
     → ((x : List ℕ) → Contains units x ↔ IsKnown tree (Contains held) x) → ((x : List ℕ) → list_any (bytes_eq x) names ≡ list_any (bytes_eq x) units)
     → (x : List ℕ) → Contains names x ↔ IsKnown s.loaded (IsHeld s) x
 known_by_list tree s names held units same is known whole x =

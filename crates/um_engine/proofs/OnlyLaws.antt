@@ -1,10 +1,11 @@
 -- What refuses a step is never of a store; and what a state needs to be served, by the tree that was loaded for it.
 use Rattle.std.proofs.Common.{◌≡◌, ◌≢◌, ◌⊎◌, inl, inr, ℕ, ◌≤◌, false, Result, Ok, Err, refl, sym, subst, arith}
 use Rattle.std.specs.Prelude.{IsErrAnd, IfErr}
+use Rattle.um_model.specs.Profiles.{ReadTree}
+use Rattle.um_model.specs.declared.profile.Profile.{Profile}
 use Rattle.um_model.specs.Machine.{State, Command, CausesOfLoad, IsTooHeavy}
 use Rattle.um_model.specs.Refusals.{Refused}
 use Rattle.um_model.specs.Servable.{IsServable}
-use Rattle.um_model.specs.Tree.{Tree}
 use Rattle.um_laws.proofs.RefusesLaws.{IsOfCommand, refused_of_command, no_room_of_command}
 use Rattle.um_laws.proofs.ServableLaws.{loads_servable, refused_unservable}
 use Rattle.um_wire.specs.Refusal.{refused_of}
@@ -16,9 +17,9 @@ use Rattle.um_engine.specs.Planned.{Declines, for_cause, for_room}
 
 -- ---- numbers
 
-declined_of_command : (size t : ℕ) (s : State) (command : Command) (r : Refused) → Declines size t s command r → IsOfCommand r
-declined_of_command size t s command r (for_cause h) = refused_of_command s command r h
-declined_of_command size t s command _ (for_room takes heavy) = no_room_of_command
+declined_of_command : (profile : Profile) (size t : ℕ) (s : State) (command : Command) (r : Refused) → Declines profile size t s command r → IsOfCommand r
+declined_of_command profile size t s command r (for_cause h) = refused_of_command profile s command r h
+declined_of_command profile size t s command _ (for_room takes heavy) = no_room_of_command
 
 between : (n : ℕ) → (n ≤ 14) ⊎ (n ≡ 21) → 15 ≤ n → n ≤ 20 → ⊥
 between n (inl low) least most = omega (arith, low, least)
@@ -53,16 +54,16 @@ of_no_store refusal.GenerationsSpent of = absurd (between 20 (of (λ e. cc)) (om
 of_no_store (refusal.NoSuchJob unit) of = refl
 of_no_store refusal.OtherLayout of = absurd (beyond 22 (of (λ e. cc)) (omega arith))
 
-pub declined_of_no_store : (size t : ℕ) (s : State) (command : Command) (e : Refusal) → (e ≢ NoMemory → Declines size t s command (refused_of e)) → is_of_store e ≡ false
-declined_of_no_store size t s command e declines = of_no_store e (λ differs. declined_of_command size t s command (refused_of e) (declines differs))
+pub declined_of_no_store : (profile : Profile) (size t : ℕ) (s : State) (command : Command) (e : Refusal) → (e ≢ NoMemory → Declines profile size t s command (refused_of e)) → is_of_store e ≡ false
+declined_of_no_store profile size t s command e declines = of_no_store e (λ differs. declined_of_command profile size t s command (refused_of e) (declines differs))
 
 -- ---- a state that is served
 
-pub served_servable : (size : ℕ) (s v : State) (tree : Tree) → tree ≡ s.loaded → ((r : Refused) → ¬ CausesOfLoad s tree r) → v ≡ s → ¬ IsTooHeavy size v → IsServable size s
+pub served_servable : (size : ℕ) (s v : State) (tree : ReadTree) → tree ≡ s.loaded → ((r : Refused) → ¬ CausesOfLoad s tree r) → v ≡ s → ¬ IsTooHeavy size v → IsServable size s
 served_servable size s v tree is none same light =
     loads_servable size s (subst (λ t. (r : Refused) → ¬ CausesOfLoad s t r) is none) (subst (λ u. ¬ IsTooHeavy size u) same light)
 
-pub load_unservable : (size : ℕ) (s : State) (tree : Tree) (e : Refusal) → tree ≡ s.loaded → (e ≢ NoMemory → CausesOfLoad s tree (refused_of e)) → e ≢ NoMemory → ¬ IsServable size s
+pub load_unservable : (size : ℕ) (s : State) (tree : ReadTree) (e : Refusal) → tree ≡ s.loaded → (e ≢ NoMemory → CausesOfLoad s tree (refused_of e)) → e ≢ NoMemory → ¬ IsServable size s
 load_unservable size s tree e is causes differs = refused_unservable size s (refused_of e) (subst (λ t. CausesOfLoad s t (refused_of e)) is (causes differs))
 
 pub heavy_unservable : (size : ℕ) (s v : State) → v ≡ s → IsTooHeavy size v → ¬ IsServable size s

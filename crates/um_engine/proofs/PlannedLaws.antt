@@ -5,6 +5,8 @@ use Rattle.std.specs.FinMap as map
 use Rattle.std.proofs.lemmas.Bool.{cases_lt}
 use Rattle.std.proofs.lemmas.List.{get_or_default}
 use Rattle.std.proofs.lemmas.Option.{none-some}
+use Rattle.um_model.specs.declared.profile.Profile.{Profile}
+use Rattle.um_model.specs.Profiles.{ReadTree, current}
 use Rattle.um_model.specs.Jobs.{AreTidyJobs, jobs_of_unit, no_jobs, with_jobs}
 use Rattle.um_model.specs.Machine as model
 use Rattle.um_model.specs.Machine.{State, IsCrowded, IsHeld, IsHeldOr, IsNotThere, Refuses, Changes, active_asked, demand_of, scene_at}
@@ -13,7 +15,6 @@ use Rattle.um_model.specs.Refusals.{Refused}
 use Rattle.um_model.specs.Servable.{IsFew}
 use Rattle.um_model.specs.Standing.{Standing}
 use Rattle.um_model.specs.Service.{ByUnit, active_state_of, state_of_unit}
-use Rattle.um_model.specs.Tree.{Tree}
 use Rattle.um_model.specs.Units.{unit_named}
 use Rattle.um_model.specs.declared.commands.JobMode.{JobMode}
 use Rattle.um_model.specs.declared.commands.UnitVerb.{UnitVerb}
@@ -56,14 +57,14 @@ refuses_on Cause (Ok done) e h cause = absurd h
 refuses_on Cause (Err f) e h cause = subst (λ (r : Refusal). r ≢ NoMemory → Cause (refused_of r)) (sym h) cause
 
 -- what was asked for by the graph that is known is so by the state
-pub asked_so : (k : KnownView) (s : State) (g : GraphView) (tree : Tree) (asked unit : List ℕ) → KnowsFor k s → g ≡ k.graph → tree ≡ s.loaded
-    → (Loads g tree → unit ≡ unit_named tree asked) → unit ≡ model.unit_asked s asked
+pub asked_so : (k : KnownView) (s : State) (g : GraphView) (tree : ReadTree) (asked unit : List ℕ) → KnowsFor k s → g ≡ k.graph → tree ≡ s.loaded
+    → (Loads g tree → unit ≡ unit_named tree.entries asked) → unit ≡ model.unit_asked s asked
 asked_so k s g tree asked unit knows graph loaded leads =
-    leads (subst (λ h. Loads h tree) (sym graph) (subst (Loads k.graph) (sym loaded) knows.made.of.loaded)) ∙ ap (λ t. unit_named t asked) loaded
+    leads (subst (λ h. Loads h tree) (sym graph) (subst (Loads k.graph) (sym loaded) knows.made.of.loaded)) ∙ ap (λ (t : ReadTree). unit_named t.entries asked) loaded
 
 -- ---- the units of which anything is held, as they were listed
 
-module _ (w : State) (tree : Tree) (names : List (List ℕ)) (same : tree ≡ w.loaded) (each : (x : List ℕ) → Contains names x ↔ IsHeld w x) where
+module _ (w : State) (tree : ReadTree) (names : List (List ℕ)) (same : tree ≡ w.loaded) (each : (x : List ℕ) → Contains names x ↔ IsHeld w x) where
   full_listed : IsFull w.loaded (IsHeld w) → IsFull tree (Contains names)
   full_listed full = full_by tree (IsHeld w) (Contains names) (λ x. ((each x).1, (each x).0)) (subst (λ t. IsFull t (IsHeld w)) (sym same) full)
 
@@ -187,13 +188,13 @@ module _ (s : State) (verb : UnitVerb) (asked : List ℕ) (mode : JobMode) (unit
 
   -- where nothing is demanded
   module _ (is : None ≡ demand_of verb (active_state_of (state_of_unit s.units unit).sub)) (few : (q : Refused) → ¬ IsCrowded s.loaded (IsHeldOr s unit) q) where
-    pub absent_at_rest : (r : Refused) → IsNotThere s verb asked r → Refuses s (model.ForUnit verb asked mode) r
+    pub absent_at_rest : (r : Refused) → IsNotThere s verb asked r → Refuses current s (model.ForUnit verb asked mode) r
     absent_at_rest r h = by_absence s verb asked mode r (few_at_rest s verb asked mode (few_asked few) (demanded_asked None is)) h
 
-    pub free_at_rest : ((q : Refused) → ¬ IsNotThere s verb asked q) → (r : Refused) → ¬ Refuses s (model.ForUnit verb asked mode) r
+    pub free_at_rest : ((q : Refused) → ¬ IsNotThere s verb asked q) → (r : Refused) → ¬ Refuses current s (model.ForUnit verb asked mode) r
     free_at_rest = free_to_rest s verb asked mode (few_asked few) (demanded_asked None is)
 
-    pub rests_asked : (u : State) → u ≡ s → Changes s (model.ForUnit verb asked mode) u
+    pub rests_asked : {profile : Profile} (u : State) → u ≡ s → Changes profile s (model.ForUnit verb asked mode) u
     rests_asked u = rests_so s verb asked mode u (demanded_asked None is)
 
   -- where the state has the plan for what is demanded
@@ -204,27 +205,27 @@ module _ (s : State) (verb : UnitVerb) (asked : List ℕ) (mode : JobMode) (unit
     planned_asked : HasPlan s (demand, model.unit_asked s asked) u
     planned_asked = subst (λ x. HasPlan s (demand, x) u) same planned
 
-    pub refused_full : (r : Refused) → IsCrowded u.loaded (IsHeld u) r → Refuses s (model.ForUnit verb asked mode) r
+    pub refused_full : (r : Refused) → IsCrowded u.loaded (IsHeld u) r → Refuses current s (model.ForUnit verb asked mode) r
     refused_full = by_fullness s verb asked mode demand demanded u planned_asked
 
     module _ (few : (q : Refused) → ¬ IsCrowded s.loaded (IsHeldOr s unit) q) (fits : IsFew u) where
       few_too : (q : Refused) → ¬ model.PlansTooMany s verb asked q
       few_too = few_planned s verb asked mode demand demanded u planned_asked (few_asked few) fits
 
-      pub refused_absent : (r : Refused) → IsNotThere s verb asked r → Refuses s (model.ForUnit verb asked mode) r
+      pub refused_absent : (r : Refused) → IsNotThere s verb asked r → Refuses current s (model.ForUnit verb asked mode) r
       refused_absent r h = by_absence s verb asked mode r few_too h
 
       module _ (there : (q : Refused) → ¬ IsNotThere s verb asked q) where
-        pub refused_planned : (r : Refused) → CausesOfPlan (scene_at s unit) (demand, unit) mode u.pending r → Refuses s (model.ForUnit verb asked mode) r
+        pub refused_planned : (r : Refused) → CausesOfPlan (scene_at s unit) (demand, unit) mode u.pending r → Refuses current s (model.ForUnit verb asked mode) r
         refused_planned r h =
             by_plan s verb asked mode demand demanded u planned_asked few_too there r (subst (λ x. CausesOfPlan (scene_at s x) (demand, x) mode u.pending r) same h)
 
-        pub free_planned : ((q : Refused) → ¬ CausesOfPlan (scene_at s unit) (demand, unit) mode u.pending q) → (r : Refused) → ¬ Refuses s (model.ForUnit verb asked mode) r
+        pub free_planned : ((q : Refused) → ¬ CausesOfPlan (scene_at s unit) (demand, unit) mode u.pending q) → (r : Refused) → ¬ Refuses current s (model.ForUnit verb asked mode) r
         free_planned free =
             free_to_plan s verb asked mode demand demanded u planned_asked few_too there
             (λ q h. free q (subst (λ x. CausesOfPlan (scene_at s x) (demand, x) mode u.pending q) (sym same) h))
 
-    pub plans_asked : Changes s (model.ForUnit verb asked mode) u
+    pub plans_asked : {profile : Profile} → Changes profile s (model.ForUnit verb asked mode) u
     plans_asked = plans_to s verb asked mode demand demanded u planned_asked
 
 -- ---- the plan in a work
@@ -256,20 +257,20 @@ module _ (s u : State) (verb : UnitVerb) (asked : List ℕ) (found : Bool) (dema
   pub plan_here : HasPlan s (demand, unit) u
   plan_here = has_plan s u (demand, unit) tr is so (plan unit is.number)
 
-  pub full_here : (r : Refused) → IsCrowded u.loaded (IsHeld u) r → Refuses s (model.ForUnit verb asked mode) r
+  pub full_here : (r : Refused) → IsCrowded u.loaded (IsHeld u) r → Refuses current s (model.ForUnit verb asked mode) r
   full_here = refused_full s verb asked mode unit demands.same demand demands.demanded u plan_here
 
   module _ (fits : IsFew u) where
-    pub absent_here : (r : Refused) → IsNotThere s verb asked r → Refuses s (model.ForUnit verb asked mode) r
+    pub absent_here : (r : Refused) → IsNotThere s verb asked r → Refuses current s (model.ForUnit verb asked mode) r
     absent_here = refused_absent s verb asked mode unit demands.same demand demands.demanded u plan_here demands.few fits
 
     module _ (there : (q : Refused) → ¬ IsNotThere s verb asked q) where
-      pub cause_here : (r : Refused) → CausesOfPlan (scene_in tr) (tr.root.0, unit) mode (jobs_by tr.graph.names tr.plan) r → Refuses s (model.ForUnit verb asked mode) r
+      pub cause_here : (r : Refused) → CausesOfPlan (scene_in tr) (tr.root.0, unit) mode (jobs_by tr.graph.names tr.plan) r → Refuses current s (model.ForUnit verb asked mode) r
       cause_here r h =
           refused_planned s verb asked mode unit demands.same demand demands.demanded u plan_here demands.few fits there r (refused_so s u (demand, unit) tr is so mode r h)
 
       pub free_here : ((q : Refused) → ¬ CausesOfPlan (scene_in tr) (tr.root.0, unit) mode (jobs_by tr.graph.names tr.plan) q) → (r : Refused)
-          → ¬ Refuses s (model.ForUnit verb asked mode) r
+          → ¬ Refuses current s (model.ForUnit verb asked mode) r
       free_here free =
           free_planned s verb asked mode unit demands.same demand demands.demanded u plan_here demands.few fits there (free_so s u (demand, unit) tr is so mode free)
 

@@ -4,6 +4,8 @@ use Rattle.std.specs.Cmp.Lexicographic.{nat_list_cmp_total}
 use Rattle.std.specs.FinMap as map
 use Rattle.std.specs.Prelude.{if◌then◌else◌, is_none}
 use Rattle.std.proofs.lemmas.Option.{none-some}
+use Rattle.um_model.specs.declared.profile.Profile.{Profile}
+use Rattle.um_model.specs.Profiles.{current}
 use Rattle.um_model.specs.Machine as model
 use Rattle.um_model.specs.Machine.{State, Changes, Refuses, puts, links, removes}
 use Rattle.um_model.specs.Refusals.{Refused, bad_path, unless_refused}
@@ -38,29 +40,29 @@ not_both : (a : Tree) (r : Refused) → Ok a ≡ Err r → ⊥
 not_both a r e = cc
 
 module _ (s : State) (path text : List ℕ) (none : put_cause s.tree path text ≡ None) where
-  pub file_free : (r : Refused) → ¬ Refuses s (model.PutFile path text) r
+  pub file_free : (r : Refused) → ¬ Refuses current s (model.PutFile path text) r
   file_free r h = not_both (map.insert s.tree path (File text)) r (sym (file_put s.tree path text none) ∙ h)
 
   -- the file stands there
-  pub file_stands : (u : State) → map.get s.tree path ≡ Some (File text) → u ≡ s → Changes s (model.PutFile path text) u
-  file_stands u there is =
-      subst (Changes s (model.PutFile path text)) (sym is) (puts (file_put s.tree path text none ∙ ap Ok (insert-same s.tree path (File text) there)))
+  pub file_stands : {profile : Profile} (u : State) → map.get s.tree path ≡ Some (File text) → u ≡ s → Changes profile s (model.PutFile path text) u
+  file_stands {profile} u there is =
+      subst (Changes profile s (model.PutFile path text)) (sym is) (puts (file_put s.tree path text none ∙ ap Ok (insert-same s.tree path (File text) there)))
 
   -- it doesn't, and the tree is another one then
-  pub file_differs : (u : State) → ¬ (map.get s.tree path ≡ Some (File text)) → Changes s (model.PutFile path text) u → ¬ (u.tree ≡ s.tree)
+  pub file_differs : {profile : Profile} (u : State) → ¬ (map.get s.tree path ≡ Some (File text)) → Changes profile s (model.PutFile path text) u → ¬ (u.tree ≡ s.tree)
   file_differs _ other (puts {tree = tree} e) same =
       let is : map.insert s.tree path (File text) ≡ tree = same_ok (map.insert s.tree path (File text)) tree (put_file s.tree path text) (file_put s.tree path text none) e in
       other (ap (λ (t : Tree). map.get t path) (sym (is ∙ same)) ∙ inserted s.tree path (File text))
 
 module _ (s : State) (path target : List ℕ) (none : link_cause s.tree path target ≡ None) where
-  pub link_free : (r : Refused) → ¬ Refuses s (model.PutLink path target) r
+  pub link_free : (r : Refused) → ¬ Refuses current s (model.PutLink path target) r
   link_free r h = not_both (map.insert s.tree path (Link target)) r (sym (link_put s.tree path target none) ∙ h)
 
-  pub link_stands : (u : State) → map.get s.tree path ≡ Some (Link target) → u ≡ s → Changes s (model.PutLink path target) u
-  link_stands u there is =
-      subst (Changes s (model.PutLink path target)) (sym is) (links (link_put s.tree path target none ∙ ap Ok (insert-same s.tree path (Link target) there)))
+  pub link_stands : {profile : Profile} (u : State) → map.get s.tree path ≡ Some (Link target) → u ≡ s → Changes profile s (model.PutLink path target) u
+  link_stands {profile} u there is =
+      subst (Changes profile s (model.PutLink path target)) (sym is) (links (link_put s.tree path target none ∙ ap Ok (insert-same s.tree path (Link target) there)))
 
-  pub link_differs : (u : State) → ¬ (map.get s.tree path ≡ Some (Link target)) → Changes s (model.PutLink path target) u → ¬ (u.tree ≡ s.tree)
+  pub link_differs : {profile : Profile} (u : State) → ¬ (map.get s.tree path ≡ Some (Link target)) → Changes profile s (model.PutLink path target) u → ¬ (u.tree ≡ s.tree)
   link_differs _ other (links {tree = tree} e) same =
       let is : map.insert s.tree path (Link target) ≡ tree = same_ok (map.insert s.tree path (Link target)) tree (put_link s.tree path target) (link_put s.tree path target none) e in
       other (ap (λ (t : Tree). map.get t path) (sym (is ∙ same)) ∙ inserted s.tree path (Link target))
@@ -70,7 +72,7 @@ some_there : (tree : Tree) (path : List ℕ) → remove_cause tree path ≡ None
 some_there tree path none gone = none-some (bad_path path) (sym none ∙ ap (λ (o : Option Entry). if is_none o then Some (bad_path path) else None) gone)
 
 -- so the tree is another one without it
-pub removed_differs : (s u : State) (path : List ℕ) → remove_cause s.tree path ≡ None → Changes s (model.Remove path) u → ¬ (u.tree ≡ s.tree)
+pub removed_differs : {profile : Profile} (s u : State) (path : List ℕ) → remove_cause s.tree path ≡ None → Changes profile s (model.Remove path) u → ¬ (u.tree ≡ s.tree)
 removed_differs s _ path none (removes {tree = tree} e) same =
     let is : map.remove s.tree path ≡ tree = same_ok (map.remove s.tree path) tree (remove_at s.tree path) (path_removed s.tree path none) e in
     some_there s.tree path none (ap (λ (t : Tree). map.get t path) (sym (is ∙ same)) ∙ taken_out s.tree path)

@@ -4,6 +4,7 @@ use Rattle.std.proofs.Common.{◌≡◌, ◌∙◌, ◌+◌, ◌<◌, ℕ, Bool,
 use Rattle.std.specs.Cmp.Lexicographic.{slice_cmp, nat_list_cmp_total}
 use Rattle.std.specs.FinMap as map
 use Rattle.std.specs.Ordering.{nat_cmp, eq_by_cmp}
+use Rattle.um_model.specs.declared.profile.Profile.{Profile}
 use Rattle.um_model.specs.Jobs.{no_jobs, jobs_left, with_jobs}
 use Rattle.um_model.specs.Machine.{State, IsHeld, Does, ResetFailed, units_reset, settings_in, around, change_of, changed, Becomes, alone, Carries, AreByName, FallsWith, all_told, Happens, happens, AreReset, all_reset, reset_next, resets}
 use Rattle.um_model.specs.Service.{Action, ByUnit, dead_unit}
@@ -116,10 +117,10 @@ module _ (v : ServedView) (t : ℕ) (asked : Option (List ℕ)) (units : List (L
   reset_here : Adds (AreReset t units v.state) [] (state_of w.now) w.actions
   reset_here = subst (λ (x : WorkView). Adds (AreReset x.moment units (state_of x.now)) x.actions (state_of w.now) w.actions) begun goes
 
-  pub does_reset : Does t v.state (ResetFailed asked) w.actions (state_of w.now)
-  does_reset =
+  pub does_reset : {profile : Profile} → Does profile t v.state (ResetFailed asked) w.actions (state_of w.now)
+  does_reset {profile} =
       let (new, h, same) = reset_here in
-      subst (λ l. Does t v.state (ResetFailed asked) l (state_of w.now)) (sym same) (resets (subst (λ l. AreReset t l v.state new (state_of w.now)) is h))
+      subst (λ l. Does profile t v.state (ResetFailed asked) l (state_of w.now)) (sym same) (resets (subst (λ l. AreReset t l v.state new (state_of w.now)) is h))
 
   pub works_reset : WorksOn v w
   works_reset =

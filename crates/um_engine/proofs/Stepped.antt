@@ -3,6 +3,7 @@ use Rattle.um_falling.specs.Carrying.{Adds}
 use Rattle.std.proofs.Common.{◌≡◌, ◌≢◌, ◌∙◌, ◌↔◌, ℕ, Bool, true, false, true≢false, List, [], None, refl, sym, ap, subst}
 use Rattle.std.specs.Prelude.{IfErr, IfOk, IfSome, Result, Ok, Err}
 use Rattle.std.proofs.lemmas.Option.{none-some}
+use Rattle.um_model.specs.declared.profile.Profile.{Profile}
 use Rattle.um_model.specs.Machine as model
 use Rattle.um_model.specs.Machine.{State, Command, Happening, Event, Commanded, Happened, Follows, obeys, Changes, Does, changes, Input, Reply, Done, Refuses, HasNoEffect, IsTooHeavy, TakesEffect, meets, Step, refused, crowded_out, HasNoRoom, idle, taken, reply_after, moment_of}
 use Rattle.um_model.specs.Refusals.{Refused, no_room}
@@ -24,32 +25,32 @@ use Rattle.um_engine.proofs.DoneLaws.{none_differ}
 
 -- for the input itself, by its event
 of_input : (size : ℕ) (s : State) (i : Input) (event : Event) (reply : Reply) (actions : List Action) (v : State) → i.event ≡ event
-    → Step size s (record { moment = i.moment; event = event }) reply actions v → Step size s i reply actions v
-of_input size s i event reply actions v e step = subst (λ x. Step size s x reply actions v) (λ j. record { moment = i.moment; event = sym e j }) step
+    → Step size s (record { profile = i.profile; moment = i.moment; event = event }) reply actions v → Step size s i reply actions v
+of_input size s i event reply actions v e step = subst (λ x. Step size s x reply actions v) (λ j. record { profile = i.profile; moment = i.moment; event = sym e j }) step
 
-pub refused_step : (size : ℕ) (s : State) (i : Input) (command : Command) (r : Refused) → i.event ≡ Commanded command → Refuses s command r → Step size s i (model.Refusal r) [] s
+pub refused_step : (size : ℕ) (s : State) (i : Input) (command : Command) (r : Refused) → i.event ≡ Commanded command → Refuses i.profile s command r → Step size s i (model.Refusal r) [] s
 refused_step size s i command r e h = of_input size s i (Commanded command) (model.Refusal r) [] s e (refused h)
 
 pub declined_step : (size : ℕ) (s : State) (i : Input) (t : ℕ) (command : Command) (r : Refused) → i.event ≡ Commanded command → t ≡ moment_of s i.moment
-    → Declines size t s command r → Step size s i (model.Refusal r) [] s
+    → Declines i.profile size t s command r → Step size s i (model.Refusal r) [] s
 declined_step size s i t command r e f (for_cause h) = refused_step size s i command r e h
 declined_step size s i t command _ e f (for_room {actions = actions} {u = u} takes heavy) =
-    of_input size s i (Commanded command) (model.Refusal no_room) [] s e (crowded_out (subst (λ n. TakesEffect n s (Commanded command) actions u) f takes) heavy)
+    of_input size s i (Commanded command) (model.Refusal no_room) [] s e (crowded_out (subst (λ n. TakesEffect i.profile n s (Commanded command) actions u) f takes) heavy)
 
 pub taken_step : (size : ℕ) (s : State) (i : Input) (t : ℕ) (event : Event) (reply : Reply) (all actions : List Action) (u v : State) → i.event ≡ event → t ≡ moment_of s i.moment
-    → TakesEffect t s event actions u → ¬ HasNoRoom size event u → reply ≡ reply_after event s.tree u.tree → all ≡ actions → v ≡ record u { clock = t } → Step size s i reply all v
+    → TakesEffect i.profile t s event actions u → ¬ HasNoRoom size event u → reply ≡ reply_after event s.tree u.tree → all ≡ actions → v ≡ record u { clock = t } → Step size s i reply all v
 taken_step size s i t event reply all actions u v e f takes room g h k =
-    let input : Input = record { moment = i.moment; event = event } in
+    let input : Input = record { profile = i.profile; moment = i.moment; event = event } in
     of_input size s i event reply all v e
     (subst (λ x. Step size s input x all v) (sym g)
     (subst (λ x. Step size s input (reply_after event s.tree u.tree) x v) (sym h)
     (subst (λ x. Step size s input (reply_after event s.tree u.tree) actions x) (sym (k ∙ ap (λ n. record u { clock = n }) f))
-    (taken (subst (λ n. TakesEffect n s event actions u) f takes) room))))
+    (taken (subst (λ n. TakesEffect i.profile n s event actions u) f takes) room))))
 
 idle_step : (size : ℕ) (s : State) (i : Input) (t : ℕ) (happening : Happening) (reply : Reply) (all : List Action) (v : State) → i.event ≡ Happened happening → t ≡ moment_of s i.moment
     → HasNoEffect t s happening → reply ≡ Done → all ≡ [] → v ≡ s → Step size s i reply all v
 idle_step size s i t happening reply all v e f none g h k =
-    let input : Input = record { moment = i.moment; event = Happened happening } in
+    let input : Input = record { profile = i.profile; moment = i.moment; event = Happened happening } in
     of_input size s i (Happened happening) reply all v e
     (subst (λ x. Step size s input x all v) (sym g)
     (subst (λ x. Step size s input Done x v) (sym h)
@@ -118,17 +119,17 @@ command_effect t s event command b e f = (λ h. absurd (true≢false (sym f ∙ 
 -- ---- a command
 
 -- what it changes it does, and asks for nothing
-pub does_so : (t : ℕ) (s u v : State) (command : Command) (all : List Action) → Changes s command u → v ≡ u → all ≡ [] → Does t s command all v
-does_so t s u v command all h e f = subst (λ l. Does t s command l v) (sym f) (subst (Does t s command []) (sym e) (changes h))
+pub does_so : {profile : Profile} (t : ℕ) (s u v : State) (command : Command) (all : List Action) → Changes profile s command u → v ≡ u → all ≡ [] → Does profile t s command all v
+does_so {profile} t s u v command all h e f = subst (λ l. Does profile t s command l v) (sym f) (subst (Does profile t s command []) (sym e) (changes h))
 
 -- a command that isn't refused, with all jobs that begin
-pub obeyed_so : (t : ℕ) (s u v : State) (command : Command) (first all : List Action) → ((r : Refused) → ¬ Refuses s command r) → Does t s command first u → Adds (model.Settles t u) first v all
-    → TakesEffect t s (Commanded command) all v
-obeyed_so t s u v command first all free does (more, settles, whole) = subst (λ l. TakesEffect t s (Commanded command) l v) (sym whole) (obeys free does settles)
+pub obeyed_so : (profile : Profile) (t : ℕ) (s u v : State) (command : Command) (first all : List Action) → ((r : Refused) → ¬ Refuses profile s command r) → Does profile t s command first u → Adds (model.Settles t u) first v all
+    → TakesEffect profile t s (Commanded command) all v
+obeyed_so profile t s u v command first all free does (more, settles, whole) = subst (λ l. TakesEffect profile t s (Commanded command) l v) (sym whole) (obeys free does settles)
 
-pub declined_for_cause : (size t : ℕ) (s : State) (command : Command) (e : Refusal) → (e ≢ NoMemory → Refuses s command (refused_of e)) → e ≢ NoMemory
-    → Declines size t s command (refused_of e)
-declined_for_cause size t s command e refuses differs = for_cause (refuses differs)
+pub declined_for_cause : (profile : Profile) (size t : ℕ) (s : State) (command : Command) (e : Refusal) → (e ≢ NoMemory → Refuses profile s command (refused_of e)) → e ≢ NoMemory
+    → Declines profile size t s command (refused_of e)
+declined_for_cause profile size t s command e refuses differs = for_cause (refuses differs)
 
 -- jobs that begin leave the tree in hand, and with it what is answered
 pub same_answer : (t : ℕ) (event : Event) (s u v : State) (first all : List Action) (reply : Reply) → reply ≡ reply_after event s.tree u.tree
@@ -137,39 +138,39 @@ same_answer t event s u v first all reply is (more, settles, whole) = is ∙ ap 
 
 -- ---- a command, and the jobs that begin then
 
-module _ (size t : ℕ) (s : Standing) (command : Command) (o : Outcome) (free : (r : Refused) → ¬ Refuses (state_of s) command r)
-    (does : Does t (state_of s) command (actions_by o) (state_by o)) where
+module _ (profile : Profile) (size t : ℕ) (s : Standing) (command : Command) (o : Outcome) (free : (r : Refused) → ¬ Refuses profile (state_of s) command r)
+    (does : Does profile t (state_of s) command (actions_by o) (state_by o)) where
   pub obeys_so : (n : Next) → reply_by o ≡ reply_after (Commanded command) (state_of s).tree (state_by o).tree → Settled size t s (state_by o) (actions_by o) n.change (actions_in n)
-      → reply_in n ≡ reply_by o → Obeys size t s command n
+      → reply_in n ≡ reply_by o → Obeys profile size t s command n
   obeys_so n answer settled reply =
       let goes : Adds (model.Settles t (state_by o)) (actions_by o) settled.leads.state (actions_in n) = settled.leads.leads.0 in
       record {
         state = settled.leads.state;
-        takes = obeyed_so t (state_of s) (state_by o) settled.leads.state command (actions_by o) (actions_in n) free does goes;
+        takes = obeyed_so profile t (state_of s) (state_by o) settled.leads.state command (actions_by o) (actions_in n) free does goes;
         is = settled.leads.is;
         reply = same_answer t (Commanded command) (state_of s) (state_by o) settled.leads.state (actions_by o) (actions_in n) (reply_in n) (reply ∙ answer) goes;
         room = settled.leads.leads.1;
         tells = settled.tells;
       }
 
-  pub declines_so : (r : Refused) → SettlesTooHeavy size t (state_by o) (actions_by o) r → Declines size t (state_of s) command r
+  pub declines_so : (r : Refused) → SettlesTooHeavy size t (state_by o) (actions_by o) r → Declines profile size t (state_of s) command r
   declines_so r h =
-      subst (Declines size t (state_of s) command) (sym h.refusal)
-      (for_room (obeyed_so t (state_of s) (state_by o) h.state command (actions_by o) h.actions free does h.settles) h.heavy)
+      subst (Declines profile size t (state_of s) command) (sym h.refusal)
+      (for_room (obeyed_so profile t (state_of s) (state_by o) h.state command (actions_by o) h.actions free does h.settles) h.heavy)
 
   -- what the call that lets jobs begin tells is told of the command
   pub obeys_by : (result : Result Next Refusal) → reply_by o ≡ reply_after (Commanded command) (state_of s).tree (state_by o).tree
-      → IfOk result (λ n. Settled size t s (state_by o) (actions_by o) n.change (actions_in n)) → IfOk result (λ n. reply_in n ≡ reply_by o) → IfOk result (λ n. Obeys size t s command n)
+      → IfOk result (λ n. Settled size t s (state_by o) (actions_by o) n.change (actions_in n)) → IfOk result (λ n. reply_in n ≡ reply_by o) → IfOk result (λ n. Obeys profile size t s command n)
   obeys_by (Ok n) answer settled reply = obeys_so n answer settled reply
   obeys_by (Err e) answer settled reply = settled
 
   pub declines_by : (result : Result Next Refusal) → IfErr result (λ e. ¬ (e ≡ NoMemory) → SettlesTooHeavy size t (state_by o) (actions_by o) (refused_of e))
-      → IfErr result (λ e. ¬ (e ≡ NoMemory) → Declines size t (state_of s) command (refused_of e))
+      → IfErr result (λ e. ¬ (e ≡ NoMemory) → Declines profile size t (state_of s) command (refused_of e))
   declines_by (Ok n) h = h
   declines_by (Err e) h = λ differs. declines_so (refused_of e) (h differs)
 
 -- a command that is obeyed is a step
 pub obeyed_step : (size t : ℕ) (s : Standing) (i : Input) (command : Command) (n : Next) → i.event ≡ Commanded command → t ≡ moment_of (state_of s) i.moment
-    → Obeys size t s command n → Step size (state_of s) i (reply_in n) (actions_in n) (state_of (state_after n s))
+    → Obeys i.profile size t s command n → Step size (state_of s) i (reply_in n) (actions_in n) (state_of (state_after n s))
 obeyed_step size t s i command n e f done =
     taken_step size (state_of s) i t (Commanded command) (reply_in n) (actions_in n) (actions_in n) done.state (state_of (state_after n s)) e f done.takes done.room done.reply refl done.is

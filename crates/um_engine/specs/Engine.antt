@@ -11,6 +11,7 @@ use Rattle.um_model.specs.Timers.{Timers, IsDueFirst}
 use Rattle.um_model.specs.declared.service.SubState.{SubState}
 use Rattle.um_model.specs.declared.service.SubState.TheVariants.{AutoRestart}
 use Rattle.um_model.specs.declared.transition.UnitEvent.{UnitEvent}
+use Rattle.um_model.specs.declared.profile.Profile.{Profile}
 use Rattle.um_state.specs.Deltas.{delta_after, delta_before}
 use Rattle.um_state.specs.View.{state_of, reply_of, action_of}
 use Rattle.um_state.specs.Working.{CountsDiffering}
@@ -212,10 +213,10 @@ pub record SettlesTooHeavy (size t : ℕ) (u : model.State) (before : List Actio
   pub heavy : model.IsTooHeavy size state
   pub refusal : r ≡ no_room
 
--- a step that obeys a command
-pub record Obeys (size t : ℕ) (s : Standing) (command : model.Command) (n : Next) : Type 0 where
+-- a step that obeys a command of an input of this profile
+pub record Obeys (profile : Profile) (size t : ℕ) (s : Standing) (command : model.Command) (n : Next) : Type 0 where
   pub state : model.State
-  pub takes : model.TakesEffect t (state_of s) (model.Commanded command) (actions_in n) state
+  pub takes : model.TakesEffect profile t (state_of s) (model.Commanded command) (actions_in n) state
   pub is : state_of (state_after n s) ≡ record state { clock = t }
   pub reply : reply_in n ≡ model.reply_after (model.Commanded command) (state_of s).tree state.tree
   pub room : ¬ model.IsTooHeavy size state

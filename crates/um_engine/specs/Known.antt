@@ -4,7 +4,7 @@
 use Rattle.std.specs.Prelude.{◌≡◌, ◌⊎◌, ◌↔◌, ℕ, Bool, true, false, List, Contains, Option, Some, None, length, slice_get, slice_index_or}
 use Rattle.um_model.specs.Dependencies.{CountsFor, IsKnown, KnowsTooMany}
 use Rattle.um_model.specs.Machine.{State, IsHeld, IsHeldOr}
-use Rattle.um_model.specs.Tree.{Tree, without_run}
+use Rattle.um_model.specs.Profiles.{ReadTree, lasting_tree}
 use Rattle.um_graph.specs.Graph.{GraphView, IsGraph, IsGraphOf}
 
 -- the units that count beside those that a tree names: those that are held, and one that a command names
@@ -13,11 +13,11 @@ IsHeldWith s None = IsHeld s
 IsHeldWith s (Some named) = IsHeldOr s named
 
 -- too many units would be known by the tree, or by it without its entries under `run/`
-abbrev pub IsFull : Tree → (List ℕ → Type 0) → Type 0
-IsFull tree Extra = KnowsTooMany tree Extra ⊎ KnowsTooMany (without_run tree) Extra
+abbrev pub IsFull : ReadTree → (List ℕ → Type 0) → Type 0
+IsFull tree Extra = KnowsTooMany tree Extra ⊎ KnowsTooMany (lasting_tree tree) Extra
 
 -- the graph is exactly that of the tree and these units, and tells for how many units the tree counts; and these aren't too many
-pub record IsGraphFor (tree : Tree) (Extra : List ℕ → Type 0) (g : GraphView) : Type 0 where
+pub record IsGraphFor (tree : ReadTree) (Extra : List ℕ → Type 0) (g : GraphView) : Type 0 where
   pub graph : IsGraph g
   pub of : IsGraphOf tree Extra g
   pub count : CountsFor tree Extra g.count
@@ -30,9 +30,9 @@ pub record KnownView : Type 0 where
   pub lasting : List (List ℕ)
 
 -- these are the units that are known by the tree without its entries under `run/`; where it has none, nothing is told
-abbrev pub AreLasting : Tree → List (List ℕ) → Option (List (List ℕ)) → Type 0
-AreLasting tree extra None = without_run tree ≡ tree
-AreLasting tree extra (Some names) = (unit : List ℕ) → Contains names unit ↔ IsKnown (without_run tree) (Contains extra) unit
+abbrev pub AreLasting : ReadTree → List (List ℕ) → Option (List (List ℕ)) → Type 0
+AreLasting tree extra None = lasting_tree tree ≡ tree
+AreLasting tree extra (Some names) = (unit : List ℕ) → Contains names unit ↔ IsKnown (lasting_tree tree) (Contains extra) unit
 
 -- among these numbers stands that of each unit of these names that isn't among those that are known without the entries under `run/`
 abbrev pub ArePassing : (names lasting : List (List ℕ)) → List ℕ → Type 0
@@ -47,5 +47,5 @@ pub record AreMarked (names extra : List (List ℕ)) (marks : List Bool) : Type 
 -- the graph alone
 pub record KnowsFor (k : KnownView) (s : State) : Type 0 where
   pub made : IsGraphFor s.loaded (Contains k.extra) k.graph
-  pub lasting : (unit : List ℕ) → Contains k.lasting unit ↔ IsKnown (without_run s.loaded) (Contains k.extra) unit
+  pub lasting : (unit : List ℕ) → Contains k.lasting unit ↔ IsKnown (lasting_tree s.loaded) (Contains k.extra) unit
   pub held : (unit : List ℕ) → IsHeld s unit → Contains k.graph.names unit

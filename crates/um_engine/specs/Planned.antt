@@ -12,6 +12,7 @@ use Rattle.um_model.specs.declared.jobs.UnitJobs.{UnitJobs}
 use Rattle.um_model.specs.declared.service.ActiveState.{ActiveState}
 use Rattle.um_graph.specs.Graph.{GraphView, IsNumberOf}
 use Rattle.um_jobs.specs.Named.{jobs_at}
+use Rattle.um_model.specs.declared.profile.Profile.{Profile}
 use Rattle.um_transact.specs.Transaction.{TransactionView}
 use Rattle.um_transact.specs.Walk.{activity_at}
 use Rattle.um_engine.specs.Known.{IsGraphFor}
@@ -37,7 +38,8 @@ pub record IsTransactionFor (s : State) (root : Demand × List ℕ) (t : Transac
   pub number : IsNumberOf t.graph t.root.1 root.1
   pub demand : t.root.0 ≡ root.0
 
--- a command is refused for a cause of its own, or for want of room for what comes of it
-pub data Declines (size t : ℕ) (s : State) (command : Command) : Refused → Type 0 where
-  for_cause : {r : Refused} → Refuses s command r → Declines size t s command r
-  for_room : {actions : List Action} {u : State} → TakesEffect t s (Commanded command) actions u → IsTooHeavy size u → Declines size t s command no_room
+-- a command of an input of this profile is refused for a cause of its own, or for want of room for what comes of it
+pub data Declines (profile : Profile) (size t : ℕ) (s : State) (command : Command) : Refused → Type 0 where
+  for_cause : {r : Refused} → Refuses profile s command r → Declines profile size t s command r
+  for_room : {actions : List Action} {u : State} → TakesEffect profile t s (Commanded command) actions u → IsTooHeavy size u
+      → Declines profile size t s command no_room

@@ -24,7 +24,7 @@ standing_of v = record { state = v.state; common = true; names = v.known.graph.n
 
 -- what the trees of a state weigh together
 abbrev pub trees_weight : State → ℕ
-trees_weight s = tree_weight s.tree + tree_weight s.loaded
+trees_weight s = tree_weight s.tree + tree_weight s.loaded.entries
 
 -- a step in work that begins in this standing, at the moment
 abbrev pub begun_at : Standing → GraphView → ℕ → WorkView

@@ -9,7 +9,7 @@ ghost use Rattle.um_state.specs.Deltas.{delta_after};
 ghost use Rattle.um_state.specs.View.{state_of};
 ghost use Rattle.um_state.specs.Working.{AreRowsOf, CountsDiffering, with_rows};
 
-use crate::same::{is_same_names, is_same_tree};
+use crate::same::{is_same_names, is_same_reading, is_same_tree};
 use crate::served::Served;
 use std::alloc::{AllocError, Global};
 use um_graph::known_units;
@@ -26,7 +26,7 @@ pub enum Trees {
     Untold,
 }
 
-/// Whether the tree in hand, the loaded one and the boot's id are the same.
+/// Whether the tree in hand, the loaded one, by the same profile, and the boot's id are the same.
 fn has_same_trees(state: &State, other: &State) -> bool
     ensures { IsTrue result ↔ (((state_of other.now).tree ≡ (state_of state.now).tree)
         × ((state_of other.now).loaded ≡ (state_of state.now).loaded) × ((state_of other.now).boot ≡ (state_of state.now).boot)) }
@@ -34,7 +34,7 @@ fn has_same_trees(state: &State, other: &State) -> bool
     if !is_same_tree(other.tree(), state.tree()) {
         return false;
     }
-    if !is_same_tree(other.loaded(), state.loaded()) {
+    if !is_same_reading(other.loaded(), state.loaded()) {
         return false;
     }
     other.boot().as_str() == state.boot().as_str()

@@ -12,6 +12,8 @@ ghost use Rattle.um_model.specs.Machine as model;
 ghost use Rattle.um_model.specs.Refusals as told;
 ghost use Rattle.um_model.specs.Tree.{link_cause, put_cause, put_file, put_link, remove_at, remove_cause};
 ghost use Rattle.um_model.specs.Waiting.{has_waiting};
+ghost use Rattle.um_model.specs.declared.profile.Profile.{Profile};
+ghost use Rattle.um_unit.specs.View.{tree_read};
 ghost use Rattle.um_state.specs.View.{state_of, command_of, reply_of};
 ghost use Rattle.um_wire.specs.Gives.{RefusesBy};
 ghost use Rattle.um_wire.specs.Refusal.{refused_of};
@@ -29,10 +31,11 @@ use std::alloc::{AllocError, Global};
 use std::rc::Rc;
 use um_falling::Work;
 use um_install::{Installed, check_units, relink};
-use um_model::{InstallVerb, Moment};
+use um_model::{InstallVerb, Moment, Profile};
 use um_name::UnitName;
 use um_state::{Command, Reply, State};
 use um_tree::{Entry, Tree};
+use um_unit::Reading;
 use um_wire::{Refusal, no_such_job};
 
 /// Takes out the jobs of the unit that wait. Where none of them waits it is refused (E21).
@@ -59,11 +62,11 @@ fn without_waiting<'s>(
     moment: Moment,
     asked: &UnitName,
 ) -> Result<Work<'s>, Refusal>
-    ensures changed { IfOk result (λ work. model.Changes served.now.state (model.Cancel asked.now) (state_of work.now)) }
+    ensures changed { (profile : Profile) → IfOk result (λ work. model.Changes profile served.now.state (model.Cancel asked.now) (state_of work.now)) }
     ensures actions { IfOk result (λ work. work.actions ≡ []) }
     ensures works { IfOk result (λ work. WorksOn served.now work) }
     ensures moment { IfOk result (λ work. work.moment ≡ moment) }
-    ensures refused { RefusesBy (model.Refuses served.now.state (model.Cancel asked.now)) result }
+    ensures refused { (profile : Profile) → RefusesBy (model.Refuses profile served.now.state (model.Cancel asked.now)) result }
 {
     let unit = asked_unit(alloc, served, asked)?;
     let mut work = served.work(alloc, moment)?;
@@ -84,8 +87,8 @@ fn check_put(alloc: Global, state: &State, path: &str, text: &str) -> Result<(),
 
 /// The state with the file in its tree in hand.
 fn with_file(state: &State, path: &str, text: &str) -> Result<State, Refusal>
-    ensures changed { IfOk result (λ u. model.Changes (state_of state.now) (model.PutFile path.now text.now) (state_of u)) }
-    ensures refused { RefusesBy (model.Refuses (state_of state.now) (model.PutFile path.now text.now)) result }
+    ensures changed { (profile : Profile) → IfOk result (λ u. model.Changes profile (state_of state.now) (model.PutFile path.now text.now) (state_of u)) }
+    ensures refused { (profile : Profile) → RefusesBy (model.Refuses profile (state_of state.now) (model.PutFile path.now text.now)) result }
 {
     let mut changed = state.copy()?;
     changed.put_file(path, text)?;
@@ -105,8 +108,8 @@ fn check_link(alloc: Global, state: &State, path: &str, target: &str) -> Result<
 
 /// The state with the link in its tree in hand.
 fn with_link(state: &State, path: &str, target: &str) -> Result<State, Refusal>
-    ensures changed { IfOk result (λ u. model.Changes (state_of state.now) (model.PutLink path.now target.now) (state_of u)) }
-    ensures refused { RefusesBy (model.Refuses (state_of state.now) (model.PutLink path.now target.now)) result }
+    ensures changed { (profile : Profile) → IfOk result (λ u. model.Changes profile (state_of state.now) (model.PutLink path.now target.now) (state_of u)) }
+    ensures refused { (profile : Profile) → RefusesBy (model.Refuses profile (state_of state.now) (model.PutLink path.now target.now)) result }
 {
     let mut changed = state.copy()?;
     changed.put_link(path, target)?;
@@ -126,8 +129,8 @@ fn check_remove(alloc: Global, state: &State, path: &str) -> Result<(), Refusal>
 
 /// The state without what stands in its tree in hand at the path.
 fn without_path(state: &State, path: &str) -> Result<State, Refusal>
-    ensures changed { IfOk result (λ u. model.Changes (state_of state.now) (model.Remove path.now) (state_of u)) }
-    ensures refused { RefusesBy (model.Refuses (state_of state.now) (model.Remove path.now)) result }
+    ensures changed { (profile : Profile) → IfOk result (λ u. model.Changes profile (state_of state.now) (model.Remove path.now) (state_of u)) }
+    ensures refused { (profile : Profile) → RefusesBy (model.Refuses profile (state_of state.now) (model.Remove path.now)) result }
 {
     let mut changed = state.copy()?;
     changed.remove(path)?;
@@ -159,10 +162,10 @@ fn filed<'s>(
     path: &str,
     text: &str,
 ) -> Result<Outcome<'s>, Refusal>
-    ensures changed { IfOk result (λ o. model.Changes served.now.state (model.PutFile path.now text.now) (state_by o)) }
+    ensures changed { (profile : Profile) → IfOk result (λ o. model.Changes profile served.now.state (model.PutFile path.now text.now) (state_by o)) }
     ensures silent { IfOk result (λ o. IsSilent o) }
     ensures based { IfOk result (IsBasedOn served.now moment) }
-    ensures refused { RefusesBy (model.Refuses served.now.state (model.PutFile path.now text.now)) result }
+    ensures refused { (profile : Profile) → RefusesBy (model.Refuses profile served.now.state (model.PutFile path.now text.now)) result }
 {
     let state = served.state();
     check_put(alloc, state, path, text)?;
@@ -181,10 +184,10 @@ fn linked<'s>(
     path: &str,
     target: &str,
 ) -> Result<Outcome<'s>, Refusal>
-    ensures changed { IfOk result (λ o. model.Changes served.now.state (model.PutLink path.now target.now) (state_by o)) }
+    ensures changed { (profile : Profile) → IfOk result (λ o. model.Changes profile served.now.state (model.PutLink path.now target.now) (state_by o)) }
     ensures silent { IfOk result (λ o. IsSilent o) }
     ensures based { IfOk result (IsBasedOn served.now moment) }
-    ensures refused { RefusesBy (model.Refuses served.now.state (model.PutLink path.now target.now)) result }
+    ensures refused { (profile : Profile) → RefusesBy (model.Refuses profile served.now.state (model.PutLink path.now target.now)) result }
 {
     let state = served.state();
     check_link(alloc, state, path, target)?;
@@ -197,10 +200,10 @@ fn linked<'s>(
 
 /// What it leads to that what stands in the tree in hand at the path is removed.
 fn removed<'s>(alloc: Global, served: &'s Served, path: &str) -> Result<Outcome<'s>, Refusal>
-    ensures changed { IfOk result (λ o. model.Changes served.now.state (model.Remove path.now) (state_by o)) }
+    ensures changed { (profile : Profile) → IfOk result (λ o. model.Changes profile served.now.state (model.Remove path.now) (state_by o)) }
     ensures silent { IfOk result (λ o. IsSilent o) }
     ensures based { IfOk result (λ o. (t : ℕ) → IsBasedOn served.now t o) }
-    ensures refused { RefusesBy (model.Refuses served.now.state (model.Remove path.now)) result }
+    ensures refused { (profile : Profile) → RefusesBy (model.Refuses profile served.now.state (model.Remove path.now)) result }
 {
     let state = served.state();
     check_remove(alloc, state, path)?;
@@ -208,71 +211,93 @@ fn removed<'s>(alloc: Global, served: &'s Served, path: &str) -> Result<Outcome<
     Ok(Outcome::Tables(kept(served, changed)?, Reply::Done, Trees::Differ))
 }
 
-/// The state with its tree in hand as the loaded one.
-fn with_loaded(state: &State) -> Result<State, AllocError>
-    ensures { IfOk result (λ u. state_of u ≡ record (state_of state.now) { loaded = (state_of state.now).tree }) }
+/// The tree as it is read once it is loaded for an input of this profile.
+fn as_loaded<'t>(state: &State, profile: Profile, tree: &'t Tree) -> Reading<'t>
+    ensures { tree_read result ≡ model.as_loaded profile (state_of state.now) tree.now }
+{
+    Reading {
+        tree,
+        profile: state.loaded().profile.later(profile),
+    }
+}
+
+/// The state with its tree in hand as the loaded one, for an input of this profile.
+fn with_loaded(state: &State, profile: Profile) -> Result<State, AllocError>
+    ensures { IfOk result (λ u. state_of u
+        ≡ record (state_of state.now) { loaded = model.as_loaded profile (state_of state.now) (state_of state.now).tree }) }
 {
     let mut changed = state.copy()?;
-    changed.reload()?;
+    changed.reload(profile)?;
     Ok(changed)
 }
 
-/// The state with its tree in hand loaded. Refused are too many known units (E13), and pending jobs in a circle (E9).
-fn reloaded(alloc: Global, state: &State) -> Result<Served, Refusal>
-    ensures changed { IfOk result (λ u. model.Changes (state_of state.now) model.DaemonReload u.state) }
-    ensures refused { RefusesBy (model.Refuses (state_of state.now) model.DaemonReload) result }
+/// The state with its tree in hand loaded, for an input of this profile. Refused are too many known units (E13), and pending jobs in a circle (E9).
+fn reloaded(alloc: Global, state: &State, profile: Profile) -> Result<Served, Refusal>
+    ensures changed { IfOk result (λ u. model.Changes profile (state_of state.now) model.DaemonReload u.state) }
+    ensures refused { RefusesBy (model.Refuses profile (state_of state.now) model.DaemonReload) result }
 {
-    let known = known_of_loaded(alloc, state, state.tree())?;
-    let changed = with_loaded(state)?;
+    let known = known_of_loaded(alloc, state, as_loaded(state, profile, state.tree()))?;
+    let changed = with_loaded(state, profile)?;
     Ok(Served::numbered(changed, known)?)
 }
 
-/// The state with that tree, loaded, of whose units that is known.
-fn with_tree(state: &State, tree: Tree, known: Rc<Known>) -> Result<Served, AllocError>
-    requires { KnowsFor known.value (record (state_of state.now) { loaded = tree }) }
-    ensures { IfOk result (λ u. u.state ≡ record (state_of state.now) { tree = tree; loaded = tree }) }
+/// The state with that tree, loaded for an input of this profile, of whose units that is known.
+fn with_tree(
+    state: &State,
+    tree: Tree,
+    profile: Profile,
+    known: Rc<Known>,
+) -> Result<Served, AllocError>
+    requires { KnowsFor known.value (record (state_of state.now) { loaded = model.as_loaded profile (state_of state.now) tree }) }
+    ensures { IfOk result (λ u. u.state ≡ record (state_of state.now) { tree = tree; loaded = model.as_loaded profile (state_of state.now) tree }) }
 {
     let mut changed = state.copy()?;
-    changed.load_tree(tree)?;
+    changed.load_tree(tree, profile)?;
     Served::numbered(changed, known)
 }
 
-/// The state with the tree that comes of enabling the unit or its kin, loaded. Refused are, in this order, links that can't be made
+/// The state with the tree that comes of enabling the unit or its kin, loaded, for an input of this profile. Refused are, in this order, links that can't be made
 /// (E12, E11, E13 `entries`), too many known units (E13 `units`), a unit that can't be enabled (E4 to E6), and pending jobs in a
 /// circle (E9).
 fn installed(
     alloc: Global,
     state: &State,
+    profile: Profile,
     verb: InstallVerb,
     unit: &UnitName,
 ) -> Result<(Served, Reply), Refusal>
-    ensures changed { IfOk result (λ o. model.Changes (state_of state.now) (model.Install verb unit.now) o.0.state) }
+    ensures changed { IfOk result (λ o. model.Changes profile (state_of state.now) (model.Install verb unit.now) o.0.state) }
     ensures reply { IfOk result (λ o. reply_of o.1
         ≡ model.Relinked (paths_beyond (state_of state.now).tree o.0.state.tree) (paths_beyond o.0.state.tree (state_of state.now).tree)) }
-    ensures refused { RefusesBy (model.Refuses (state_of state.now) (model.Install verb unit.now)) result }
+    ensures refused { RefusesBy (model.Refuses profile (state_of state.now) (model.Install verb unit.now)) result }
 {
+    let in_hand = Reading {
+        tree: state.tree(),
+        profile,
+    };
     let Installed {
         tree,
         made,
         removed,
-    } = relink(alloc, state.tree(), verb, unit)?;
-    let known = Known::of(alloc, &tree, state, None)?;
-    check_units(alloc, state.tree(), verb, unit)?;
+    } = relink(alloc, in_hand, verb, unit)?;
+    let known = Known::of(alloc, as_loaded(state, profile, &tree), state, None)?;
+    check_units(alloc, in_hand, verb, unit)?;
     check_order(alloc, &known, state)?;
-    let served = with_tree(state, tree, known)?;
+    let served = with_tree(state, tree, profile, known)?;
     Ok((served, Reply::Relinked { made, removed }))
 }
 
-/// What a command leads to at the moment, before any job begins; or it is refused.
+/// What a command of an input of this profile leads to at the moment, before any job begins; or it is refused.
 pub fn done<'s>(
     alloc: Global,
     served: &'s Served,
     moment: Moment,
+    profile: Profile,
     command: &Command,
 ) -> Result<Outcome<'s>, Refusal>
-    ensures does { IfOk result (λ o. model.Does moment served.now.state (command_of command.now) (actions_by o) (state_by o)) }
+    ensures does { IfOk result (λ o. model.Does profile moment served.now.state (command_of command.now) (actions_by o) (state_by o)) }
     ensures reply { IfOk result (λ o. reply_by o ≡ model.reply_after (model.Commanded (command_of command.now)) served.now.state.tree (state_by o).tree) }
-    ensures refused { RefusesBy (model.Refuses served.now.state (command_of command.now)) result }
+    ensures refused { RefusesBy (model.Refuses profile served.now.state (command_of command.now)) result }
     ensures based { IfOk result (λ o. IsBasedOn served.now moment o) }
 {
     let state = served.state();
@@ -290,7 +315,7 @@ pub fn done<'s>(
             Ok(outcome)
         }
         Command::DaemonReload => Ok(Outcome::Tables(
-            reloaded(alloc, state)?,
+            reloaded(alloc, state, profile)?,
             Reply::Done,
             Trees::Untold,
         )),
@@ -305,7 +330,7 @@ pub fn done<'s>(
             Ok(Outcome::Rows(without_failures(alloc, served, moment, unit)?))
         }
         Command::Install { verb, unit } => {
-            let (served, reply) = installed(alloc, state, *verb, unit)?;
+            let (served, reply) = installed(alloc, state, profile, *verb, unit)?;
             Ok(Outcome::Tables(served, reply, Trees::Untold))
         }
     }

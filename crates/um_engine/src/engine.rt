@@ -28,7 +28,7 @@ use std::alloc::{AllocError, Global};
 use std::mem;
 use um_answer::{list_known, reply_to};
 use um_falling::Work;
-use um_model::Moment;
+use um_model::{Moment, Profile};
 use um_state::{Action, Command, Delta, Event, Input, Query, Reply, State};
 use um_wire::Refusal;
 
@@ -137,13 +137,13 @@ impl Engine {
         self.served.state().clock()
     }
 
-    /// The step that a command is at the moment.
-    fn obeyed(&self, moment: Moment, command: &Command) -> Result<Next, Refusal>
-        ensures obeys { IfOk result (λ next. Obeys (size_in self.now) moment (standing_in self.now) (command_of command.now) next) }
+    /// The step that a command is at the moment, in an input of this profile.
+    fn obeyed(&self, moment: Moment, profile: Profile, command: &Command) -> Result<Next, Refusal>
+        ensures obeys { IfOk result (λ next. Obeys profile (size_in self.now) moment (standing_in self.now) (command_of command.now) next) }
         ensures exact { IfOk result (λ next. KeepsExact (served_in self.now) next.change) }
-        ensures refused { IfErr result (λ e. ¬ (e ≡ NoMemory) → Declines (size_in self.now) moment (state_in self.now) (command_of command.now) (refused_of e)) }
+        ensures refused { IfErr result (λ e. ¬ (e ≡ NoMemory) → Declines profile (size_in self.now) moment (state_in self.now) (command_of command.now) (refused_of e)) }
     {
-        let outcome = done(self.alloc, &self.served, moment, command)?;
+        let outcome = done(self.alloc, &self.served, moment, profile, command)?;
         match outcome {
             Outcome::Rows(work) => self.with_rows(work),
             Outcome::Tables(served, reply, trees) => {
@@ -268,7 +268,7 @@ impl Engine {
         let moment = self.served.state().clock().or_later(input.moment());
         match input.event() {
             Event::Commanded(command) => {
-                let next = self.obeyed(moment, command)?;
+                let next = self.obeyed(moment, input.profile(), command)?;
                 Ok(next)
             }
             Event::Happened(happening) => {

@@ -4,7 +4,8 @@ ghost use Rattle.std.specs.Prelude.{◌≡◌, ◌⊎◌, ◌↔◌, ◌<◌, �
 ghost use Rattle.um_engine.specs.Exact.{LetsNoneGo, holds_none};
 ghost use Rattle.um_engine.specs.Known.{AreLasting, AreMarked, ArePassing, IsFull, IsGraphFor, IsHeldWith, KnowsFor, KnownView};
 ghost use Rattle.um_model.specs.Dependencies.{IsKnown};
-ghost use Rattle.um_model.specs.Tree.{without_run};
+ghost use Rattle.um_model.specs.Profiles.{lasting_tree};
+ghost use Rattle.um_unit.specs.View.{tree_read};
 ghost use Rattle.um_graph.specs.Graph.{IsGraphOf, IsNumberOf};
 ghost use Rattle.um_model.specs.Machine.{IsHeld};
 ghost use Rattle.um_state.specs.View.{state_of};
@@ -18,7 +19,7 @@ use um_falling::Work;
 use um_graph::{Graph, known_units};
 use um_name::{Names, UnitName};
 use um_state::{Row, State};
-use um_tree::Tree;
+use um_unit::Reading;
 use um_wire::Refusal;
 
 /// The graph of a tree, the units beside those of the tree for which it was made, and the units that are known without the tree's
@@ -107,17 +108,21 @@ fn names_of(alloc: Global, graph: &Graph) -> Result<Names, AllocError>
 /// such entries.
 fn lasting(
     alloc: Global,
-    tree: &Tree,
+    reading: Reading<'_>,
     extra: &[UnitName],
 ) -> Result<Option<Vec<UnitName>>, AllocError>
-    ensures { IfOk result (λ lasting. AreLasting tree.now extra.now (option_map (λ names. names.items) lasting)) }
+    ensures { IfOk result (λ lasting. AreLasting (tree_read reading.entry) extra.now (option_map (λ names. names.items) lasting)) }
 {
-    if !tree.has_run() {
+    if !reading.tree.has_run() {
         return Ok(None);
     }
-    let mut rest = tree.copy()?;
+    let mut rest = reading.tree.copy()?;
     rest.clear_run();
-    Ok(Some(known_units(alloc, &rest, extra)?))
+    let rest = Reading {
+        tree: &rest,
+        profile: reading.profile,
+    };
+    Ok(Some(known_units(alloc, rest, extra)?))
 }
 
 /// Whether the unit is found among these, which stand in the order of their names.
@@ -229,52 +234,60 @@ fn is_named(known: &[UnitName], lasting: &Option<Vec<UnitName>>, unit: &UnitName
 }
 
 /// Those of the units that aren't known by the tree itself, with its entries under `run/` and without them.
-fn unnamed(alloc: Global, tree: &Tree, units: Vec<UnitName>) -> Result<Vec<UnitName>, AllocError>
-    ensures known { IfOk result (λ others. (unit : List ℕ) → Contains units.items unit → IsKnown tree.now (Contains others.items) unit) }
+fn unnamed(
+    alloc: Global,
+    reading: Reading<'_>,
+    units: Vec<UnitName>,
+) -> Result<Vec<UnitName>, AllocError>
+    ensures known { IfOk result (λ others. (unit : List ℕ) → Contains units.items unit → IsKnown (tree_read reading.entry) (Contains others.items) unit) }
     ensures only { IfOk result (λ others. (unit : List ℕ) → Contains others.items unit → Contains units.items unit) }
 {
     if units.is_empty() {
         return Ok(units);
     }
-    let known = known_units(alloc, tree, &[])?;
-    let lasting = lasting(alloc, tree, &[])?;
+    let known = known_units(alloc, reading, &[])?;
+    let lasting = lasting(alloc, reading, &[])?;
     let others = others(alloc, &units, &known, &lasting)?;
     Ok(others)
 }
 
 impl Known {
-    /// What is known of the units of the tree, with those that the state holds and one that is named. Refused are too many (E13
+    /// What is known of the units of the tree as it is read, with those that the state holds and one that is named. Refused are too many (E13
     /// `units`).
     pub fn of(
         alloc: Global,
-        tree: &Tree,
+        reading: Reading<'_>,
         state: &State,
         named: Option<&UnitName>,
     ) -> Result<Rc<Known>, Refusal>
-        ensures made { IfOk result (λ k. IsGraphFor tree.now (Contains k.value.extra) k.value.graph) }
+        ensures made { IfOk result (λ k. IsGraphFor (tree_read reading.entry) (Contains k.value.extra) k.value.graph) }
         ensures extra { IfOk result (λ k. (unit : List ℕ) → Contains k.value.extra unit ↔ IsHeldWith (state_of state.now) (option_copied named.entry) unit) }
         ensures lasting { IfOk result (λ k. (unit : List ℕ)
-            → Contains k.value.lasting unit ↔ IsKnown (without_run tree.now) (Contains k.value.extra) unit) }
-        ensures few { IfOk result (λ k. ¬ IsFull tree.now (IsHeldWith (state_of state.now) (option_copied named.entry))) }
+            → Contains k.value.lasting unit ↔ IsKnown (lasting_tree (tree_read reading.entry)) (Contains k.value.extra) unit) }
+        ensures few { IfOk result (λ k. ¬ IsFull (tree_read reading.entry) (IsHeldWith (state_of state.now) (option_copied named.entry))) }
         ensures refused { IfErr result (λ e. ¬ (e ≡ refusals.NoMemory) → (e ≡ refusals.TooLarge limits.Units)
-            × IsFull tree.now (IsHeldWith (state_of state.now) (option_copied named.entry))) }
+            × IsFull (tree_read reading.entry) (IsHeldWith (state_of state.now) (option_copied named.entry))) }
     {
         let extra = held_with(alloc, state, named)?;
-        let known = Known::with_units(alloc, tree, extra)?;
+        let known = Known::with_units(alloc, reading, extra)?;
         Ok(Rc::new(alloc, known)?)
     }
 
     /// What is known of the units of the tree, with these beside them. Refused are too many (E13 `units`).
-    pub fn with_units(alloc: Global, tree: &Tree, extra: Vec<UnitName>) -> Result<Known, Refusal>
-        ensures made { IfOk result (λ k. IsGraphFor tree.now (Contains k.extra) k.graph) }
+    pub fn with_units(
+        alloc: Global,
+        reading: Reading<'_>,
+        extra: Vec<UnitName>,
+    ) -> Result<Known, Refusal>
+        ensures made { IfOk result (λ k. IsGraphFor (tree_read reading.entry) (Contains k.extra) k.graph) }
         ensures extra { IfOk result (λ k. k.extra ≡ extra.items) }
-        ensures lasting { IfOk result (λ k. (unit : List ℕ) → Contains k.lasting unit ↔ IsKnown (without_run tree.now) (Contains k.extra) unit) }
-        ensures few { IfOk result (λ k. ¬ IsFull tree.now (Contains extra.items)) }
-        ensures refused { IfErr result (λ e. ¬ (e ≡ refusals.NoMemory) → (e ≡ refusals.TooLarge limits.Units) × IsFull tree.now (Contains extra.items)) }
+        ensures lasting { IfOk result (λ k. (unit : List ℕ) → Contains k.lasting unit ↔ IsKnown (lasting_tree (tree_read reading.entry)) (Contains k.extra) unit) }
+        ensures few { IfOk result (λ k. ¬ IsFull (tree_read reading.entry) (Contains extra.items)) }
+        ensures refused { IfErr result (λ e. ¬ (e ≡ refusals.NoMemory) → (e ≡ refusals.TooLarge limits.Units) × IsFull (tree_read reading.entry) (Contains extra.items)) }
     {
-        let graph = Graph::of(alloc, tree, extra.as_slice())?;
+        let graph = Graph::of(alloc, reading, extra.as_slice())?;
         let names = names_of(alloc, &graph)?;
-        let lasting = lasting(alloc, tree, extra.as_slice())?;
+        let lasting = lasting(alloc, reading, extra.as_slice())?;
         let passing = passing(alloc, &graph, &lasting)?;
         let is_extra = marked(alloc, &graph, &extra)?;
         Ok(Known {
@@ -295,10 +308,10 @@ impl Known {
         ensures refused { IfErr result (λ e. ¬ (e ≡ refusals.NoMemory) → (e ≡ refusals.TooLarge limits.Units)
             × IsFull (state_of state.now).loaded (IsHeld (state_of state.now))) }
     {
-        let tree = state.loaded();
+        let reading = state.loaded();
         let held = state.held(alloc)?;
-        let extra = unnamed(alloc, tree, held)?;
-        let known = Known::with_units(alloc, tree, extra)?;
+        let extra = unnamed(alloc, reading, held)?;
+        let known = Known::with_units(alloc, reading, extra)?;
         Ok(Rc::new(alloc, known)?)
     }
 

@@ -4,12 +4,13 @@ ghost use Rattle.um_model.specs.Finished.{Finishes, IsAtRest, PutsNoStart};
 ghost use Rattle.um_model.specs.InputSpellings.{FitInput, input_limit, input_spelling};
 ghost use Rattle.um_model.specs.Jobs.{jobs_of_unit};
 ghost use Rattle.um_model.specs.Live.{IsNotStuck};
-ghost use Rattle.um_model.specs.Machine.{State, Happening, Happened, Input, IsReplyTo, IsTooHeavy, Query, Reply, Done, Refusal, Step, Run, empty_state};
+ghost use Rattle.um_model.specs.Machine.{State, Happening, Happened, Input, IsReplyTo, IsTooHeavy, Query, Reply, Done, Refusal, Step, Run, empty_of};
 ghost use Rattle.um_model.specs.Numbers.{AreNew, started_numbers, actions_in};
 ghost use Rattle.um_model.specs.Refusals.{Refused};
 ghost use Rattle.um_model.specs.Outcomes.{IsSameOutcome};
 ghost use Rattle.um_model.specs.Servable.{IsBlank, IsServable, IsFew, IsFree, Weighs, WeighsNoMore};
 ghost use Rattle.um_model.specs.Service.{Action};
+ghost use Rattle.um_model.specs.declared.profile.Profile.{Profile};
 ghost use Rattle.um_model.specs.StateSpellings.{FitState, state_spelling};
 
 /// Each state and input has a step.
@@ -46,9 +47,9 @@ pub fn runs_join()
         → ((t : State) × Run size s p t × Run size t q u) ↔ Run size s (p ++ q) u }
 {}
 
-/// The empty state is one in which nothing is held.
+/// The empty state of each profile is one in which nothing is held.
 pub fn nothing_is_held_in_the_empty_state()
-    ensures { IsBlank empty_state }
+    ensures { (profile : Profile) → IsBlank (empty_of profile) }
 {}
 
 /// After a run from a state in which nothing is held the pending jobs don't wait for one another in a circle.
@@ -77,8 +78,8 @@ pub fn each_state_has_one_weight()
 
 /// What happens is never refused, and never raises the weight of the state.
 pub fn what_happens_never_raises_the_weight()
-    ensures { (size : ℕ) (s : State) (moment : ℕ) (happening : Happening) (reply : Reply) (actions : List Action) (t : State)
-        → Step size s (record { moment = moment; event = Happened happening }) reply actions t → (reply ≡ Done) × WeighsNoMore t s }
+    ensures { (size : ℕ) (s : State) (profile : Profile) (moment : ℕ) (happening : Happening) (reply : Reply) (actions : List Action) (t : State)
+        → Step size s (record { profile = profile; moment = moment; event = Happened happening }) reply actions t → (reply ≡ Done) × WeighsNoMore t s }
 {}
 
 /// A store of 256 bytes or more may hold a state in which nothing is held, as the empty one.

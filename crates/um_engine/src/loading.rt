@@ -4,7 +4,8 @@ ghost use Rattle.std.specs.Prelude.{◌≡◌, IfOk, Contains, ℕ, List};
 ghost use Rattle.um_engine.specs.Known.{KnowsFor};
 ghost use Rattle.um_model.specs.Machine.{CausesOfLoad, IsBefore, IsHeld};
 ghost use Rattle.um_model.specs.Plan.{NamesCycle};
-ghost use Rattle.um_model.specs.Tree.{Tree};
+ghost use Rattle.um_model.specs.Profiles.{ReadTree};
+ghost use Rattle.um_unit.specs.View.{tree_read};
 ghost use Rattle.um_state.specs.View.{state_of};
 ghost use Rattle.um_wire.specs.Gives.{RefusesBy};
 
@@ -14,12 +15,12 @@ use std::alloc::Global;
 use std::rc::Rc;
 use um_state::State;
 use um_transact::check_pending;
-use um_tree::Tree;
+use um_unit::Reading;
 use um_wire::Refusal;
 
 /// Refuses pending jobs that would wait for one another in a circle by the order of the tree for which that is known (E9).
 pub fn check_order(alloc: Global, known: &Known, state: &State) -> Result<(), Refusal>
-    ensures { (tree : Tree) → KnowsFor known.now (record (state_of state.now) { loaded = tree })
+    ensures { (tree : ReadTree) → KnowsFor known.now (record (state_of state.now) { loaded = tree })
         → RefusesBy (NamesCycle (IsBefore tree) (state_of state.now).pending) result }
 {
     let pending = pending_by_number(alloc, known.graph(), state)?;
@@ -27,14 +28,18 @@ pub fn check_order(alloc: Global, known: &Known, state: &State) -> Result<(), Re
     Ok(())
 }
 
-/// What is known of the units of a tree that the state may load. Refused are too many known units (E13), and pending jobs that would
+/// What is known of the units of a tree that the state may load, as it is read then. Refused are too many known units (E13), and pending jobs that would
 /// wait for one another in a circle (E9).
-pub fn known_of_loaded(alloc: Global, state: &State, tree: &Tree) -> Result<Rc<Known>, Refusal>
-    ensures knows { IfOk result (λ k. KnowsFor k.value (record (state_of state.now) { loaded = tree.now })) }
+pub fn known_of_loaded(
+    alloc: Global,
+    state: &State,
+    reading: Reading<'_>,
+) -> Result<Rc<Known>, Refusal>
+    ensures knows { IfOk result (λ k. KnowsFor k.value (record (state_of state.now) { loaded = tree_read reading.entry })) }
     ensures held { IfOk result (λ k. (unit : List ℕ) → Contains k.value.extra unit → IsHeld (state_of state.now) unit) }
-    ensures refused { RefusesBy (CausesOfLoad (state_of state.now) tree.now) result }
+    ensures refused { RefusesBy (CausesOfLoad (state_of state.now) (tree_read reading.entry)) result }
 {
-    let known = Known::of(alloc, tree, state, None)?;
+    let known = Known::of(alloc, reading, state, None)?;
     check_order(alloc, &known, state)?;
     Ok(known)
 }

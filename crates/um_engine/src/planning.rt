@@ -18,6 +18,7 @@ ghost use Rattle.um_model.specs.Units.{load as load_in};
 ghost use Rattle.um_model.specs.declared.dependencies.Demand as demands;
 ghost use Rattle.um_state.specs.View.{state_of};
 ghost use Rattle.um_wire.specs.Gives.{RefusesBy};
+ghost use Rattle.um_model.specs.declared.profile.Profile.{Profile};
 
 use crate::between::Trees;
 use crate::commands::Outcome;
@@ -199,9 +200,9 @@ fn put_checked(
     ensures works { OnOk result (WorksOn served.now work.new) }
     ensures moment { OnOk result (work.new.moment ≡ work.old.moment) }
     ensures actions { OnOk result (work.new.actions ≡ work.old.actions) }
-    ensures refused { (demand : demands.Demand) (unit : List ℕ)
+    ensures refused { (profile : Profile) (demand : demands.Demand) (unit : List ℕ)
         → Demands served.now.state wanted.now.verb wanted.now.asked.now wanted.now.is_found demand unit → IsTransactionFor served.now.state (demand, unit) transaction.now
-        → RefusesBy (model.Refuses served.now.state (model.ForUnit wanted.now.verb wanted.now.asked.now wanted.now.mode)) result }
+        → RefusesBy (model.Refuses profile served.now.state (model.ForUnit wanted.now.verb wanted.now.asked.now wanted.now.mode)) result }
 {
     put_plan(work, transaction.plan().as_slice())?;
     check_crowded(alloc, served, work)?;
@@ -233,7 +234,7 @@ fn plan_in(
     ensures works { OnOk result (WorksOn served.now work.new) }
     ensures moment { OnOk result (work.new.moment ≡ work.old.moment) }
     ensures actions { OnOk result (work.new.actions ≡ work.old.actions) }
-    ensures refused { RefusesBy (model.Refuses served.now.state (model.ForUnit wanted.now.verb wanted.now.asked.now wanted.now.mode)) result }
+    ensures refused { (profile : Profile) → RefusesBy (model.Refuses profile served.now.state (model.ForUnit wanted.now.verb wanted.now.asked.now wanted.now.mode)) result }
 {
     let situation = situation_of(work)?;
     let transaction = transaction(alloc, work.graph(), &situation, demand, unit)?;
@@ -255,7 +256,7 @@ fn planned_in<'s>(
     ensures works { IfOk result (λ work. WorksOn served.now work) }
     ensures moment { IfOk result (λ work. work.moment ≡ moment) }
     ensures actions { IfOk result (λ work. work.actions ≡ []) }
-    ensures refused { RefusesBy (model.Refuses served.now.state (model.ForUnit wanted.now.verb wanted.now.asked.now wanted.now.mode)) result }
+    ensures refused { (profile : Profile) → RefusesBy (model.Refuses profile served.now.state (model.ForUnit wanted.now.verb wanted.now.asked.now wanted.now.mode)) result }
 {
     let mut work = served.work(alloc, moment)?;
     plan_in(alloc, served, &mut work, demand, unit, wanted)?;
@@ -275,7 +276,7 @@ fn carry_out(
     requires exact { IsGraphFor served.old.state.loaded (IsHeldOr served.old.state unit.now) served.old.known.graph }
     ensures planned { OnOk result (HasPlan served.old.state (demand, unit.now) served.new.state) }
     ensures same { IfOk result (λ changes. changes ≡ false → served.new.state ≡ served.old.state) }
-    ensures refused { RefusesBy (model.Refuses served.old.state (model.ForUnit wanted.now.verb wanted.now.asked.now wanted.now.mode)) result }
+    ensures refused { (profile : Profile) → RefusesBy (model.Refuses profile served.old.state (model.ForUnit wanted.now.verb wanted.now.asked.now wanted.now.mode)) result }
 {
     let moment = served.state().clock();
     let work = planned_in(alloc, served, moment, demand, unit, wanted)?;
@@ -299,7 +300,7 @@ fn planned_with(
     requires exact { IsGraphFor served.now.state.loaded (IsHeldOr served.now.state unit.now) known.value.graph }
     ensures planned { IfOk result (λ made. MatchOption made (HasPlan served.now.state (demand, unit.now) served.now.state)
         (λ u. HasPlan served.now.state (demand, unit.now) u.state)) }
-    ensures refused { RefusesBy (model.Refuses served.now.state (model.ForUnit wanted.now.verb wanted.now.asked.now wanted.now.mode)) result }
+    ensures refused { (profile : Profile) → RefusesBy (model.Refuses profile served.now.state (model.ForUnit wanted.now.verb wanted.now.asked.now wanted.now.mode)) result }
 {
     let state = served.state().copy()?;
     let mut changed = Served::numbered(state, known)?;
@@ -326,7 +327,7 @@ fn planned_by<'s>(
     ensures planned { IfOk result (λ o. HasPlan served.now.state (demand, unit.now) (state_by o)) }
     ensures silent { IfOk result (λ o. IsSilent o) }
     ensures based { IfOk result (λ o. IsBasedOn served.now moment o) }
-    ensures refused { RefusesBy (model.Refuses served.now.state (model.ForUnit wanted.now.verb wanted.now.asked.now wanted.now.mode)) result }
+    ensures refused { (profile : Profile) → RefusesBy (model.Refuses profile served.now.state (model.ForUnit wanted.now.verb wanted.now.asked.now wanted.now.mode)) result }
 {
     if served.known().fits(served.state(), Some(unit)) {
         let work = planned_in(alloc, served, moment, demand, unit, wanted)?;
@@ -351,10 +352,10 @@ fn planned_for<'s>(
 ) -> Result<Outcome<'s>, Refusal>
     requires same { unit.now ≡ model.unit_asked served.now.state wanted.now.asked.now }
     requires finds { wanted.now.is_found ≡ finds (load_in served.now.state.loaded wanted.now.asked.now) }
-    ensures changed { IfOk result (λ o. model.Changes served.now.state (model.ForUnit wanted.now.verb wanted.now.asked.now wanted.now.mode) (state_by o)) }
+    ensures changed { (profile : Profile) → IfOk result (λ o. model.Changes profile served.now.state (model.ForUnit wanted.now.verb wanted.now.asked.now wanted.now.mode) (state_by o)) }
     ensures silent { IfOk result (λ o. IsSilent o) }
     ensures based { IfOk result (λ o. IsBasedOn served.now moment o) }
-    ensures refused { RefusesBy (model.Refuses served.now.state (model.ForUnit wanted.now.verb wanted.now.asked.now wanted.now.mode)) result }
+    ensures refused { (profile : Profile) → RefusesBy (model.Refuses profile served.now.state (model.ForUnit wanted.now.verb wanted.now.asked.now wanted.now.mode)) result }
 {
     let state = served.state();
     let known = served.known_with(alloc, unit)?;
@@ -377,10 +378,10 @@ pub fn planned<'s>(
     asked: &UnitName,
     mode: JobMode,
 ) -> Result<Outcome<'s>, Refusal>
-    ensures changed { IfOk result (λ o. model.Changes served.now.state (model.ForUnit verb asked.now mode) (state_by o)) }
+    ensures changed { (profile : Profile) → IfOk result (λ o. model.Changes profile served.now.state (model.ForUnit verb asked.now mode) (state_by o)) }
     ensures silent { IfOk result (λ o. IsSilent o) }
     ensures based { IfOk result (λ o. IsBasedOn served.now moment o) }
-    ensures refused { RefusesBy (model.Refuses served.now.state (model.ForUnit verb asked.now mode)) result }
+    ensures refused { (profile : Profile) → RefusesBy (model.Refuses profile served.now.state (model.ForUnit verb asked.now mode)) result }
 {
     let state = served.state();
     let Asked { unit, is_found } = Asked::of(alloc, served.known().graph(), state.loaded(), asked)?;

@@ -6,6 +6,7 @@ ghost use Rattle.um_falling.specs.Work.{Goes, Keeps};
 ghost use Rattle.um_model.specs.Machine as model;
 ghost use Rattle.um_state.specs.View.{state_of};
 ghost use Rattle.um_wire.specs.Gives.{RefusesBy};
+ghost use Rattle.um_model.specs.declared.profile.Profile.{Profile};
 
 use crate::served::Served;
 use std::alloc::{AllocError, Global};
@@ -61,7 +62,7 @@ fn units_reset(
     asked: &Option<UnitName>,
 ) -> Result<Vec<UnitName>, Refusal>
     ensures units { IfOk result (λ units. units.items ≡ model.units_reset served.now.state asked.now) }
-    ensures refused { RefusesBy (model.Refuses served.now.state (model.ResetFailed asked.now)) result }
+    ensures refused { (profile : Profile) → RefusesBy (model.Refuses profile served.now.state (model.ResetFailed asked.now)) result }
 {
     match asked {
         Some(asked) => {
@@ -80,10 +81,10 @@ pub fn without_failures<'s>(
     moment: Moment,
     asked: &Option<UnitName>,
 ) -> Result<Work<'s>, Refusal>
-    ensures does { IfOk result (λ work. model.Does moment served.now.state (model.ResetFailed asked.now) work.actions (state_of work.now)) }
+    ensures does { (profile : Profile) → IfOk result (λ work. model.Does profile moment served.now.state (model.ResetFailed asked.now) work.actions (state_of work.now)) }
     ensures works { IfOk result (WorksOn served.now) }
     ensures moment { IfOk result (λ work. work.moment ≡ moment) }
-    ensures refused { RefusesBy (model.Refuses served.now.state (model.ResetFailed asked.now)) result }
+    ensures refused { (profile : Profile) → RefusesBy (model.Refuses profile served.now.state (model.ResetFailed asked.now)) result }
 {
     let units = units_reset(alloc, served, asked)?;
     let mut work = served.work(alloc, moment)?;

@@ -1,11 +1,14 @@
-//! Whether two trees, or two lists of names, are the same.
+//! Whether two trees, two readings, or two lists of names are the same.
 
 ghost use Rattle.std.specs.FinMap as map;
 ghost use Rattle.std.specs.Prelude.{◌≡◌, ◌↔◌, Some, IsTrue, option_copied, option_map};
 ghost use Rattle.um_tree.specs.View.{entry_of, path_with_entry};
+ghost use Rattle.um_unit.specs.View.{tree_read};
 
+use um_model::Profile;
 use um_name::{Names, UnitName};
 use um_tree::{Entries, Entry, Tree};
+use um_unit::Reading;
 
 /// Whether both are files with the same text, or links to the same target.
 fn is_same_entry(entry: Entry<'_>, other: Entry<'_>) -> bool
@@ -56,6 +59,23 @@ pub fn is_same_tree(tree: &Tree, other: &Tree) -> bool
     ensures { IsTrue result ↔ (tree.now ≡ other.now) }
 {
     tree.len() == other.len() && are_same_entries(tree.entries(), other.entries())
+}
+
+/// Whether both are the same profile.
+fn is_same_profile(profile: Profile, other: Profile) -> bool
+    ensures { IsTrue result ↔ (profile ≡ other) }
+{
+    match (profile, other) {
+        (Profile::One, Profile::One) | (Profile::Two, Profile::Two) => true,
+        (Profile::One, Profile::Two) | (Profile::Two, Profile::One) => false,
+    }
+}
+
+/// Whether both have the same entries, read by the same profile. It takes no memory.
+pub fn is_same_reading(reading: Reading<'_>, other: Reading<'_>) -> bool
+    ensures { IsTrue result ↔ (tree_read reading.entry ≡ tree_read other.entry) }
+{
+    is_same_profile(reading.profile, other.profile) && is_same_tree(reading.tree, other.tree)
 }
 
 /// Whether both are the same name, or none.

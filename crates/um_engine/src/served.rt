@@ -73,7 +73,7 @@ impl Served {
     {
         let mut numbered = state;
         numbered.number(known.names())?;
-        let trees = numbered.tree().weight() + numbered.loaded().weight();
+        let trees = numbered.tree().weight() + numbered.loaded().tree.weight();
         Ok(Served {
             state: numbered,
             known,

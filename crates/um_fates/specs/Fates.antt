@@ -4,6 +4,7 @@
 use Rattle.std.specs.Prelude.{◌≡◌, ◌==◌, ℕ, List, [], ◌∷◌, ◌++◌, flat_map, map, Bool, false, if◌then◌else◌, IsTrue, Option, Some, None, ⊤}
 use Rattle.um_model.specs.Children.{Call, Asked, Tale}
 use Rattle.um_model.specs.Machine.{Input, Happening, Happened, ProcessEnded, ProcessExecuted, Tick}
+use Rattle.um_model.specs.Profiles.{current}
 use Rattle.um_model.specs.declared.children.Fate.{Fate}
 use Rattle.um_model.specs.declared.children.Fate.TheVariants.{Starting, Executed, Ended, Absent}
 use Rattle.um_model.specs.declared.service.End.{End}
@@ -15,9 +16,9 @@ use Rattle.um_state.specs.declared.input.Input as declared
 abbrev pub inputs_in : List declared.Input → List Input
 inputs_in inputs = map input_of inputs
 
--- what happens at this moment, as an input
+-- what happens at this moment, as an input of the current profile
 abbrev pub happens_at : ℕ → Happening → Input
-happens_at moment happening = record { moment = moment; event = Happened happening }
+happens_at moment happening = record { profile = current; moment = moment; event = Happened happening }
 
 -- the end of a process whose program could not be executed
 abbrev pub unexecuted : End

@@ -10,7 +10,7 @@ use Rattle.std.proofs.lemmas.Map.Keys.{Less-from_sorted}
 use Rattle.std.proofs.lemmas.Map.Lookups.{exact_bytes}
 use Rattle.std.proofs.lemmas.Map.Views.{btree_map_contains_key_iff}
 use Rattle.um_model.specs.Dependencies.{CountsFor, IsKnown, KnowsSoMany, KnowsTooMany}
-use Rattle.um_model.specs.Tree.{Tree, without_run}
+use Rattle.um_model.specs.Profiles.{ReadTree, lasting_tree}
 use Rattle.um_graph.specs.Known.{CountsLasting, IsUnderWay, Loaded}
 use Rattle.um_graph.specs.declared.told.Told.{Told}
 use Rattle.um_graph.proofs.KnownLaws.{all_followed}
@@ -36,7 +36,7 @@ no_more (x ∷ xs) ys h f =
     apart : (z : _) → Contains xs z → x ≢ z
     apart z (k, lt, e) q = h 0 (suc k) z (omega arith) (omega arith) (q ∙ sym e)
 
-module _ (tree : Tree) (extra : List (List ℕ)) (loaded : Loaded) where
+module _ (tree : ReadTree) (extra : List (List ℕ)) (loaded : Loaded) where
   keys_followed : (x : List ℕ) → IsSome (sorted.get (slice_cmp nat_cmp) loaded x) ↔ Contains (sorted.keys loaded) x
   keys_followed x = btree_map_contains_key_iff nat_list_cmp_total exact_bytes loaded x
 
@@ -62,12 +62,12 @@ module _ (tree : Tree) (extra : List (List ℕ)) (loaded : Loaded) where
       omega (arith, m, k.many, few, length-map loaded.entries (λ (e : List ℕ × _). e.0))
 
 -- the greater of the two counts, where the tree without its entries under `run/` is another
-pub counts_for : (tree : Tree) (extra : List (List ℕ)) (o : Option ℕ) (held n count : ℕ) → CountsLasting tree extra o → KnowsSoMany tree (Contains extra) held → n ≡ held → count ≡ max n (unwrap_or o n) → CountsFor tree (Contains extra) count
+pub counts_for : (tree : ReadTree) (extra : List (List ℕ)) (o : Option ℕ) (held n count : ℕ) → CountsLasting tree extra o → KnowsSoMany tree (Contains extra) held → n ≡ held → count ≡ max n (unwrap_or o n) → CountsFor tree (Contains extra) count
 counts_for tree extra None held n count same knows is e =
     record { held = held; lasting = held; by_tree = knows; by_rest = subst (λ t. KnowsSoMany t (Contains extra) held) (sym same) knows; greater = e ∙ ap (λ m. max m m) is }
 counts_for tree extra (Some lasting) held n count told knows is e =
     record { held = held; lasting = lasting; by_tree = knows; by_rest = told.0; greater = e ∙ ap (λ m. max m lasting) is }
 
-pub few_lasting : (tree : Tree) (extra : List (List ℕ)) (o : Option ℕ) → CountsLasting tree extra o → ¬ KnowsTooMany tree (Contains extra) → ¬ KnowsTooMany (without_run tree) (Contains extra)
+pub few_lasting : (tree : ReadTree) (extra : List (List ℕ)) (o : Option ℕ) → CountsLasting tree extra o → ¬ KnowsTooMany tree (Contains extra) → ¬ KnowsTooMany (lasting_tree tree) (Contains extra)
 few_lasting tree extra None same few k = few (subst (λ t. KnowsTooMany t (Contains extra)) same k)
 few_lasting tree extra (Some lasting) told few k = told.1 k

@@ -13,6 +13,7 @@ use Rattle.std.proofs.lemmas.Map.Keys.{Less-from_sorted}
 use Rattle.std.proofs.lemmas.Map.Lookups.{exact_bytes}
 use Rattle.std.proofs.lemmas.Map.Views.{btree_map_contains_key_iff}
 use Rattle.std.proofs.lemmas.Option.{slice_get-get_or, slice_get-map}
+use Rattle.um_model.specs.Profiles.{ReadTree}
 use Rattle.um_model.specs.Dependencies.{Declares, Declines, Depends as DependsOn, Gives, IsDeclared, IsKnown, KnowsTooMany, Orders, Precedes, PullsIn, loadable_in, loadable_of, unit_limit}
 use Rattle.um_model.specs.Resolution.{shutdown_target}
 use Rattle.um_model.specs.Dependencies as model
@@ -79,7 +80,7 @@ unit_at units i x e = by (slice_get units i) refl
     by None f = let no : option_map (λ (u : Unit). u.name) None ≡ Some x = ap (option_map (λ (u : Unit). u.name)) (sym f) ∙ whole in cc
     by (Some u) f = let yes : option_map (λ (u : Unit). u.name) (Some u) ≡ Some x = ap (option_map (λ (u : Unit). u.name)) (sym f) ∙ whole in (u, f, cc)
 
-module _ (tree : Tree) (extra : List (List ℕ)) (loaded : Loaded) (told : List Told) (w : IsUnderWay tree extra loaded [] told) where
+module _ (tree : ReadTree) (extra : List (List ℕ)) (loaded : Loaded) (told : List Told) (w : IsUnderWay tree extra loaded [] told) where
   abbrev Extra : List ℕ → Type 0
   Extra = Contains extra
 
@@ -117,7 +118,7 @@ module _ (tree : Tree) (extra : List (List ℕ)) (loaded : Loaded) (told : List 
       by : IsTold tree extra (tell Ending x y) → Orders tree Extra x y
       by (by_unit a k d) =
           let e = told_ends tree a x y d in
-          let o : Orders tree Extra e.unit.name (unit_named tree shutdown_target) = model.ending k e.loadable e.defaults in
+          let o : Orders tree Extra e.unit.name (unit_named tree.entries shutdown_target) = model.ending k e.loadable e.defaults in
           subst (λ z. Orders tree Extra z y) e.first (subst (Orders tree Extra e.unit.name) e.second o)
       by (by_link d) = let no : Ending ≡ Depends (link_depends tree (tell Ending x y) d).0 = (link_depends tree (tell Ending x y) d).1 in cc
 
@@ -380,8 +381,8 @@ module _ (tree : Tree) (extra : List (List ℕ)) (loaded : Loaded) (told : List 
         pulled (inl d) = pulled_by kinds.Wants (inl refl) d
         pulled (inr d) = pulled_by kinds.Requires (inr refl) d
     order_in _ _ (model.ending {a = n} {l = l} k h d) i j is js ne =
-        inr (bonds.ends_in middle edges i j (edge_in i j l.name (unit_named tree shutdown_target) is js Ending ne
-        (w.whole n (all_followed tree extra loaded told w n k) (tell Ending l.name (unit_named tree shutdown_target)) (ends_told tree n l h d))))
+        inr (bonds.ends_in middle edges i j (edge_in i j l.name (unit_named tree.entries shutdown_target) is js Ending ne
+        (w.whole n (all_followed tree extra loaded told w n k) (tell Ending l.name (unit_named tree.entries shutdown_target)) (ends_told tree n l h d))))
 
     precedes_iff : (i j : ℕ) (x y : List ℕ) → slice_get (names_of units) i ≡ Some x → slice_get (names_of units) j ≡ Some y → Goes i j ↔ Precedes tree Extra x y
     unfolding Goes

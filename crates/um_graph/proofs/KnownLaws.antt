@@ -9,6 +9,7 @@ use Rattle.std.specs.Ordering.{eq_by_cmp, nat_cmp}
 use Rattle.std.proofs.lemmas.List.Elements.{Contains-append_left, Contains-append_right, Contains-append_cases, Contains-push, Contains-push_cases}
 use Rattle.std.proofs.lemmas.Map.Lookups.{exact_bytes}
 use Rattle.std.proofs.lemmas.Map.Views.{tells_apart}
+use Rattle.um_model.specs.Profiles.{ReadTree}
 use Rattle.um_model.specs.Dependencies.{IsKnown, IsNamed, KnowsTooMany, Gives, Declares, Mentions, loadable_of}
 use Rattle.um_model.specs.Dependencies as model
 use Rattle.um_model.specs.Reached.{first, next}
@@ -66,7 +67,7 @@ module _ (loaded : Loaded) where
       )
 
 -- ---- what is told makes its names known
-module _ (tree : Tree) (extra : List (List ℕ)) where
+module _ (tree : ReadTree) (extra : List (List ℕ)) where
   abbrev Known : List ℕ → Type 0
   Known = IsKnown tree (Contains extra)
 
@@ -75,23 +76,23 @@ module _ (tree : Tree) (extra : List (List ℕ)) where
   told_known t (by_link c) =
       let d = link_depends tree t c in
       let same : t ≡ tell (Depends d.0) t.from t.to = ap (λ l. tell l t.from t.to) d.1 in
-      let g = link_gives tree d.0 t.from t.to (subst (Contains (links_told tree)) same c) in
+      let g = link_gives tree d.0 t.from t.to (subst (Contains (links_told tree.entries)) same c) in
       let k : Known g.0 = first (g.1 (Contains extra)) in
       (next k (model.owner g.2), next k (model.other g.2))
 
   -- ---- the beginning
-  pub begun : (loaded : Loaded) (left : List (List ℕ)) (told : List Told) → ((x : List ℕ) → loading_at loaded x ≡ None) → told ≡ links_told tree
-      → left ≡ (extra ++ flat_map entry_names (map.entries tree)) ++ flat_map (ends_left loaded) told → IsUnderWay tree extra loaded left told
+  pub begun : (loaded : Loaded) (left : List (List ℕ)) (told : List Told) → ((x : List ℕ) → loading_at loaded x ≡ None) → told ≡ links_told tree.entries
+      → left ≡ (extra ++ flat_map entry_names (map.entries tree.entries)) ++ flat_map (ends_left loaded) told → IsUnderWay tree extra loaded left told
   begun loaded left told none t l = record {
     loads = λ x v e. let no : None ≡ Some v = sym (none x) ∙ e in cc;
     known = λ x m. elim m as (λ _. Known x) [
       | inl f ↦ absurd (not_followed x f)
       | inr c ↦ left_known x (subst (λ xs. Contains xs x) l c)
     ];
-    named = λ x n. inr (subst (λ xs. Contains xs x) (sym l) (Contains-append_left (extra ++ flat_map entry_names (map.entries tree)) (flat_map (ends_left loaded) told) x (
-        elim (names_in_entries tree extra x n) as (λ _. Contains (extra ++ flat_map entry_names (map.entries tree)) x) [
-          | inl a ↦ Contains-append_left extra (flat_map entry_names (map.entries tree)) x a
-          | inr b ↦ Contains-append_right extra (flat_map entry_names (map.entries tree)) x b
+    named = λ x n. inr (subst (λ xs. Contains xs x) (sym l) (Contains-append_left (extra ++ flat_map entry_names (map.entries tree.entries)) (flat_map (ends_left loaded) told) x (
+        elim (names_in_entries tree extra x n) as (λ _. Contains (extra ++ flat_map entry_names (map.entries tree.entries)) x) [
+          | inl a ↦ Contains-append_left extra (flat_map entry_names (map.entries tree.entries)) x a
+          | inr b ↦ Contains-append_right extra (flat_map entry_names (map.entries tree.entries)) x b
         ])));
     sound = λ u c. by_link (subst (λ ts. Contains ts u) t c);
     linked = λ u c. subst (λ ts. Contains ts u) (sym t) c;
@@ -104,28 +105,28 @@ module _ (tree : Tree) (extra : List (List ℕ)) where
 
       in_left : (x : List ℕ) → IsFollowed loaded x ⊎ Contains (flat_map (ends_left loaded) told) x → IsMet loaded left x
       in_left x (inl f) = inl f
-      in_left x (inr c) = inr (subst (λ xs. Contains xs x) (sym l) (Contains-append_right (extra ++ flat_map entry_names (map.entries tree)) (flat_map (ends_left loaded) told) x c))
+      in_left x (inr c) = inr (subst (λ xs. Contains xs x) (sym l) (Contains-append_right (extra ++ flat_map entry_names (map.entries tree.entries)) (flat_map (ends_left loaded) told) x c))
 
       an_end : (x : List ℕ) → (u : Told) × Contains told u × ((u.from ≡ x) ⊎ (u.to ≡ x)) → Known x
       an_end x (u, c, inl e) = subst Known e (told_known u (by_link (subst (λ ts. Contains ts u) t c))).0
       an_end x (u, c, inr e) = subst Known e (told_known u (by_link (subst (λ ts. Contains ts u) t c))).1
 
-      left_known : (x : List ℕ) → Contains ((extra ++ flat_map entry_names (map.entries tree)) ++ flat_map (ends_left loaded) told) x → Known x
-      left_known x c = elim (Contains-append_cases (extra ++ flat_map entry_names (map.entries tree)) (flat_map (ends_left loaded) told) x c) as (λ _. Known x) [
-        | inl a ↦ elim (Contains-append_cases extra (flat_map entry_names (map.entries tree)) x a) as (λ _. Known x) [
+      left_known : (x : List ℕ) → Contains ((extra ++ flat_map entry_names (map.entries tree.entries)) ++ flat_map (ends_left loaded) told) x → Known x
+      left_known x c = elim (Contains-append_cases (extra ++ flat_map entry_names (map.entries tree.entries)) (flat_map (ends_left loaded) told) x c) as (λ _. Known x) [
+        | inl a ↦ elim (Contains-append_cases extra (flat_map entry_names (map.entries tree.entries)) x a) as (λ _. Known x) [
           | inl b ↦ first (model.extra b)
           | inr b ↦ first (names_out tree (Contains extra) x b)
         ]
         | inr a ↦ an_end x (ends_are loaded told x a)
       ]
 
-  pub begun_by : (fresh loaded : Loaded) (names left : List (List ℕ)) (list told : List Told) → ((x : List ℕ) → loading_at fresh x ≡ None) → loaded ≡ fresh → list ≡ links_told tree
-      → told ≡ list → names ≡ extra ++ flat_map entry_names (map.entries tree) → left ≡ names ++ flat_map (ends_left fresh) list → IsUnderWay tree extra loaded left told
+  pub begun_by : (fresh loaded : Loaded) (names left : List (List ℕ)) (list told : List Told) → ((x : List ℕ) → loading_at fresh x ≡ None) → loaded ≡ fresh → list ≡ links_told tree.entries
+      → told ≡ list → names ≡ extra ++ flat_map entry_names (map.entries tree.entries) → left ≡ names ++ flat_map (ends_left fresh) list → IsUnderWay tree extra loaded left told
   begun_by fresh loaded names left list told none same links tolds named lefts =
       begun loaded left told (λ x. ap (λ m. loading_at m x) same ∙ none x) (tolds ∙ links)
       (lefts ∙ (ap (λ ns. ns ++ flat_map (ends_left fresh) list) named
-      ∙ (ap (λ m. (extra ++ flat_map entry_names (map.entries tree)) ++ flat_map (ends_left m) list) (sym same)
-      ∙ ap (λ ts. (extra ++ flat_map entry_names (map.entries tree)) ++ flat_map (ends_left loaded) ts) (sym tolds))))
+      ∙ (ap (λ m. (extra ++ flat_map entry_names (map.entries tree.entries)) ++ flat_map (ends_left m) list) (sym same)
+      ∙ ap (λ ts. (extra ++ flat_map entry_names (map.entries tree.entries)) ++ flat_map (ends_left loaded) ts) (sym tolds))))
 
   -- ---- a name that was followed is left out
   pub left_out : (loaded : Loaded) (old new : List (List ℕ)) (told : List Told) → LeavesOut loaded old new → IsUnderWay tree extra loaded old told → IsUnderWay tree extra loaded new told

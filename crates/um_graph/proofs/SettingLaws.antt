@@ -2,6 +2,7 @@
 use Rattle.std.proofs.Common.{◌≡◌, ◌∙◌, ℕ, Bool, true, false, List, [], ◌∷◌, map, Contains, Option, Some, None, Ok, Err, if◌then◌else◌, refl, sym, ap, subst, inl, inr, codes}
 use Rattle.std.specs.Prelude.{filter_map}
 use Rattle.std.specs.List.{cons_option}
+use Rattle.um_model.specs.Profiles.{ReadTree}
 use Rattle.um_model.specs.Dependencies.{loadable_of, loadable_in, names_in}
 use Rattle.um_model.specs.Names.{is_template, is_unit_name, suffix_of}
 use Rattle.std.specs.Result.{result_ok}
@@ -109,6 +110,6 @@ loadable_found (Masked unit) l h = cc
 loadable_found NotFound l h = cc
 loadable_found (BadSetting unit reason) l h = cc
 
-pub names_of_loadable : (tree : Tree) (a : List ℕ) (l : LoadedUnit) → loadable_in tree a ≡ Some l → AreNames l.settings.dependencies
+pub names_of_loadable : (tree : ReadTree) (a : List ℕ) (l : LoadedUnit) → loadable_in tree a ≡ Some l → AreNames l.settings.dependencies
 unfolding load
-names_of_loadable tree a l h = found_names tree (resolution_of tree a) l (loadable_found (load tree a) l h)
+names_of_loadable tree a l h = found_names tree.entries (resolution_of tree.entries a) l (loadable_found (load tree a) l h)

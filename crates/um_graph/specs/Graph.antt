@@ -4,7 +4,7 @@
 use Rattle.std.specs.Prelude.{◌≡◌, ◌≢◌, ℕ, ◌<◌, ◌≤◌, ◌↔◌, true, List, [], length, All, AllPairs, Contains, Option, Some, None, option_map, slice_get, find}
 use Rattle.um_model.specs.Dependencies.{IsKnown, Depends, Precedes, unit_limit}
 use Rattle.um_model.specs.Least.{IsNamedBefore}
-use Rattle.um_model.specs.Tree.{Tree}
+use Rattle.um_model.specs.Profiles.{ReadTree}
 use Rattle.um_model.specs.Units.{load}
 use Rattle.um_model.specs.declared.dependencies.DependencyKind.{DependencyKind}
 use Rattle.um_unit.specs.View.{loading_of}
@@ -63,7 +63,7 @@ abbrev pub IsNumberOf : GraphView → ℕ → List ℕ → Type 0
 IsNumberOf g i x = slice_get g.names i ≡ Some x
 
 -- the graph of the tree and of the units that are named beside it
-pub record IsGraphOf (tree : Tree) (Extra : List ℕ → Type 0) (g : GraphView) : Type 0 where
+pub record IsGraphOf (tree : ReadTree) (Extra : List ℕ → Type 0) (g : GraphView) : Type 0 where
   pub known : (x : List ℕ) → Contains g.names x ↔ IsKnown tree Extra x
   pub sorted : AllPairs IsNamedBefore g.names
   pub loaded : (i : ℕ) (x : List ℕ) → IsNumberOf g i x → option_map loading_of (slice_get g.loadings i) ≡ Some (load tree x)

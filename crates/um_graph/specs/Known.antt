@@ -8,7 +8,8 @@ use Rattle.std.specs.FinMap as map
 use Rattle.std.specs.List.{flat_map}
 use Rattle.std.specs.Ordering.{nat_cmp}
 use Rattle.um_model.specs.Dependencies.{IsKnown, IsNamed, KnowsSoMany, KnowsTooMany}
-use Rattle.um_model.specs.Tree.{Tree, without_run}
+use Rattle.um_model.specs.Profiles.{ReadTree, lasting_tree}
+use Rattle.um_model.specs.Tree.{Tree}
 use Rattle.um_model.specs.Units.{load}
 use Rattle.um_unit.specs.View.{loading_of}
 use Rattle.um_unit.specs.declared.loaded.Loading.{Loading}
@@ -42,24 +43,24 @@ abbrev pub links_told : Tree → List Told
 links_told tree = flat_map (entry_told tree) (map.entries tree)
 
 -- a known name or a link tells it
-pub data IsTold (tree : Tree) (extra : List (List ℕ)) (t : Told) : Type 0 where
+pub data IsTold (tree : ReadTree) (extra : List (List ℕ)) (t : Told) : Type 0 where
   by_unit : (a : List ℕ) → IsKnown tree (Contains extra) a → Contains (told_in tree a) t → IsTold tree extra t
-  by_link : Contains (links_told tree) t → IsTold tree extra t
+  by_link : Contains (links_told tree.entries) t → IsTold tree extra t
 
 -- the search is under way: nothing is forgotten, and nothing too much
-pub record IsUnderWay (tree : Tree) (extra : List (List ℕ)) (loaded : Loaded) (left : List (List ℕ)) (told : List Told) : Type 0 where
+pub record IsUnderWay (tree : ReadTree) (extra : List (List ℕ)) (loaded : Loaded) (left : List (List ℕ)) (told : List Told) : Type 0 where
   pub loads : (x : List ℕ) (l : Loading) → loading_at loaded x ≡ Some l → loading_of l ≡ load tree x
   pub known : (x : List ℕ) → IsMet loaded left x → IsKnown tree (Contains extra) x
   pub named : (x : List ℕ) → IsNamed tree (Contains extra) x → IsMet loaded left x
   pub sound : (t : Told) → Contains told t → IsTold tree extra t
-  pub linked : (t : Told) → Contains (links_told tree) t → Contains told t
+  pub linked : (t : Told) → Contains (links_told tree.entries) t → Contains told t
   pub whole : (x : List ℕ) → IsFollowed loaded x → (t : Told) → Contains (told_in tree x) t → Contains told t
   pub ends : (t : Told) → Contains told t → IsMet loaded left t.from × IsMet loaded left t.to
 
 -- so many units are known, and not too many, by the tree without its entries under `run/`; nothing is told where it is the tree itself
-abbrev pub CountsLasting : Tree → List (List ℕ) → Option ℕ → Type 0
-CountsLasting tree extra None = without_run tree ≡ tree
-CountsLasting tree extra (Some count) = KnowsSoMany (without_run tree) (Contains extra) count × ¬ KnowsTooMany (without_run tree) (Contains extra)
+abbrev pub CountsLasting : ReadTree → List (List ℕ) → Option ℕ → Type 0
+CountsLasting tree extra None = lasting_tree tree ≡ tree
+CountsLasting tree extra (Some count) = KnowsSoMany (lasting_tree tree) (Contains extra) count × ¬ KnowsTooMany (lasting_tree tree) (Contains extra)
 
 -- names were left out that had been followed, and no other
 pub record LeavesOut (loaded : Loaded) (old new : List (List ℕ)) : Type 0 where

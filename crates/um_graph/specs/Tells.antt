@@ -4,6 +4,7 @@
 use Rattle.std.specs.Prelude.{ℕ, List, [], ◌∷◌, ◌++◌, Option, Some, None, if◌then◌else◌}
 use Rattle.std.specs.List.{flat_map}
 use Rattle.um_model.specs.Names.{is_template, named}
+use Rattle.um_model.specs.Profiles.{ReadTree}
 use Rattle.um_model.specs.Tree.{Tree, Entry, File, Link as link_to, PathParts, Place, Unit, DropIn, Wants, Requires, path_parts}
 use Rattle.um_model.specs.Resolution.{shutdown_target}
 use Rattle.um_model.specs.Units.{LoadedUnit, unit_named}
@@ -68,8 +69,8 @@ told_where tree None = []
 told_where tree (Some l) = told_of tree l
 
 -- all that a name tells by the settings of its unit
-abbrev pub told_in : Tree → List ℕ → List Told
-told_in tree name = told_where tree (loadable_in tree name)
+abbrev pub told_in : ReadTree → List ℕ → List Told
+told_in tree name = told_where tree.entries (loadable_in tree name)
 
 -- ---- by a tree's entries
 

@@ -7,39 +7,43 @@ ghost use Rattle.std.specs.Map.{keys_of};
 ghost use Rattle.std.specs.Ordering.{nat_cmp};
 ghost use Rattle.um_model.specs.Dependencies.{CountsFor, IsKnown, KnowsSoMany};
 ghost use Rattle.um_model.specs.Least.{IsNamedBefore};
-ghost use Rattle.um_model.specs.Tree.{without_run};
+ghost use Rattle.um_model.specs.Profiles.{lasting_tree};
+ghost use Rattle.um_unit.specs.View.{tree_read};
 
 use crate::known::Known;
 use std::alloc::{AllocError, Global};
 use std::collections::BTreeMap;
 use um_name::UnitName;
-use um_tree::Tree;
-use um_unit::Loading;
+use um_unit::{Loading, Reading};
 
 /// How many units are known by the tree.
-fn known_count(alloc: Global, tree: &Tree, extra: &[UnitName]) -> Result<usize, AllocError>
-    ensures { IfOk result (λ count. KnowsSoMany tree.now (Contains extra.now) count) }
+fn known_count(alloc: Global, reading: Reading<'_>, extra: &[UnitName]) -> Result<usize, AllocError>
+    ensures { IfOk result (λ count. KnowsSoMany (tree_read reading.entry) (Contains extra.now) count) }
 {
-    let known = Known::all(alloc, tree, extra)?;
+    let known = Known::all(alloc, reading, extra)?;
     Ok(known.loaded.len())
 }
 
 /// How many units are known by the tree without its entries under `run/`.
-fn lasting_count(alloc: Global, tree: &Tree, extra: &[UnitName]) -> Result<usize, AllocError>
-    ensures { IfOk result (λ count. KnowsSoMany (without_run tree.now) (Contains extra.now) count) }
+fn lasting_count(alloc: Global, reading: Reading<'_>, extra: &[UnitName]) -> Result<usize, AllocError>
+    ensures { IfOk result (λ count. KnowsSoMany (lasting_tree (tree_read reading.entry)) (Contains extra.now) count) }
 {
-    let mut lasting = tree.copy()?;
+    let mut lasting = reading.tree.copy()?;
     lasting.clear_run();
-    known_count(alloc, &lasting, extra)
+    let reading = Reading {
+        tree: &lasting,
+        profile: reading.profile,
+    };
+    known_count(alloc, reading, extra)
 }
 
 /// For how many units the tree counts, with those that are named beside it: the greater of the counts of known units now and
 /// without the entries under `run/`.
-pub fn count_of(alloc: Global, tree: &Tree, extra: &[UnitName]) -> Result<usize, AllocError>
-    ensures { IfOk result (λ count. CountsFor tree.now (Contains extra.now) count) }
+pub fn count_of(alloc: Global, reading: Reading<'_>, extra: &[UnitName]) -> Result<usize, AllocError>
+    ensures { IfOk result (λ count. CountsFor (tree_read reading.entry) (Contains extra.now) count) }
 {
-    let held = known_count(alloc, tree, extra)?;
-    let lasting = lasting_count(alloc, tree, extra)?;
+    let held = known_count(alloc, reading, extra)?;
+    let lasting = lasting_count(alloc, reading, extra)?;
     Ok(held.max(lasting))
 }
 
@@ -66,13 +70,13 @@ fn names_of(alloc: Global, loaded: BTreeMap<UnitName, Loading>) -> Result<Vec<Un
 /// The known units of the tree, with those that are named beside it, in the order of their names.
 pub fn known_units(
     alloc: Global,
-    tree: &Tree,
+    reading: Reading<'_>,
     extra: &[UnitName],
 ) -> Result<Vec<UnitName>, AllocError>
-    ensures known { IfOk result (λ names. (unit : List ℕ) → Contains names.items unit ↔ IsKnown tree.now (Contains extra.now) unit) }
+    ensures known { IfOk result (λ names. (unit : List ℕ) → Contains names.items unit ↔ IsKnown (tree_read reading.entry) (Contains extra.now) unit) }
     ensures sorted { IfOk result (λ names. AllPairs IsNamedBefore names.items) }
 {
-    let known = Known::all(alloc, tree, extra)?;
+    let known = Known::all(alloc, reading, extra)?;
     let names = names_of(alloc, known.loaded)?;
     Ok(names)
 }

@@ -1,7 +1,8 @@
 ghost use Rattle.std.specs.Prelude.{◌≡◌, ◌⊎◌, ◌<◌, [], ℕ, All, Option, Some, Contains, IfOk, IfErr, MatchOption, length, map, max, option_copied, slice_get, unwrap_or};
 ghost use Rattle.std.specs.Map.{values_of};
 ghost use Rattle.um_model.specs.Dependencies.{CountsFor, KnowsTooMany};
-ghost use Rattle.um_model.specs.Tree.{without_run};
+ghost use Rattle.um_model.specs.Profiles.{lasting_tree};
+ghost use Rattle.um_unit.specs.View.{tree_read};
 ghost use Rattle.um_graph.specs.Edges.{AreUnits};
 ghost use Rattle.um_graph.specs.Graph.{GraphView, IsGraph, IsGraphOf, IsNumberOf, first_after, row_of};
 ghost use Rattle.um_graph.specs.Known.{CountsLasting};
@@ -17,8 +18,7 @@ use crate::units::Units;
 use std::alloc::{AllocError, Global};
 use std::marker::Model;
 use um_name::UnitName;
-use um_tree::Tree;
-use um_unit::Loading;
+use um_unit::{Loading, Reading};
 use um_wire::Refusal;
 
 /// All known units of a tree, numbered from 0 in ascending order of their names, with what their files say and their
@@ -40,20 +40,20 @@ impl Model for Graph {
 }
 
 impl Graph {
-    /// The graph of the tree, and of the units that are named beside it: those of which the state holds something, or that a
+    /// The graph of the tree as it is read, and of the units that are named beside it: those of which the state holds something, or that a
     /// command names. Refused is a tree by which more than 1,024 units are known, now or without its entries under `run/`
     /// (E13 `units`), and want of memory (E15).
-    pub fn of(alloc: Global, tree: &Tree, extra: &[UnitName]) -> Result<Graph, Refusal>
+    pub fn of(alloc: Global, reading: Reading<'_>, extra: &[UnitName]) -> Result<Graph, Refusal>
         ensures whole { IfOk result IsGraph }
-        ensures graph { IfOk result (λ g. IsGraphOf tree.now (λ x. Contains extra.now x) g) }
-        ensures count { IfOk result (λ g. CountsFor tree.now (λ x. Contains extra.now x) g.count) }
-        ensures few { IfOk result (λ _. ¬ (KnowsTooMany tree.now (λ x. Contains extra.now x)
-            ⊎ KnowsTooMany (without_run tree.now) (λ x. Contains extra.now x))) }
+        ensures graph { IfOk result (λ g. IsGraphOf (tree_read reading.entry) (λ x. Contains extra.now x) g) }
+        ensures count { IfOk result (λ g. CountsFor (tree_read reading.entry) (λ x. Contains extra.now x) g.count) }
+        ensures few { IfOk result (λ _. ¬ (KnowsTooMany (tree_read reading.entry) (λ x. Contains extra.now x)
+            ⊎ KnowsTooMany (lasting_tree (tree_read reading.entry)) (λ x. Contains extra.now x))) }
         ensures refused { IfErr result (λ e. ¬ (e ≡ refusals.NoMemory) → (e ≡ refusals.TooLarge limits.Units)
-            × (KnowsTooMany tree.now (λ x. Contains extra.now x) ⊎ KnowsTooMany (without_run tree.now) (λ x. Contains extra.now x))) }
+            × (KnowsTooMany (tree_read reading.entry) (λ x. Contains extra.now x) ⊎ KnowsTooMany (lasting_tree (tree_read reading.entry)) (λ x. Contains extra.now x))) }
     {
-        let lasting = lasting_count(alloc, tree, extra)?;
-        let known = Known::of(alloc, tree, extra)?;
+        let lasting = lasting_count(alloc, reading, extra)?;
+        let known = Known::of(alloc, reading, extra)?;
         let count = greater(known.loaded.len(), lasting);
         let units = joined_units(alloc, known)?;
         let firsts = firsts_of(alloc, &units)?;
@@ -144,17 +144,21 @@ impl Graph {
 }
 
 /// How many units are known by the tree without its entries under `run/`, where it has any; refused are too many.
-fn lasting_count(alloc: Global, tree: &Tree, extra: &[UnitName]) -> Result<Option<usize>, Refusal>
-    ensures counts { IfOk result (λ count. CountsLasting tree.now extra.now count) }
+fn lasting_count(alloc: Global, reading: Reading<'_>, extra: &[UnitName]) -> Result<Option<usize>, Refusal>
+    ensures counts { IfOk result (λ count. CountsLasting (tree_read reading.entry) extra.now count) }
     ensures refused { IfErr result (λ e. ¬ (e ≡ refusals.NoMemory)
-        → (e ≡ refusals.TooLarge limits.Units) × KnowsTooMany (without_run tree.now) (Contains extra.now)) }
+        → (e ≡ refusals.TooLarge limits.Units) × KnowsTooMany (lasting_tree (tree_read reading.entry)) (Contains extra.now)) }
 {
-    if !tree.has_run() {
+    if !reading.tree.has_run() {
         return Ok(None);
     }
-    let mut lasting = tree.copy()?;
+    let mut lasting = reading.tree.copy()?;
     lasting.clear_run();
-    let known = Known::of(alloc, &lasting, extra)?;
+    let reading = Reading {
+        tree: &lasting,
+        profile: reading.profile,
+    };
+    let known = Known::of(alloc, reading, extra)?;
     Ok(Some(known.loaded.len()))
 }
 

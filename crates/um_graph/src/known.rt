@@ -8,8 +8,9 @@ ghost use Rattle.std.specs.Ordering.{nat_cmp};
 ghost use Rattle.um_model.specs.Dependencies.{KnowsSoMany, KnowsTooMany, loadable_of};
 ghost use Rattle.um_model.specs.declared.refusals.Limit.TheVariants as limits;
 ghost use Rattle.um_wire.specs.declared.refusal.Refusal.TheVariants as refusals;
+ghost use Rattle.um_model.specs.Profiles.{read_by};
 ghost use Rattle.um_model.specs.Units.{load};
-ghost use Rattle.um_unit.specs.View.{loading_of};
+ghost use Rattle.um_unit.specs.View.{loading_of, tree_read};
 ghost use Rattle.um_unit.specs.declared.loaded.Loading.{Loading};
 ghost use Rattle.um_graph.specs.Tells.{told_in, told_where};
 ghost use Rattle.um_graph.specs.Followed.{AreFollowed};
@@ -21,9 +22,9 @@ use crate::told::{Told, loadable, told_by};
 use indexmap::IndexSet;
 use std::alloc::{AllocError, Global};
 use std::collections::BTreeMap;
+use um_model::Profile;
 use um_name::UnitName;
-use um_tree::Tree;
-use um_unit::{Loading, load};
+use um_unit::{Loading, Reading, load};
 use um_wire::{Limit, Refusal};
 
 /// At most so many units are known.
@@ -60,17 +61,22 @@ fn told_where_loaded(
 fn load_into(
     alloc: Global,
     resolved: &mut Resolved<'_>,
+    profile: Profile,
     loaded: &mut BTreeMap<UnitName, Loading>,
     name: UnitName,
 ) -> Result<Vec<Told>, AllocError>
-    ensures told { IfOk result (λ told. told.items ≡ told_in resolved.old name) }
-    ensures loaded { OnOk result ((loading : Loading) × (loading_of loading ≡ load resolved.old name)
+    ensures told { IfOk result (λ told. told.items ≡ told_in (read_by profile resolved.old) name) }
+    ensures loaded { OnOk result ((loading : Loading) × (loading_of loading ≡ load (read_by profile resolved.old) name)
         × Updates (slice_cmp nat_cmp) loaded.old loaded.new name (Some loading)) }
     ensures count { OnOk result (loading_at loaded.old name ≡ None → btree_map_len loaded.new ≡ btree_map_len loaded.old + 1) }
     ensures ordered { OnOk result (IsOrdered (slice_cmp nat_cmp) loaded.new) }
     ensures tree { resolved.new ≡ resolved.old }
 {
-    let loading = load(alloc, resolved.tree(), &name)?;
+    let reading = Reading {
+        tree: resolved.tree(),
+        profile,
+    };
+    let loading = load(alloc, reading, &name)?;
     let told = told_where_loaded(alloc, resolved, &loading)?;
     loaded.insert(name, loading)?;
     Ok(told)
@@ -121,14 +127,14 @@ impl Known {
     }
 
     /// What is known with nothing followed yet.
-    fn begin(alloc: Global, tree: &Tree, extra: &[UnitName]) -> Result<Known, AllocError>
-        ensures whole { IfOk result (λ k. IsUnderWay tree.now extra.now k.loaded k.left.items k.told.items) }
+    fn begin(alloc: Global, reading: Reading<'_>, extra: &[UnitName]) -> Result<Known, AllocError>
+        ensures whole { IfOk result (λ k. IsUnderWay (tree_read reading.entry) extra.now k.loaded k.left.items k.told.items) }
         ensures count { IfOk result (λ k. btree_map_len k.loaded ≡ 0) }
         ensures ordered { IfOk result (λ k. IsOrdered (slice_cmp nat_cmp) k.loaded) }
         ensures followed { IfOk result (λ k. AreFollowed k.loaded k.followed) }
     {
         let mut found = Found::of_names(alloc, extra)?;
-        found.add_tree(alloc, tree)?;
+        found.add_tree(alloc, reading.tree)?;
         let Found { names, told } = found;
         let mut known = Known {
             loaded: BTreeMap::new(alloc),
@@ -163,11 +169,12 @@ impl Known {
         &mut self,
         alloc: Global,
         resolved: &mut Resolved<'_>,
+        profile: Profile,
         name: UnitName,
     ) -> Result<usize, AllocError>
         requires { AreFollowed self.old.loaded self.old.followed }
-        ensures whole { OnOk result ((extra : List (List ℕ)) → IsUnderWay resolved.old extra self.old.loaded (self.old.left.items ++ name ∷ []) self.old.told.items
-            → IsUnderWay resolved.old extra self.new.loaded self.new.left.items self.new.told.items) }
+        ensures whole { OnOk result ((extra : List (List ℕ)) → IsUnderWay (read_by profile resolved.old) extra self.old.loaded (self.old.left.items ++ name ∷ []) self.old.told.items
+            → IsUnderWay (read_by profile resolved.old) extra self.new.loaded self.new.left.items self.new.told.items) }
         ensures count { OnOk result (loading_at self.old.loaded name ≡ None
             → btree_map_len self.new.loaded ≡ btree_map_len self.old.loaded + 1) }
         ensures ordered { OnOk result (IsOrdered (slice_cmp nat_cmp) self.new.loaded) }
@@ -176,26 +183,26 @@ impl Known {
         ensures tree { resolved.new ≡ resolved.old }
     {
         self.followed.insert(name.copy()?)?;
-        let told = load_into(alloc, resolved, &mut self.loaded, name)?;
+        let told = load_into(alloc, resolved, profile, &mut self.loaded, name)?;
         self.take(told)?;
         Ok(self.loaded.len())
     }
 
     /// All known units, and what they tell. Refused is a tree by which more than 1,024 units are known (E13 `units`).
-    pub(crate) fn of(alloc: Global, tree: &Tree, extra: &[UnitName]) -> Result<Known, Refusal>
-        ensures whole { IfOk result (λ k. IsUnderWay tree.now extra.now k.loaded [] k.told.items) }
-        ensures count { IfOk result (λ k. KnowsSoMany tree.now (Contains extra.now) (btree_map_len k.loaded)) }
-        ensures few { IfOk result (λ _. ¬ KnowsTooMany tree.now (Contains extra.now)) }
+    pub(crate) fn of(alloc: Global, reading: Reading<'_>, extra: &[UnitName]) -> Result<Known, Refusal>
+        ensures whole { IfOk result (λ k. IsUnderWay (tree_read reading.entry) extra.now k.loaded [] k.told.items) }
+        ensures count { IfOk result (λ k. KnowsSoMany (tree_read reading.entry) (Contains extra.now) (btree_map_len k.loaded)) }
+        ensures few { IfOk result (λ _. ¬ KnowsTooMany (tree_read reading.entry) (Contains extra.now)) }
         ensures refused { IfErr result (λ e. ¬ (e ≡ refusals.NoMemory)
-            → (e ≡ refusals.TooLarge limits.Units) × KnowsTooMany tree.now (Contains extra.now)) }
+            → (e ≡ refusals.TooLarge limits.Units) × KnowsTooMany (tree_read reading.entry) (Contains extra.now)) }
     {
-        let mut known = Known::begin(alloc, tree, extra)?;
-        let mut resolved = Resolved::new(alloc, tree);
+        let mut known = Known::begin(alloc, reading, extra)?;
+        let mut resolved = Resolved::new(alloc, reading.tree);
         for _ in 0..UNIT_LIMIT + 1 {
             let Some(name) = known.next() else {
                 return Ok(known);
             };
-            known.follow(alloc, &mut resolved, name)?;
+            known.follow(alloc, &mut resolved, reading.profile, name)?;
         }
         Err(Refusal::TooLarge {
             limit: Limit::Units,
@@ -203,14 +210,14 @@ impl Known {
     }
 
     /// All known units, however many, and what they tell.
-    pub(crate) fn all(alloc: Global, tree: &Tree, extra: &[UnitName]) -> Result<Known, AllocError>
-        ensures whole { IfOk result (λ k. IsUnderWay tree.now extra.now k.loaded [] k.told.items) }
-        ensures count { IfOk result (λ k. KnowsSoMany tree.now (Contains extra.now) (btree_map_len k.loaded)) }
+    pub(crate) fn all(alloc: Global, reading: Reading<'_>, extra: &[UnitName]) -> Result<Known, AllocError>
+        ensures whole { IfOk result (λ k. IsUnderWay (tree_read reading.entry) extra.now k.loaded [] k.told.items) }
+        ensures count { IfOk result (λ k. KnowsSoMany (tree_read reading.entry) (Contains extra.now) (btree_map_len k.loaded)) }
     {
-        let mut known = Known::begin(alloc, tree, extra)?;
-        let mut resolved = Resolved::new(alloc, tree);
+        let mut known = Known::begin(alloc, reading, extra)?;
+        let mut resolved = Resolved::new(alloc, reading.tree);
         while let Some(name) = known.next() {
-            known.follow(alloc, &mut resolved, name)?;
+            known.follow(alloc, &mut resolved, reading.profile, name)?;
         }
         Ok(known)
     }

@@ -1,6 +1,7 @@
 -- What Also= names are unit names.
 use Rattle.std.proofs.Common.{◌≡◌, ◌∙◌, ℕ, Bool, true, false, cond, List, [], ◌∷◌, map as each, Contains, Option, Some, None, Ok, Err, refl, sym, ap, arith}
 use Rattle.std.specs.List.{filter_map}
+use Rattle.um_model.specs.Profiles.{ReadTree}
 use Rattle.um_model.specs.Install.{install_of}
 use Rattle.um_model.specs.Names.{is_unit_name}
 use Rattle.std.specs.Result.{result_ok}
@@ -66,6 +67,6 @@ in_loading tree (AtMask unit) name c = absurd (none_in name c)
 in_loading tree Nowhere name c = absurd (none_in name c)
 
 -- what a unit names in Also= are unit names
-pub also_is_name : (tree : Tree) (unit name : List ℕ) → Contains (install_of (load tree unit)).also name → is_unit_name name ≡ true
+pub also_is_name : (tree : ReadTree) (unit name : List ℕ) → Contains (install_of (load tree unit)).also name → is_unit_name name ≡ true
 unfolding load
-also_is_name tree unit name c = in_loading tree (resolution_of tree unit) name c
+also_is_name tree unit name c = in_loading tree.entries (resolution_of tree.entries unit) name c

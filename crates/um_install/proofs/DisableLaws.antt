@@ -11,6 +11,7 @@ use Rattle.std.proofs.lemmas.Cmp.{tied_itself}
 use Rattle.std.proofs.lemmas.Map.Lookups.{exact_bytes}
 use Rattle.std.proofs.lemmas.Map.Views.{tells_apart}
 use Rattle.std.proofs.lemmas.Slice.Eq.{bytes_eq-Decides}
+use Rattle.um_model.specs.Profiles.{ReadTree}
 use Rattle.um_model.specs.Install.{IsMeant, IsUnlinked, IsDisabled, Installs, disables, RefusesLinks, IsEnabledAs, enabling_of}
 use Rattle.um_model.specs.Reached.{first, next}
 use Rattle.um_model.specs.Refusals.{Refused, bad_path, unless_refused}
@@ -155,7 +156,7 @@ any_in test [] e (k, h, g) t = absurd (omega arith)
 any_in test (x ∷ es) e (zero, h, g) t = left (test x) (list_any test es) (ap test g ∙ t)
 any_in test (x ∷ es) e (suc k, h, g) t = right (test x) (list_any test es) (any_in test es e (k, omega arith, g) t)
 
-module _ (tree : Tree) (asked : List ℕ) (units : Units) (w : AreWalked AsWritten tree asked units) where
+module _ (tree : ReadTree) (asked : List ℕ) (units : Units) (w : AreWalked AsWritten tree asked units) where
   to_meant : (name : List ℕ) → IsWalked AsWritten tree asked name → IsMeant tree asked name
   to_meant name (first e) = first e
   to_meant name (next {a = a} r (named c)) = next (to_meant a r) c
@@ -220,41 +221,41 @@ module _ (tree : Tree) (asked : List ℕ) (units : Units) (w : AreWalked AsWritt
   at_back (Some p) (Some (File text)) name k h = never h
   at_back (Some p) (Some (Link target)) name k h = (Link target, refl, link_back p target name k h)
 
-  unlinked_in : (e : List ℕ × Entry) → Contains (map.entries tree) e → is_unlinked units e ≡ true → IsUnlinked tree asked e.0
+  unlinked_in : (e : List ℕ × Entry) → Contains (map.entries tree.entries) e → is_unlinked units e ≡ true → IsUnlinked tree asked e.0
   unlinked_in e c t =
       let r = at_out (path_parts e.0) e.1 t in
-      unlinked_by tree asked e.0 r.0 (key_meant r.0 r.1) (ap (is_link_of r.0 (path_parts e.0)) (there_get tree e c) ∙ r.2)
+      unlinked_by tree asked e.0 r.0 (key_meant r.0 r.1) (ap (is_link_of r.0 (path_parts e.0)) (there_get tree.entries e c) ∙ r.2)
 
-  unlinked_out : (path : List ℕ) → IsUnlinked tree asked path → (e : Entry) × Contains (map.entries tree) (path, e) × (is_unlinked units (path, e) ≡ true)
-  unlinked_out path u = let r = at_back (path_parts path) (map.get tree path) u.name (meant_key u.name u.meant) (unlinked_test tree asked path u) in (r.0, get_there tree path r.0 r.1, r.2)
+  unlinked_out : (path : List ℕ) → IsUnlinked tree asked path → (e : Entry) × Contains (map.entries tree.entries) (path, e) × (is_unlinked units (path, e) ≡ true)
+  unlinked_out path u = let r = at_back (path_parts path) (map.get tree.entries path) u.name (meant_key u.name u.meant) (unlinked_test tree asked path u) in (r.0, get_there tree.entries path r.0 r.1, r.2)
 
   abbrev kept_entries : List (List ℕ × Entry)
-  kept_entries = filter (is_unlinked units) (map.entries tree)
+  kept_entries = filter (is_unlinked units) (map.entries tree.entries)
 
   abbrev paths : List (List ℕ)
-  paths = paths_unlinked units (map.entries tree)
+  paths = paths_unlinked units (map.entries tree.entries)
 
   in_paths : (path : List ℕ) → Contains paths path → IsUnlinked tree asked path
   in_paths path c =
       let e = each_contains first_of kept_entries path c in
-      let f = filter_contains (is_unlinked units) (map.entries tree) e.0 e.1 in
+      let f = filter_contains (is_unlinked units) (map.entries tree.entries) e.0 e.1 in
       subst (IsUnlinked tree asked) e.2 (unlinked_in e.0 f.0 f.1)
 
   paths_in : (path : List ℕ) → IsUnlinked tree asked path → Contains paths path
   paths_in path u =
       let r = unlinked_out path u in
-      contains_each first_of kept_entries (path, r.0) (contains_filter (is_unlinked units) (map.entries tree) (path, r.0) r.1 r.2)
+      contains_each first_of kept_entries (path, r.0) (contains_filter (is_unlinked units) (map.entries tree.entries) (path, r.0) r.1 r.2)
 
-  disabled_is : IsDisabled tree asked (taken_out tree paths)
+  disabled_is : IsDisabled tree asked (taken_out tree.entries paths)
   disabled_is = record {
-    gone = λ path u. gone_at tree paths path (paths_in path u);
-    kept = λ path none. kept_at tree paths path (λ c. none (in_paths path c));
+    gone = λ path u. gone_at tree.entries paths path (paths_in path u);
+    kept = λ path none. kept_at tree.entries paths path (λ c. none (in_paths path c));
   }
 
-  made : removed tree paths ≡ Ok (taken_out tree paths)
+  made : removed tree.entries paths ≡ Ok (taken_out tree.entries paths)
   made =
-      all_removed tree kept_entries (rising_filter (is_unlinked units) (map.entries tree) (rising (map.entries tree) (map.entries_sorted tree)))
-      (λ e c. ap is_some (there_get tree e (filter_contains (is_unlinked units) (map.entries tree) e c).0))
+      all_removed tree.entries kept_entries (rising_filter (is_unlinked units) (map.entries tree.entries) (rising (map.entries tree.entries) (map.entries_sorted tree.entries)))
+      (λ e c. ap is_some (there_get tree.entries e (filter_contains (is_unlinked units) (map.entries tree.entries) e c).0))
 
   same_ok : (a b : Tree) → ◌≡◌ {A = Result Tree Refused} (Ok a) (Ok b) → a ≡ b
   same_ok a b e = cc
@@ -262,26 +263,26 @@ module _ (tree : Tree) (asked : List ℕ) (units : Units) (w : AreWalked AsWritt
   not_both : (a : Tree) (r : Refused) → ◌≡◌ {A = Result Tree Refused} (Ok a) (Err r) → ⊥
   not_both a r e = cc
 
-  pub installs : (result : Result Tree Refusal) → Gives (λ t. t) result (removed tree paths) → IfOk result (λ t. Installs tree verbs.Disable asked t)
-  installs (Ok t) g = disables (subst (IsDisabled tree asked) (same_ok (taken_out tree paths) t (sym made ∙ g)) disabled_is)
+  pub installs : (result : Result Tree Refusal) → Gives (λ t. t) result (removed tree.entries paths) → IfOk result (λ t. Installs tree verbs.Disable asked t)
+  installs (Ok t) g = disables (subst (IsDisabled tree asked) (same_ok (taken_out tree.entries paths) t (sym made ∙ g)) disabled_is)
   installs (Err e) g = tt
 
   no_cause : (r : Refused) → ¬ RefusesLinks tree verbs.Disable asked r
   no_cause r h = elim h [ ]
 
-  pub refuses : (result : Result Tree Refusal) → Gives (λ t. t) result (removed tree paths) → RefusesBy (RefusesLinks tree verbs.Disable asked) result
+  pub refuses : (result : Result Tree Refusal) → Gives (λ t. t) result (removed tree.entries paths) → RefusesBy (RefusesLinks tree verbs.Disable asked) result
   refuses (Ok t) g = no_cause
-  refuses (Err e) g = λ differs. absurd (not_both (taken_out tree paths) (refused_of e) (sym made ∙ g differs))
+  refuses (Err e) g = λ differs. absurd (not_both (taken_out tree.entries paths) (refused_of e) (sym made ∙ g differs))
 
   -- ---- is-enabled
 
-  pub enabled_as : (b : Bool) (l : Loading) (answer : Enabling) → b ≡ list_any (is_unlinked units) (map.entries tree) → map.get units asked ≡ Some l
+  pub enabled_as : (b : Bool) (l : Loading) (answer : Enabling) → b ≡ list_any (is_unlinked units) (map.entries tree.entries) → map.get units asked ≡ Some l
       → answer ≡ enabling_of asked l b → IsEnabledAs tree asked answer
   enabled_as b l answer e at is = record {
     linked = b;
     decides = (
-      λ t. let o = any_out (is_unlinked units) (map.entries tree) (sym e ∙ t) in (o.0.0, unlinked_in o.0 o.1 o.2),
-      λ u. let r = unlinked_out u.0 u.1 in e ∙ any_in (is_unlinked units) (map.entries tree) (u.0, r.0) r.1 r.2,
+      λ t. let o = any_out (is_unlinked units) (map.entries tree.entries) (sym e ∙ t) in (o.0.0, unlinked_in o.0 o.1 o.2),
+      λ u. let r = unlinked_out u.0 u.1 in e ∙ any_in (is_unlinked units) (map.entries tree.entries) (u.0, r.0) r.1 r.2,
     );
     fits = is ∙ ap (λ x. enabling_of asked x b) (w.loaded asked l at);
   }

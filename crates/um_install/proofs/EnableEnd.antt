@@ -8,6 +8,7 @@ use Rattle.std.specs.Result.{IfOk}
 use Rattle.std.specs.Str.{bytes_eq}
 use Rattle.std.proofs.lemmas.Bool.Decides.{nat_tests}
 use Rattle.std.proofs.lemmas.Option.{none-some}
+use Rattle.um_model.specs.Profiles.{ReadTree}
 use Rattle.um_model.specs.Install.{LinkAt, link_at, linked_name, IsTaken, IsAskedFor, IsEnabled, IsUnfit, IsOccupied, HasTooMany, too_many, CannotEnable, isnt_found, is_masked, has_bad_setting, lacks_instance, IsBarred, Installs, enables, RefusesLinks, enables_none, RefusesUnits, takes_none}
 use Rattle.um_model.specs.Least.{IsNamedBefore, NamesLeast}
 use Rattle.um_model.specs.Refusals.{Refused, at_first, at_second, bad_path, exists_at, too_large, not_found, masked, bad_setting}
@@ -85,7 +86,7 @@ same_ok a b e = cc
 not_both : (a : Tree) (r : Refused) → ◌≡◌ {A = Result Tree Refused} (Ok a) (Err r) → ⊥
 not_both a r e = cc
 
-module _ (tree : Tree) (asked : List ℕ) (units : Units) (w : AreWalked AsResolved tree asked units) where
+module _ (tree : ReadTree) (asked : List ℕ) (units : Units) (w : AreWalked AsResolved tree asked units) where
   abbrev links : List LinkAt
   links = links_in units
 
@@ -138,16 +139,16 @@ module _ (tree : Tree) (asked : List ℕ) (units : Units) (w : AreWalked AsResol
   none_unfit : least_of is_unfit None links ≡ None → (q : Refused) → ¬ NamesLeast (IsUnfit tree asked) (λ path r. r ≡ bad_path path) q
   none_unfit n q h = none_has is_unfit links (IsUnfit tree asked) (unfit_in tree asked units w) (unfit_out tree asked units w) n h.name h.least.has
 
-  names_occupied : (o : Option (List ℕ)) (r : Refused) → least_of (is_occupied tree targets) None links ≡ o → Names exists_at o r → NamesLeast (IsOccupied tree asked) (λ path r. r ≡ exists_at path) r
+  names_occupied : (o : Option (List ℕ)) (r : Refused) → least_of (is_occupied tree.entries targets) None links ≡ o → Names exists_at o r → NamesLeast (IsOccupied tree asked) (λ path r. r ≡ exists_at path) r
   names_occupied None r e h = absurd h
   names_occupied (Some p) r e h = record {
     name = p;
-    least = least_has (is_occupied tree targets) links (IsOccupied tree asked) (occupied_in tree asked units w) (occupied_out tree asked units w) p e;
+    least = least_has (is_occupied tree.entries targets) links (IsOccupied tree asked) (occupied_in tree asked units w) (occupied_out tree asked units w) p e;
     told = h;
   }
 
-  none_occupied : least_of (is_occupied tree targets) None links ≡ None → (q : Refused) → ¬ NamesLeast (IsOccupied tree asked) (λ path r. r ≡ exists_at path) q
-  none_occupied n q h = none_has (is_occupied tree targets) links (IsOccupied tree asked) (occupied_in tree asked units w) (occupied_out tree asked units w) n h.name h.least.has
+  none_occupied : least_of (is_occupied tree.entries targets) None links ≡ None → (q : Refused) → ¬ NamesLeast (IsOccupied tree asked) (λ path r. r ≡ exists_at path) q
+  none_occupied n q h = none_has (is_occupied tree.entries targets) links (IsOccupied tree asked) (occupied_in tree asked units w) (occupied_out tree asked units w) n h.name h.least.has
 
   pub by_unfit : (r : Refused) → Names bad_path (least_of is_unfit None links) r → RefusesLinks tree verbs.Enable asked r
   by_unfit r h = enables_none (at_first (names_unfit (least_of is_unfit None links) r refl h))
@@ -156,12 +157,12 @@ module _ (tree : Tree) (asked : List ℕ) (units : Units) (w : AreWalked AsResol
     no_unfit : least_of is_unfit None links ≡ None
     no_unfit = none_found bad_path (least_of is_unfit None links) fits
 
-    pub by_occupied : (r : Refused) → Names exists_at (least_of (is_occupied tree targets) None links) r → RefusesLinks tree verbs.Enable asked r
-    by_occupied r h = enables_none (at_second (none_unfit no_unfit) (at_first (names_occupied (least_of (is_occupied tree targets) None links) r refl h)))
+    pub by_occupied : (r : Refused) → Names exists_at (least_of (is_occupied tree.entries targets) None links) r → RefusesLinks tree verbs.Enable asked r
+    by_occupied r h = enables_none (at_second (none_unfit no_unfit) (at_first (names_occupied (least_of (is_occupied tree.entries targets) None links) r refl h)))
 
-    module _ (frees : (q : Refused) → ¬ Names exists_at (least_of (is_occupied tree targets) None links) q) where
-      no_occupied : least_of (is_occupied tree targets) None links ≡ None
-      no_occupied = none_found exists_at (least_of (is_occupied tree targets) None links) frees
+    module _ (frees : (q : Refused) → ¬ Names exists_at (least_of (is_occupied tree.entries targets) None links) q) where
+      no_occupied : least_of (is_occupied tree.entries targets) None links ≡ None
+      no_occupied = none_found exists_at (least_of (is_occupied tree.entries targets) None links) frees
 
       not_false : (b : Bool) → not b ≡ false → b ≡ true
       not_false true e = refl
@@ -171,13 +172,13 @@ module _ (tree : Tree) (asked : List ℕ) (units : Units) (w : AreWalked AsResol
       neither true b e = cc
       neither false b e = (refl, e)
 
-      may : (e : List ℕ × List ℕ) → Contains es e → MayStand tree e
+      may : (e : List ℕ × List ℕ) → Contains es e → MayStand tree.entries e
       may e c =
           let l = link_at e.0 e.1 in
           let in_ = target_asked tree asked units w e.0 e.1 (there_get targets e c) in
-          may_stand tree e
+          may_stand tree.entries e
           (not_false (is_fit_target (path_parts e.0) e.1) ((none_is is_unfit None links no_unfit).1 l in_))
-          (neither (is_other_than_link (map.get tree e.0) e.1) (is_other (map.get targets e.0) e.1) ((none_is (is_occupied tree targets) None links no_occupied).1 l in_)).0
+          (neither (is_other_than_link (map.get tree.entries e.0) e.1) (is_other (map.get targets e.0) e.1) ((none_is (is_occupied tree.entries targets) None links no_occupied).1 l in_)).0
 
       rise : Rising es
       rise = rising es (map.entries_sorted targets)
@@ -187,22 +188,22 @@ module _ (tree : Tree) (asked : List ℕ) (units : Units) (w : AreWalked AsResol
           same_text kept target
           (not_false (bytes_eq kept target)
           (sym (ap (λ o. is_other o target) at)
-          ∙ (neither (is_other_than_link (map.get tree path) target) (is_other (map.get targets path) target) ((none_is (is_occupied tree targets) None links no_occupied).1 (link_at path target) c)).1))
+          ∙ (neither (is_other_than_link (map.get tree.entries path) target) (is_other (map.get targets path) target) ((none_is (is_occupied tree.entries targets) None links no_occupied).1 (link_at path target) c)).1))
 
-      stands_at : (path target : List ℕ) → IsAskedFor tree asked (link_at path target) → map.get (grown tree es) path ≡ Some (Link target)
+      stands_at : (path target : List ℕ) → IsAskedFor tree asked (link_at path target) → map.get (grown tree.entries es) path ≡ Some (Link target)
       stands_at path target a =
           let c = listed tree asked units w (link_at path target) a in
           let v = some_value (map.get targets path) (targets_there map.empty links (link_at path target) c) in
-          linked_at tree es rise (path, v.0) (get_there targets path v.0 v.1) ∙ ap (λ t. Some (Link t)) (same_target path target v.0 c v.1)
+          linked_at tree.entries es rise (path, v.0) (get_there targets path v.0 v.1) ∙ ap (λ t. Some (Link t)) (same_target path target v.0 c v.1)
 
       not_found_at : (path : List ℕ) → ¬ ((target : List ℕ) × IsAskedFor tree asked (link_at path target)) → (o : Option (List ℕ)) → map.get targets path ≡ o → map.find (slice_cmp nat_cmp) path es ≡ None
       not_found_at path none None e = sym (map.get-entries targets path) ∙ e
       not_found_at path none (Some t) e = absurd (none (t, asked_for tree asked units w (link_at path t) (target_asked tree asked units w path t e)))
 
-      whole : IsEnabled tree asked (grown tree es)
+      whole : IsEnabled tree asked (grown tree.entries es)
       whole = record {
         linked = stands_at;
-        kept = λ path none. kept_at tree es path (not_found_at path none (map.get targets path) refl);
+        kept = λ path none. kept_at tree.entries es path (not_found_at path none (map.get targets path) refl);
       }
 
       none_asked : (path : List ℕ) → map.get targets path ≡ None → ¬ ((target : List ℕ) × IsAskedFor tree asked (link_at path target))
@@ -210,40 +211,40 @@ module _ (tree : Tree) (asked : List ℕ) (units : Units) (w : AreWalked AsResol
           let v = some_value (map.get targets path) (targets_there map.empty links (link_at path target) (listed tree asked units w (link_at path target) a)) in
           none-some v.0 (sym n ∙ v.1)
 
-      same_at : (other : Tree) → IsEnabled tree asked other → (path : List ℕ) (o : Option (List ℕ)) → map.get targets path ≡ o → map.get other path ≡ map.get (grown tree es) path
+      same_at : (other : Tree) → IsEnabled tree asked other → (path : List ℕ) (o : Option (List ℕ)) → map.get targets path ≡ o → map.get other path ≡ map.get (grown tree.entries es) path
       same_at other e path None n = e.kept path (none_asked path n) ∙ sym (whole.kept path (none_asked path n))
       same_at other e path (Some t) s =
           let a = asked_for tree asked units w (link_at path t) (target_asked tree asked units w path t s) in
           e.linked path t a ∙ sym (whole.linked path t a)
 
-      one_enabled : (other : Tree) → IsEnabled tree asked other → other ≡ grown tree es
+      one_enabled : (other : Tree) → IsEnabled tree asked other → other ≡ grown tree.entries es
       one_enabled other e =
-          map.same_map nat_list_cmp_total (slice_cmp-IsAntisymmetric nat_cmp-IsAntisymmetric) other (grown tree es) (λ path. same_at other e path (map.get targets path) refl)
+          map.same_map nat_list_cmp_total (slice_cmp-IsAntisymmetric nat_cmp-IsAntisymmetric) other (grown tree.entries es) (λ path. same_at other e path (map.get targets path) refl)
 
       past : (m n : ℕ) → nat_le n (entry_limit - m) ≡ false → entry_limit < m + n
       past m n e = let f : entry_limit - m < n = grind (arith, nat_tests) in omega (arith, f)
 
-      pub by_room : (r : Refused) → LacksRoom tree targets r → RefusesLinks tree verbs.Enable asked r
+      pub by_room : (r : Refused) → LacksRoom tree.entries targets r → RefusesLinks tree verbs.Enable asked r
       by_room r h =
           enables_none
           (at_second (none_unfit no_unfit) (at_second (none_occupied no_occupied)
           (subst (HasTooMany tree asked) (sym h.refusal)
-          (too_many whole (subst (λ n. entry_limit < n) (sym (len_grown tree es rise)) (past (map.len tree) (new_paths tree (map.keys targets)) h.full))))))
+          (too_many whole (subst (λ n. entry_limit < n) (sym (len_grown tree.entries es rise)) (past (map.len tree.entries) (new_paths tree.entries (map.keys targets)) h.full))))))
 
-      module _ (is : IsTree tree) (rooms : (q : Refused) → ¬ LacksRoom tree targets q) where
-        room_by : (b : Bool) → has_room tree targets ≡ b → has_room tree targets ≡ true
+      module _ (is : IsTree tree.entries) (rooms : (q : Refused) → ¬ LacksRoom tree.entries targets q) where
+        room_by : (b : Bool) → has_room tree.entries targets ≡ b → has_room tree.entries targets ≡ true
         room_by true e = e
         room_by false e = absurd (rooms (too_large Entries) (record { full = e; refusal = refl }))
 
         within : (m n : ℕ) → m ≤ entry_limit → nat_le n (entry_limit - m) ≡ true → m + n ≤ entry_limit
         within m n few e = let f : n ≤ entry_limit - m = grind (arith, nat_tests) in omega (arith, f, few)
 
-        few : map.len tree + new_paths tree (map.keys targets) ≤ entry_limit
-        few = within (map.len tree) (new_paths tree (map.keys targets)) is.few (room_by (has_room tree targets) refl)
+        few : map.len tree.entries + new_paths tree.entries (map.keys targets) ≤ entry_limit
+        few = within (map.len tree.entries) (new_paths tree.entries (map.keys targets)) is.few (room_by (has_room tree.entries targets) refl)
 
         not_too_many : (q : Refused) → ¬ HasTooMany tree asked q
         not_too_many q (too_many {enabled = other} all m) =
-            let l = ap map.len (one_enabled other all) ∙ len_grown tree es rise in
+            let l = ap map.len (one_enabled other all) ∙ len_grown tree.entries es rise in
             let f = few in
             omega (arith, l, m, f)
 
@@ -252,13 +253,13 @@ module _ (tree : Tree) (asked : List ℕ) (units : Units) (w : AreWalked AsResol
         no_cause q (enables_none (at_second n (at_first h))) = none_occupied no_occupied q h
         no_cause q (enables_none (at_second n (at_second m h))) = not_too_many q h
 
-        made : linked tree es ≡ Ok (grown tree es)
-        made = all_put tree es rise may few
+        made : linked tree.entries es ≡ Ok (grown tree.entries es)
+        made = all_put tree.entries es rise may few
 
-        pub installs : (result : Result Tree Refusal) → Gives (λ t. t) result (linked tree es) → IfOk result (λ t. Installs tree verbs.Enable asked t)
-        installs (Ok t) g = enables (subst (IsEnabled tree asked) (same_ok (grown tree es) t (sym made ∙ g)) whole)
+        pub installs : (result : Result Tree Refusal) → Gives (λ t. t) result (linked tree.entries es) → IfOk result (λ t. Installs tree verbs.Enable asked t)
+        installs (Ok t) g = enables (subst (IsEnabled tree asked) (same_ok (grown tree.entries es) t (sym made ∙ g)) whole)
         installs (Err e) g = tt
 
-        pub refuses : (result : Result Tree Refusal) → Gives (λ t. t) result (linked tree es) → RefusesBy (RefusesLinks tree verbs.Enable asked) result
+        pub refuses : (result : Result Tree Refusal) → Gives (λ t. t) result (linked tree.entries es) → RefusesBy (RefusesLinks tree verbs.Enable asked) result
         refuses (Ok t) g = no_cause
-        refuses (Err e) g = λ differs. absurd (not_both (grown tree es) (refused_of e) (sym made ∙ g differs))
+        refuses (Err e) g = λ differs. absurd (not_both (grown tree.entries es) (refused_of e) (sym made ∙ g differs))

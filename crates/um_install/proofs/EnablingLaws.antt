@@ -9,6 +9,7 @@ use Rattle.std.proofs.lemmas.Bool.{cond-false, cond-true}
 use Rattle.std.proofs.lemmas.Option.{none-some, same_Some}
 use Rattle.std.proofs.lemmas.Slice.Eq.{bytes_eq-Decides}
 use Rattle.um_install.specs.Enabled.{Obeys, IsFoundByName, IsUndone, HasNoAlias}
+use Rattle.um_model.specs.Profiles.{ReadTree, read_by}
 use Rattle.um_model.specs.Install.{LinkAt, link_at, install_of, linked_name, path_in_etc, links_to, links_of, IsAlso, IsTaken, IsAskedFor, IsEnabled, IsUnfit, IsMeant, IsUnlinked, IsDisabled, CausesOfLinks, Installs, enables, disables, enables_none, RefusesUnits, takes_none, RefusesInstall, IsOccupied, stands, differs, HasTooMany, too_many, CannotEnable, IsBarred, paths_beyond}
 use Rattle.um_model.specs.Names.{is_unit_name, is_template}
 use Rattle.um_model.specs.Reached.{first, next}
@@ -32,14 +33,14 @@ use Rattle.um_model.proofs.UnitLaws.{alike}
 -- ---- the links of a unit that was enabled
 
 -- a unit that was taken, with a file, by the name under which it is linked
-pub record IsLinked (tree : Tree) (asked name file : List ℕ) (l : LoadedUnit) : Type 0 where
+pub record IsLinked (tree : ReadTree) (asked name file : List ℕ) (l : LoadedUnit) : Type 0 where
   pub unit : List ℕ
   pub taken : IsTaken tree asked unit
   pub found : load tree unit ≡ Found l
   pub linked : linked_name l ≡ Some name
   pub at : l.path ≡ Some file
 
-module _ (tree : Tree) (asked name file : List ℕ) (l : LoadedUnit) (is : IsLinked tree asked name file l) where
+module _ (tree : ReadTree) (asked name file : List ℕ) (l : LoadedUnit) (is : IsLinked tree asked name file l) where
   abbrev links : List LinkAt
   links = links_to l.settings.install (Some name) (Some file)
 
@@ -91,7 +92,7 @@ module _ (tree : Tree) (asked name file : List ℕ) (l : LoadedUnit) (is : IsLin
   install_names : AreNames l.settings.install
   install_names = subst (λ found. AreNames (install_of found)) is.found (names_installed tree is.unit)
 
-  module _ (fit : (path : List ℕ) → ¬ (IsUnfit tree asked path)) (u : Tree) (made : IsEnabled tree asked u) where
+  module _ (fit : (path : List ℕ) → ¬ (IsUnfit tree asked path)) (u : ReadTree) (made : IsEnabled tree asked u.entries) where
     -- the path of a link that is fit has its parts
     parts_of_link : (p : PathParts) → is_unit_name p.unit ≡ true → IsAskedFor tree asked (link_at (path_text p) file) → path_parts (path_text p) ≡ Some p
     parts_of_link p unit w = by_fit (is_fit_place p.unit p.place) refl
@@ -130,30 +131,30 @@ module _ (tree : Tree) (asked name file : List ℕ) (l : LoadedUnit) (is : IsLin
 -- ---- enabling that isn't refused
 
 -- an enabling that is obeyed has no cause against its links
-no_cause : (tree : Tree) (asked : List ℕ) (u : Tree) → Obeys tree verbs.Enable asked u → (r : Refused) → ¬ (CausesOfLinks tree asked r)
+no_cause : (tree : ReadTree) (asked : List ℕ) (u : Tree) → Obeys tree verbs.Enable asked u → (r : Refused) → ¬ (CausesOfLinks tree asked r)
 no_cause tree asked u obeys r h = obeys.free r (at_first (enables_none h))
 
 -- nor against a unit that it takes
-none_refused : (tree : Tree) (asked : List ℕ) (u : Tree) → Obeys tree verbs.Enable asked u → (r : Refused) → ¬ (RefusesUnits tree verbs.Enable asked r)
+none_refused : (tree : ReadTree) (asked : List ℕ) (u : Tree) → Obeys tree verbs.Enable asked u → (r : Refused) → ¬ (RefusesUnits tree verbs.Enable asked r)
 none_refused tree asked u obeys r h = obeys.free r (at_second (λ q links. obeys.free q (at_first links)) h)
 
-enabled_by : (tree : Tree) (asked : List ℕ) (u : Tree) → Installs tree verbs.Enable asked u → IsEnabled tree asked u
+enabled_by : (tree : ReadTree) (asked : List ℕ) (u : Tree) → Installs tree verbs.Enable asked u → IsEnabled tree asked u
 enabled_by tree asked u (enables made) = made
 
-disabled_by : (tree : Tree) (asked : List ℕ) (u : Tree) → Installs tree verbs.Disable asked u → IsDisabled tree asked u
+disabled_by : (tree : ReadTree) (asked : List ℕ) (u : Tree) → Installs tree verbs.Disable asked u → IsDisabled tree asked u
 disabled_by tree asked u (disables made) = made
 
-all_fit : (tree : Tree) (asked : List ℕ) (u : Tree) → Obeys tree verbs.Enable asked u → (path : List ℕ) → ¬ (IsUnfit tree asked path)
+all_fit : (tree : ReadTree) (asked : List ℕ) (u : Tree) → Obeys tree verbs.Enable asked u → (path : List ℕ) → ¬ (IsUnfit tree asked path)
 all_fit tree asked u obeys = fit_of_causes tree asked (no_cause tree asked u obeys)
 
 -- ---- disabling undoes enabling
 
 -- disabling by a name by which the linked name is meant undoes the enabling of each unit that was taken
-pub links_undone : (tree : Tree) (asked name file : List ℕ) (l : LoadedUnit) → IsLinked tree asked name file l → (u v : Tree) → Obeys tree verbs.Enable asked u
+pub links_undone : (tree : ReadTree) (asked name file : List ℕ) (l : LoadedUnit) → IsLinked tree asked name file l → (u : ReadTree) (v : Tree) → Obeys tree verbs.Enable asked u.entries
     → (by : List ℕ) → IsMeant u by name → Installs u verbs.Disable by v → IsUndone l name file v
 links_undone tree asked name file l is u v obeys by h undoes =
-    let fit = all_fit tree asked u obeys in
-    let made = enabled_by tree asked u obeys.makes in
+    let fit = all_fit tree asked u.entries obeys in
+    let made = enabled_by tree asked u.entries obeys.makes in
     let gone = (disabled_by u by v undoes).gone in
     record {
       wanted = λ other among. gone _ (unlinks_wanted tree asked name file l is fit u made by h other (among_contained l.settings.install.wanted_by other among));
@@ -163,7 +164,7 @@ links_undone tree asked name file l is u v obeys by h undoes =
     }
 
 -- enabling it links it by that name
-linked_by_name : (tree : Tree) (asked file : List ℕ) (l : LoadedUnit) → IsFoundByName tree asked file l → IsLinked tree asked asked file l
+linked_by_name : (tree : ReadTree) (asked file : List ℕ) (l : LoadedUnit) → IsFoundByName tree asked file l → IsLinked tree asked asked file l
 linked_by_name tree asked file l is = record {
   unit = asked;
   taken = first (sym (named_by_loading tree asked ∙ (ap (name_in asked) is.found ∙ is.named)));
@@ -173,8 +174,8 @@ linked_by_name tree asked file l is = record {
 }
 
 -- what enabling a unit by its name linked, disabling it by its name unlinks
-pub disabling_undoes : (tree : Tree) (asked file : List ℕ) (l : LoadedUnit) → IsFoundByName tree asked file l
-    → (u v : Tree) → Obeys tree verbs.Enable asked u → Installs u verbs.Disable asked v → IsUndone l asked file v
+pub disabling_undoes : (tree : ReadTree) (asked file : List ℕ) (l : LoadedUnit) → IsFoundByName tree asked file l
+    → (u : ReadTree) (v : Tree) → Obeys tree verbs.Enable asked u.entries → Installs u verbs.Disable asked v → IsUndone l asked file v
 disabling_undoes tree asked file l is u v obeys undoes =
     links_undone tree asked asked file l (linked_by_name tree asked file l is) u v obeys asked (first refl) undoes
 
@@ -243,7 +244,7 @@ links_pull install names no_alias (Some name) (Some file) link is =
         pulls (among_either (each (λ unit. link_at (path_in_etc unit (Wants name)) file) install.wanted_by) (each (λ unit. link_at (path_in_etc unit (Requires name)) file) install.required_by) link there)
     by_list (inr there) = absurd (subst (λ names. Among (each (λ alias. link_at (path_in_etc alias Unit) file) names) link) no_alias there)
 
-asked_pulls : (tree : Tree) (asked : List ℕ) → HasNoAlias tree asked → (link : LinkAt) → IsAskedFor tree asked link → IsPulling link.path
+asked_pulls : (tree : ReadTree) (asked : List ℕ) → HasNoAlias tree asked → (link : LinkAt) → IsAskedFor tree asked link → IsPulling link.path
 asked_pulls tree asked no_alias link w = by_loading (load tree w.unit) refl (among_contained (links_of (load tree w.unit)) link w.among)
   where
     by_loading : (found : Loading) → load tree w.unit ≡ found → Among (links_of found) link → IsPulling link.path
@@ -254,14 +255,14 @@ asked_pulls tree asked no_alias link w = by_loading (load tree w.unit) refl (amo
     by_loading (BadSetting unit reason) e none = absurd none
 
 -- after such an enabling each unit loads as before
-pub enabled_loads_as : (tree : Tree) (asked : List ℕ) (u : Tree) → HasNoAlias tree asked → Obeys tree verbs.Enable asked u
-    → (unit : List ℕ) → is_unit_name unit ≡ true → load u unit ≡ load tree unit
-enabled_loads_as tree asked u no_alias obeys = loads_as u tree (record {
+pub enabled_loads_as : (tree : ReadTree) (asked : List ℕ) (u : Tree) → HasNoAlias tree asked → Obeys tree verbs.Enable asked u
+    → (unit : List ℕ) → is_unit_name unit ≡ true → load (read_by tree.profile u) unit ≡ load tree unit
+enabled_loads_as tree asked u no_alias obeys = loads_as u tree.entries (record {
   holds = λ layer unit is.
       made.kept (unit_path layer unit)
       (λ w. no_unit_path (unit_path layer unit) (asked_pulls tree asked no_alias (link_at (unit_path layer unit) w.0) w.1) layer unit is refl);
   drop_ins = enabled_drop_ins tree asked (free_of_causes tree asked (no_cause tree asked u obeys)) u made;
-})
+}) tree.profile
   where
     made : IsEnabled tree asked u
     made = enabled_by tree asked u obeys.makes
@@ -269,32 +270,32 @@ enabled_loads_as tree asked u no_alias obeys = loads_as u tree (record {
 -- ---- enabling twice
 
 -- each unit loads as it did
-abbrev LoadsAs : Tree → Tree → Type 0
+abbrev LoadsAs : ReadTree → ReadTree → Type 0
 LoadsAs u tree = (unit : List ℕ) → is_unit_name unit ≡ true → load u unit ≡ load tree unit
 
 -- by such trees a unit name leads to one unit
-named_as : (u tree : Tree) → LoadsAs u tree → (asked : List ℕ) → is_unit_name asked ≡ true → unit_named u asked ≡ unit_named tree asked
+named_as : (u tree : ReadTree) → LoadsAs u tree → (asked : List ℕ) → is_unit_name asked ≡ true → unit_named u.entries asked ≡ unit_named tree.entries asked
 named_as u tree same asked is = named_by_loading u asked ∙ (ap (name_in asked) (same asked is) ∙ sym (named_by_loading tree asked))
 
 -- of a unit name each unit that is taken has one
-taken_name : (tree : Tree) (asked unit : List ℕ) → is_unit_name asked ≡ true → IsTaken tree asked unit → is_unit_name unit ≡ true
-taken_name tree asked unit is (first e) = subst (λ name. is_unit_name name ≡ true) (sym e) (named_by_name tree asked is)
+taken_name : (tree : ReadTree) (asked unit : List ℕ) → is_unit_name asked ≡ true → IsTaken tree asked unit → is_unit_name unit ≡ true
+taken_name tree asked unit is (first e) = subst (λ name. is_unit_name name ≡ true) (sym e) (named_by_name tree.entries asked is)
 taken_name tree asked unit is (next {a = taker} reached step) =
     let any = also_any tree taker unit step in
-    subst (λ name. is_unit_name name ≡ true) (sym any.2) (named_by_name tree any.0 (also_names tree taker any.0 any.1))
+    subst (λ name. is_unit_name name ≡ true) (sym any.2) (named_by_name tree.entries any.0 (also_names tree taker any.0 any.1))
 
-also_as : (u tree : Tree) → LoadsAs u tree → (unit other : List ℕ) → is_unit_name unit ≡ true → IsAlso u unit other → IsAlso tree unit other
+also_as : (u tree : ReadTree) → LoadsAs u tree → (unit other : List ℕ) → is_unit_name unit ≡ true → IsAlso u unit other → IsAlso tree unit other
 also_as u tree same unit other is step =
     let any = also_any u unit other step in
     any_also tree unit other
     (any.0, subst (λ found. Among (install_of found).also any.0) (same unit is) any.1, any.2 ∙ named_as u tree same any.0 (also_names u unit any.0 any.1))
 
-taken_as : (u tree : Tree) → LoadsAs u tree → (asked unit : List ℕ) → is_unit_name asked ≡ true → IsTaken u asked unit → IsTaken tree asked unit
+taken_as : (u tree : ReadTree) → LoadsAs u tree → (asked unit : List ℕ) → is_unit_name asked ≡ true → IsTaken u asked unit → IsTaken tree asked unit
 taken_as u tree same asked unit is (first e) = first (e ∙ named_as u tree same asked is)
 taken_as u tree same asked unit is (next {a = taker} reached step) =
     next (taken_as u tree same asked taker is reached) (also_as u tree same taker unit (taken_name u asked taker is reached) step)
 
-asked_as : (u tree : Tree) → LoadsAs u tree → (asked : List ℕ) → is_unit_name asked ≡ true → (link : LinkAt) → IsAskedFor u asked link → IsAskedFor tree asked link
+asked_as : (u tree : ReadTree) → LoadsAs u tree → (asked : List ℕ) → is_unit_name asked ≡ true → (link : LinkAt) → IsAskedFor u asked link → IsAskedFor tree asked link
 asked_as u tree same asked is link w = record {
   unit = w.unit;
   taken = taken_as u tree same asked w.unit is w.taken;
@@ -325,21 +326,25 @@ none_beyond tree = no_filter (map.keys tree) (λ path among. is_there (map.get t
     among_any path (other ∷ paths) (inr later) = or_later (eq_by_cmp (slice_cmp nat_cmp) path other) _ (among_any path paths later)
 
 -- a second enabling is obeyed and changes nothing, where no unit has another name by the first
-module _ (tree : Tree) (asked : List ℕ) (u : Tree) (is : is_unit_name asked ≡ true) (no_alias : HasNoAlias tree asked) (obeys : Obeys tree verbs.Enable asked u) where
+module _ (tree : ReadTree) (asked : List ℕ) (u : Tree) (is : is_unit_name asked ≡ true) (no_alias : HasNoAlias tree asked) (obeys : Obeys tree verbs.Enable asked u) where
   made : IsEnabled tree asked u
   made = enabled_by tree asked u obeys.makes
 
-  -- what is asked for then was asked for before
-  before : (link : LinkAt) → IsAskedFor u asked link → IsAskedFor tree asked link
-  before = asked_as u tree (enabled_loads_as tree asked u no_alias obeys) asked is
+  -- the tree that came of it, read as the one before
+  abbrev again : ReadTree
+  again = read_by tree.profile u
 
-  already : IsEnabled u asked u
+  -- what is asked for then was asked for before
+  before : (link : LinkAt) → IsAskedFor again asked link → IsAskedFor tree asked link
+  before = asked_as again tree (enabled_loads_as tree asked u no_alias obeys) asked is
+
+  already : IsEnabled again asked u
   already = record { linked = λ path target w. made.linked path target (before (link_at path target) w); kept = λ path isnt. refl }
 
-  fit_again : (path : List ℕ) → ¬ (IsUnfit u asked path)
+  fit_again : (path : List ℕ) → ¬ (IsUnfit again asked path)
   fit_again path h = all_fit tree asked u obeys path (h.0, before (link_at path h.0) h.1, h.2)
 
-  free_again : (path : List ℕ) → ¬ (IsOccupied u asked path)
+  free_again : (path : List ℕ) → ¬ (IsOccupied again asked path)
   free_again path (stands {target = target} w other) =
       true≢false
       (sym other
@@ -348,32 +353,32 @@ module _ (tree : Tree) (asked : List ℕ) (u : Tree) (is : is_unit_name asked �
   free_again path (differs {target = target} {other = other} w v apart) =
       free_of_causes tree asked (no_cause tree asked u obeys) path (differs (before (link_at path target) w) (before (link_at path other) v) apart)
 
-  few_again : (r : Refused) → ¬ (HasTooMany u asked r)
+  few_again : (r : Refused) → ¬ (HasTooMany again asked r)
   few_again r (too_many {enabled = other} all many) =
       few_of_causes tree asked (no_cause tree asked u obeys) (too_large Entries)
-      (too_many made (subst (λ t. entry_limit < map.len t) (one_enabled u asked other u all already) many))
+      (too_many made (subst (λ t. entry_limit < map.len t) (one_enabled again asked other u all already) many))
 
-  open_again : (unit : List ℕ) → ¬ (IsBarred u asked unit)
+  open_again : (unit : List ℕ) → ¬ (IsBarred again asked unit)
   open_again unit h =
       open_of_causes tree asked (none_refused tree asked u obeys) unit
       (record {
-        taken = taken_as u tree (enabled_loads_as tree asked u no_alias obeys) asked unit is h.taken;
+        taken = taken_as again tree (enabled_loads_as tree asked u no_alias obeys) asked unit is h.taken;
         refusal = h.refusal;
-        cause = subst (λ found. CannotEnable unit found h.refusal) (enabled_loads_as tree asked u no_alias obeys unit (taken_name u asked unit is h.taken)) h.cause;
+        cause = subst (λ found. CannotEnable unit found h.refusal) (enabled_loads_as tree asked u no_alias obeys unit (taken_name again asked unit is h.taken)) h.cause;
       })
 
-  obeyed_again : (r : Refused) → ¬ (RefusesInstall u verbs.Enable asked r)
+  obeyed_again : (r : Refused) → ¬ (RefusesInstall again verbs.Enable asked r)
   obeyed_again r (at_first (enables_none (at_first unfit))) = fit_again unfit.name unfit.least.has
   obeyed_again r (at_first (enables_none (at_second fit (at_first occupied)))) = free_again occupied.name occupied.least.has
   obeyed_again r (at_first (enables_none (at_second fit (at_second free many)))) = few_again r many
   obeyed_again r (at_second _ (takes_none barred)) = open_again barred.name barred.least.has
 
-  pub enable_twice : Obeys u verbs.Enable asked u
+  pub enable_twice : Obeys again verbs.Enable asked u
   enable_twice = record { free = obeyed_again; makes = enables already }
 
-  pub enable_twice_alone : (w : Tree) → Installs u verbs.Enable asked w → w ≡ u
-  enable_twice_alone w more = one_install u verbs.Enable asked w u more (enables already)
+  pub enable_twice_alone : (w : Tree) → Installs again verbs.Enable asked w → w ≡ u
+  enable_twice_alone w more = one_install again verbs.Enable asked w u more (enables already)
 
   -- so it tells of no link
-  pub enable_twice_tells_none : (w : Tree) → Installs u verbs.Enable asked w → paths_beyond u w ≡ []
+  pub enable_twice_tells_none : (w : Tree) → Installs again verbs.Enable asked w → paths_beyond u w ≡ []
   enable_twice_tells_none w more = ap (paths_beyond u) (enable_twice_alone w more) ∙ none_beyond u

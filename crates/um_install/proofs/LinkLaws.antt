@@ -9,6 +9,7 @@ use Rattle.std.proofs.lemmas.Map.Lookups.{exact_bytes}
 use Rattle.std.proofs.lemmas.Map.Views.{tells_apart}
 use Rattle.std.proofs.lemmas.Option.{same_Some, none-some}
 use Rattle.std.proofs.lemmas.Slice.Eq.{bytes_eq-Decides}
+use Rattle.um_model.specs.Profiles.{ReadTree}
 use Rattle.um_model.specs.Install.{LinkAt, link_at, links_of, also, IsTaken, IsAskedFor, IsUnfit, IsOccupied, stands, differs}
 use Rattle.um_model.specs.Reached.{first, next}
 use Rattle.um_model.specs.Tree.{Tree, path_parts, is_fit_target, is_other_than_link}
@@ -20,11 +21,11 @@ use Rattle.um_install.specs.declared.walk.Naming.TheVariants.{AsResolved}
 use Rattle.um_install.proofs.Members.{contains_each, contains_flat, contains_later, each_contains, flat_contains, get_there, there_get}
 use Rattle.um_install.proofs.WalkLaws.{some_value}
 
-pub to_taken : (tree : Tree) (asked unit : List ℕ) → IsWalked AsResolved tree asked unit → IsTaken tree asked unit
+pub to_taken : (tree : ReadTree) (asked unit : List ℕ) → IsWalked AsResolved tree asked unit → IsTaken tree asked unit
 to_taken tree asked unit (first e) = first e
 to_taken tree asked unit (next {a = a} r (named c)) = next (to_taken tree asked a r) (also c)
 
-pub from_taken : (tree : Tree) (asked unit : List ℕ) → IsTaken tree asked unit → IsWalked AsResolved tree asked unit
+pub from_taken : (tree : ReadTree) (asked unit : List ℕ) → IsTaken tree asked unit → IsWalked AsResolved tree asked unit
 from_taken tree asked unit (first e) = first e
 from_taken tree asked unit (next {a = a} r (also c)) = next (from_taken tree asked a r) (named c)
 
@@ -72,7 +73,7 @@ targets_there m (z ∷ ls) l (suc k, h, e) = targets_there (map.insert m z.path 
 pub same_text : (a b : List ℕ) → bytes_eq a b ≡ true → a ≡ b
 same_text a b e = (bytes_eq-Decides a b).0 e
 
-module _ (tree : Tree) (asked : List ℕ) (units : Units) (w : AreWalked AsResolved tree asked units) where
+module _ (tree : ReadTree) (asked : List ℕ) (units : Units) (w : AreWalked AsResolved tree asked units) where
   abbrev links : List LinkAt
   links = links_in units
 
@@ -135,9 +136,9 @@ module _ (tree : Tree) (asked : List ℕ) (units : Units) (w : AreWalked AsResol
   other_in l c (Some other) e t =
       differs (asked_for (link_at l.path other) (target_asked l.path other e)) (asked_for l c) (λ same. true≢false (sym ((bytes_eq-Decides other l.target).1 same) ∙ not_true (bytes_eq other l.target) t))
 
-  pub occupied_in : (l : LinkAt) → Contains links l → is_occupied tree targets l ≡ true → IsOccupied tree asked l.path
+  pub occupied_in : (l : LinkAt) → Contains links l → is_occupied tree.entries targets l ≡ true → IsOccupied tree asked l.path
   occupied_in l c t =
-      elim (either (is_other_than_link (map.get tree l.path) l.target) (is_other (map.get targets l.path) l.target) t) as (λ _. IsOccupied tree asked l.path) [
+      elim (either (is_other_than_link (map.get tree.entries l.path) l.target) (is_other (map.get targets l.path) l.target) t) as (λ _. IsOccupied tree asked l.path) [
         | inl a ↦ stands (asked_for l c) a
         | inr b ↦ other_in l c (map.get targets l.path) refl b
       ]
@@ -150,19 +151,19 @@ module _ (tree : Tree) (asked : List ℕ) (units : Units) (w : AreWalked AsResol
 
   -- of two links at a path with other targets one is told
   by_kept : (path target other kept : List ℕ) → map.get targets path ≡ Some kept → Contains links (link_at path target) → Contains links (link_at path other) → target ≢ other
-      → (l : LinkAt) × Contains links l × (is_occupied tree targets l ≡ true) × (l.path ≡ path)
+      → (l : LinkAt) × Contains links l × (is_occupied tree.entries targets l ≡ true) × (l.path ≡ path)
   by_kept path target other kept at c d ne =
-      elim (bytes_eq kept target) as (λ b. bytes_eq kept target ≡ b → (l : LinkAt) × Contains links l × (is_occupied tree targets l ≡ true) × (l.path ≡ path)) [
+      elim (bytes_eq kept target) as (λ b. bytes_eq kept target ≡ b → (l : LinkAt) × Contains links l × (is_occupied tree.entries targets l ≡ true) × (l.path ≡ path)) [
         | true ↦ λ t. (
           link_at path other,
           d,
-          right (is_other_than_link (map.get tree path) other) _ (ap (λ o. is_other o other) at ∙ not_same kept other (λ same. ne (sym (same_text kept target t) ∙ same))),
+          right (is_other_than_link (map.get tree.entries path) other) _ (ap (λ o. is_other o other) at ∙ not_same kept other (λ same. ne (sym (same_text kept target t) ∙ same))),
           refl,
         )
-        | false ↦ λ f. (link_at path target, c, right (is_other_than_link (map.get tree path) target) _ (ap (λ o. is_other o target) at ∙ ap not f), refl)
+        | false ↦ λ f. (link_at path target, c, right (is_other_than_link (map.get tree.entries path) target) _ (ap (λ o. is_other o target) at ∙ ap not f), refl)
       ] refl
 
-  pub occupied_out : (path : List ℕ) → IsOccupied tree asked path → (l : LinkAt) × Contains links l × (is_occupied tree targets l ≡ true) × (l.path ≡ path)
+  pub occupied_out : (path : List ℕ) → IsOccupied tree asked path → (l : LinkAt) × Contains links l × (is_occupied tree.entries targets l ≡ true) × (l.path ≡ path)
   occupied_out path (stands {target = target} a t) = (link_at path target, listed (link_at path target) a, left _ (is_other (map.get targets path) target) t, refl)
   occupied_out path (differs {target = target} {other = other} a b ne) =
       let c = listed (link_at path target) a in

@@ -3,6 +3,7 @@ use Rattle.std.proofs.Common.{ℕ, suc, ◌≡◌, ◌↔◌, ◌∙◌, ◌++�
 use Rattle.std.specs.FinMap as map
 use Rattle.std.proofs.Math.Seq.{drop-cons}
 use Rattle.std.proofs.lemmas.Bool.Decides.{nat_tests}
+use Rattle.um_model.specs.Profiles.{ReadTree}
 use Rattle.um_model.specs.declared.install.Enabling.TheVariants as enabling
 use Rattle.um_model.specs.Install.{enabling_by}
 use Rattle.um_model.specs.Install.{linked_name, CannotEnable, isnt_found, is_masked, has_bad_setting, lacks_instance, Installs, RefusesLinks, masks, masks_none, unmasks, is_masking, unmasked}
@@ -83,11 +84,11 @@ none_first r h = elim h [ ]
 
 -- ---- masks
 
-pub masks_to : (tree changed : Tree) (unit path : List ℕ) → path ≡ unit_path Etc unit → put_link tree path (codes "/dev/null") ≡ Ok changed → Installs tree verbs.Mask unit changed
-masks_to tree changed unit path is ok = masks (ap (λ p. put_link tree p (codes "/dev/null")) (sym is) ∙ ok)
+pub masks_to : (tree : ReadTree) (changed : Tree) (unit path : List ℕ) → path ≡ unit_path Etc unit → put_link tree.entries path (codes "/dev/null") ≡ Ok changed → Installs tree verbs.Mask unit changed
+masks_to tree changed unit path is ok = masks (ap (λ p. put_link tree.entries p (codes "/dev/null")) (sym is) ∙ ok)
 
-pub masks_none_to : (tree : Tree) (unit path : List ℕ) (r : Refused) → path ≡ unit_path Etc unit → put_link tree path (codes "/dev/null") ≡ Err r → RefusesLinks tree verbs.Mask unit r
-masks_none_to tree unit path r is err = masks_none (ap (λ p. put_link tree p (codes "/dev/null")) (sym is) ∙ err)
+pub masks_none_to : (tree : ReadTree) (unit path : List ℕ) (r : Refused) → path ≡ unit_path Etc unit → put_link tree.entries path (codes "/dev/null") ≡ Err r → RefusesLinks tree verbs.Mask unit r
+masks_none_to tree unit path r is err = masks_none (ap (λ p. put_link tree.entries p (codes "/dev/null")) (sym is) ∙ err)
 
 pub link_refused : (tree : Tree) (path target : List ℕ) (r q : Refused) → link_cause tree path target ≡ Some r → q ≡ r → put_link tree path target ≡ Err q
 unfolding put_link
@@ -106,11 +107,11 @@ removed_ok tree t path e = removed_by (is_none (map.get tree path)) _ t (map.rem
 by_mask : (tree : Tree) (unit : List ℕ) (b : Bool) → is_masking (map.get tree (unit_path Etc unit)) ≡ b → unmasked tree unit ≡ cond b (map.remove tree (unit_path Etc unit)) tree
 by_mask tree unit b e = ap (λ b. cond b (map.remove tree (unit_path Etc unit)) tree) e
 
-pub unmasks_none : (tree t : Tree) (unit path : List ℕ) → path ≡ unit_path Etc unit → is_masking (map.get tree path) ≡ false → t ≡ tree → Installs tree verbs.Unmask unit t
+pub unmasks_none : (tree : ReadTree) (t : Tree) (unit path : List ℕ) → path ≡ unit_path Etc unit → is_masking (map.get tree.entries path) ≡ false → t ≡ tree.entries → Installs tree verbs.Unmask unit t
 unmasks_none tree t unit path is none same =
-    subst (Installs tree verbs.Unmask unit) (by_mask tree unit false (ap (λ p. is_masking (map.get tree p)) (sym is) ∙ none) ∙ sym same) unmasks
+    subst (Installs tree verbs.Unmask unit) (by_mask tree.entries unit false (ap (λ p. is_masking (map.get tree.entries p)) (sym is) ∙ none) ∙ sym same) unmasks
 
-pub unmasks_one : (tree t : Tree) (unit path : List ℕ) → path ≡ unit_path Etc unit → is_masking (map.get tree path) ≡ true → remove_at tree path ≡ Ok t → Installs tree verbs.Unmask unit t
+pub unmasks_one : (tree : ReadTree) (t : Tree) (unit path : List ℕ) → path ≡ unit_path Etc unit → is_masking (map.get tree.entries path) ≡ true → remove_at tree.entries path ≡ Ok t → Installs tree verbs.Unmask unit t
 unmasks_one tree t unit path is some ok =
     subst (Installs tree verbs.Unmask unit)
-    (by_mask tree unit true (ap (λ p. is_masking (map.get tree p)) (sym is) ∙ some) ∙ ap (map.remove tree) (sym is) ∙ sym (removed_ok tree t path ok)) unmasks
+    (by_mask tree.entries unit true (ap (λ p. is_masking (map.get tree.entries p)) (sym is) ∙ some) ∙ ap (map.remove tree.entries) (sym is) ∙ sym (removed_ok tree.entries t path ok)) unmasks

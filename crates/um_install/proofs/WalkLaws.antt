@@ -10,6 +10,7 @@ use Rattle.std.proofs.lemmas.List.Elements.{Contains-append_left, Contains-appen
 use Rattle.std.proofs.lemmas.Map.Lookups.{exact_bytes}
 use Rattle.std.proofs.lemmas.Map.Views.{tells_apart}
 use Rattle.std.proofs.lemmas.Option.{same_Some, none-some}
+use Rattle.um_model.specs.Profiles.{ReadTree}
 use Rattle.um_model.specs.Install.{install_of}
 use Rattle.um_model.specs.Names.{is_unit_name}
 use Rattle.um_model.specs.Reached.{first, next}
@@ -49,13 +50,13 @@ written l name c =
     let r = flat_contains name_in (install_of l).also name c in
     subst (Contains (install_of l).also) (in_listed r.0 name (is_unit_name r.0) refl r.2) r.1
 
-module _ (naming : Naming) (tree : Tree) (asked : List ℕ) where
+module _ (naming : Naming) (tree : ReadTree) (asked : List ℕ) where
   pub begun_walk : (units : Units) (waiting : List (List ℕ)) → units ≡ map.empty → waiting ≡ asked ∷ [] → IsUnderWay naming tree asked units waiting 0
   begun_walk units waiting none one = record {
     loaded = λ unit l at. absurd (not_there units unit l none at);
     walked = λ unit l at. absurd (not_there units unit l none at);
     meant = λ name c.
-        subst (λ n. IsWalked naming tree asked (name_taken naming tree n)) (only asked name (subst (λ ws. Contains ws name) one c)) (first refl);
+        subst (λ n. IsWalked naming tree asked (name_taken naming tree.entries n)) (only asked name (subst (λ ws. Contains ws name) one c)) (first refl);
     begun = subst (λ ws. Contains ws asked) (sym one) (0, omega arith, refl);
     followed = λ unit l at name c. absurd (not_there units unit l none at);
     done = λ k less. absurd (omega (arith, less));
@@ -63,7 +64,7 @@ module _ (naming : Naming) (tree : Tree) (asked : List ℕ) where
   }
 
   module _ (units : Units) (waiting : List (List ℕ)) (unit : List ℕ) (at : ℕ) (u : IsUnderWay naming tree asked units waiting at) (less : at < length waiting)
-      (unit_is : unit ≡ name_taken naming tree (get_or waiting at [])) where
+      (unit_is : unit ≡ name_taken naming tree.entries (get_or waiting at [])) where
     here_walked : IsWalked naming tree asked unit
     here_walked = subst (IsWalked naming tree asked) (sym unit_is) (u.meant (get_or waiting at []) (Contains-get_or waiting at [] less))
 
@@ -74,11 +75,11 @@ module _ (naming : Naming) (tree : Tree) (asked : List ℕ) where
       meant = u.meant;
       begun = u.begun;
       followed = u.followed;
-      done = λ k below. elim (cases_lt k at) as (λ _. map.contains_key units (name_taken naming tree (get_or waiting k [])) ≡ true) [
+      done = λ k below. elim (cases_lt k at) as (λ _. map.contains_key units (name_taken naming tree.entries (get_or waiting k [])) ≡ true) [
         | inl lower ↦ u.done k lower
         | inr most ↦
             let same : at ≡ k = omega (arith, below, most) in
-            subst (λ j. map.contains_key units (name_taken naming tree (get_or waiting j [])) ≡ true) same
+            subst (λ j. map.contains_key units (name_taken naming tree.entries (get_or waiting j [])) ≡ true) same
             (ap (λ n. map.contains_key units n) (sym unit_is) ∙ there)
       ];
       within = omega (arith, less);
@@ -112,7 +113,7 @@ module _ (naming : Naming) (tree : Tree) (asked : List ℕ) where
     grows = record {
       loaded = λ q v is. elim (held q v is) as (λ _. v ≡ load tree q) [ inl h ↦ sym h.1 ∙ ap (load tree) (sym h.0) | inr o ↦ u.loaded q v o ];
       walked = λ q v is. elim (held q v is) as (λ _. IsWalked naming tree asked q) [ inl h ↦ subst (IsWalked naming tree asked) (sym h.0) here_walked | inr o ↦ u.walked q v o ];
-      meant = λ name c. elim (Contains-append_cases waiting (also_in more) name c) as (λ _. IsWalked naming tree asked (name_taken naming tree name)) [
+      meant = λ name c. elim (Contains-append_cases waiting (also_in more) name c) as (λ _. IsWalked naming tree asked (name_taken naming tree.entries name)) [
         | inl a ↦ u.meant name a
         | inr b ↦ next here_walked (named (written more name b))
       ];
@@ -123,12 +124,12 @@ module _ (naming : Naming) (tree : Tree) (asked : List ℕ) where
       ];
       done = λ k below.
           let short : k < length waiting = omega (arith, below, less) in
-          subst (λ n. map.contains_key grown (name_taken naming tree n) ≡ true) (sym (get_or_append_left waiting (also_in more) [] k short))
-          (elim (cases_lt k at) as (λ _. map.contains_key grown (name_taken naming tree (get_or waiting k [])) ≡ true) [
-            | inl lower ↦ kept_key (name_taken naming tree (get_or waiting k [])) (u.done k lower)
+          subst (λ n. map.contains_key grown (name_taken naming tree.entries n) ≡ true) (sym (get_or_append_left waiting (also_in more) [] k short))
+          (elim (cases_lt k at) as (λ _. map.contains_key grown (name_taken naming tree.entries (get_or waiting k [])) ≡ true) [
+            | inl lower ↦ kept_key (name_taken naming tree.entries (get_or waiting k [])) (u.done k lower)
             | inr most ↦
                 let same : at ≡ k = omega (arith, below, most) in
-                subst (λ j. map.contains_key grown (name_taken naming tree (get_or waiting j [])) ≡ true) same
+                subst (λ j. map.contains_key grown (name_taken naming tree.entries (get_or waiting j [])) ≡ true) same
                 (ap (λ n. map.contains_key grown n) (sym unit_is) ∙ new_key)
           ]);
       within = let whole = length-append waiting (also_in more) in omega (arith, less, whole);
@@ -145,9 +146,9 @@ module _ (naming : Naming) (tree : Tree) (asked : List ℕ) where
         (subst (λ ws. IsUnderWay naming tree asked (units_with tree units unit) ws (at + 1)) (sym f) (by_key (map.contains_key units unit) refl))
 
   module _ (units : Units) (waiting : List (List ℕ)) (at : ℕ) (u : IsUnderWay naming tree asked units waiting at) (all : ¬ (at < length waiting)) where
-    taken : (name : List ℕ) → Contains waiting name → map.contains_key units (name_taken naming tree name) ≡ true
-    taken name (k, h, g) = elim (cases_lt k at) as (λ _. map.contains_key units (name_taken naming tree name) ≡ true) [
-      | inl lower ↦ subst (λ n. map.contains_key units (name_taken naming tree n) ≡ true) (get_or_default waiting k [] name h ∙ g) (u.done k lower)
+    taken : (name : List ℕ) → Contains waiting name → map.contains_key units (name_taken naming tree.entries name) ≡ true
+    taken name (k, h, g) = elim (cases_lt k at) as (λ _. map.contains_key units (name_taken naming tree.entries name) ≡ true) [
+      | inl lower ↦ subst (λ n. map.contains_key units (name_taken naming tree.entries n) ≡ true) (get_or_default waiting k [] name h ∙ g) (u.done k lower)
       | inr most ↦ absurd (all (omega (arith, h, most)))
     ]
 

@@ -5,6 +5,7 @@ use Rattle.std.specs.Prelude.{◌≡◌, ℕ, false, List, [], Contains, Some, N
 use Rattle.std.specs.FinMap as map
 use Rattle.um_model.specs.Install.{IsTaken, path_in_etc, Installs, RefusesInstall}
 use Rattle.um_model.specs.Names.{is_template}
+use Rattle.um_model.specs.Profiles.{ReadTree}
 use Rattle.um_model.specs.Refusals.{Refused}
 use Rattle.um_model.specs.Resolution.{unit_in_target}
 use Rattle.um_model.specs.Tree.{Tree, Unit, Wants, Requires}
@@ -12,12 +13,12 @@ use Rattle.um_model.specs.Units.{LoadedUnit, Found, load}
 use Rattle.um_model.specs.declared.install.InstallVerb.{InstallVerb}
 
 -- the verb isn't refused, and makes the other tree of this one
-pub record Obeys (tree : Tree) (verb : InstallVerb) (unit : List ℕ) (u : Tree) : Type 0 where
+pub record Obeys (tree : ReadTree) (verb : InstallVerb) (unit : List ℕ) (u : Tree) : Type 0 where
   pub free : (r : Refused) → ¬ (RefusesInstall tree verb unit r)
   pub makes : Installs tree verb unit u
 
 -- the unit is found under its own name, is no template, and has this file
-pub record IsFoundByName (tree : Tree) (asked file : List ℕ) (l : LoadedUnit) : Type 0 where
+pub record IsFoundByName (tree : ReadTree) (asked file : List ℕ) (l : LoadedUnit) : Type 0 where
   pub found : load tree asked ≡ Found l
   pub named : l.name ≡ asked
   pub single : is_template asked ≡ false
@@ -30,5 +31,5 @@ pub record IsUndone (l : LoadedUnit) (name file : List ℕ) (v : Tree) : Type 0 
   pub aliased : unit_in_target file ≡ name → (alias : List ℕ) → Contains l.settings.install.alias alias → map.get v (path_in_etc alias Unit) ≡ None
 
 -- no unit that enabling takes asks for another name
-abbrev pub HasNoAlias : Tree → List ℕ → Type 0
+abbrev pub HasNoAlias : ReadTree → List ℕ → Type 0
 HasNoAlias tree asked = (unit : List ℕ) (l : LoadedUnit) → IsTaken tree asked unit → load tree unit ≡ Found l → l.settings.install.alias ≡ []

@@ -9,12 +9,14 @@ ghost use Rattle.um_tree.specs.View.{entry_of};
 ghost use Rattle.um_install.specs.Changes as changes;
 ghost use Rattle.um_wire.specs.Gives.{Gives, RefusesBy};
 ghost use Rattle.um_install.specs.View.{units_of};
+ghost use Rattle.um_unit.specs.View.{tree_read};
 
 use crate::walk::{Naming, Units, contains, walk};
 use std::alloc::{AllocError, Global};
 use um_model::Layer;
 use um_name::UnitName;
 use um_tree::{Entry, Place, ServedPath, Tree, unit_in_target};
+use um_unit::Reading;
 use um_wire::Refusal;
 
 /// Whether a link at such a place wants or requires one of the units.
@@ -75,11 +77,15 @@ fn without(tree: &Tree, paths: &[String]) -> Result<Tree, Refusal>
 }
 
 /// The tree without the links that disabling the unit removes.
-pub(crate) fn disabled(alloc: Global, tree: &Tree, unit: &UnitName) -> Result<Tree, Refusal>
-    ensures installs { IfOk result (λ t. model.Installs tree.now verbs.Disable unit.now t) }
-    ensures refused { RefusesBy (model.RefusesLinks tree.now verbs.Disable unit.now) result }
+pub(crate) fn disabled(
+    alloc: Global,
+    reading: Reading<'_>,
+    unit: &UnitName,
+) -> Result<Tree, Refusal>
+    ensures installs { IfOk result (λ t. model.Installs (tree_read reading.entry) verbs.Disable unit.now t) }
+    ensures refused { RefusesBy (model.RefusesLinks (tree_read reading.entry) verbs.Disable unit.now) result }
 {
-    let units = walk(alloc, tree, Naming::AsWritten, unit)?;
-    let paths = unlinked(alloc, tree, &units)?;
-    without(tree, paths.as_slice())
+    let units = walk(alloc, reading, Naming::AsWritten, unit)?;
+    let paths = unlinked(alloc, reading.tree, &units)?;
+    without(reading.tree, paths.as_slice())
 }

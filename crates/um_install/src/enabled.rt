@@ -4,7 +4,7 @@ ghost use Rattle.std.specs.Prelude.{◌≡◌, ◌++◌, IfOk};
 ghost use Rattle.std.specs.FinMap as map;
 ghost use Rattle.std.specs.List.{list_any};
 ghost use Rattle.um_model.specs.Install as model;
-ghost use Rattle.um_unit.specs.View.{install_of, loading_of};
+ghost use Rattle.um_unit.specs.View.{install_of, loading_of, tree_read};
 ghost use Rattle.um_install.specs.Changes as changes;
 ghost use Rattle.um_install.specs.View.{units_of};
 
@@ -14,7 +14,7 @@ use std::alloc::{AllocError, Global};
 use um_model::Enabling;
 use um_name::UnitName;
 use um_tree::Tree;
-use um_unit::{InstallSettings, Loading};
+use um_unit::{InstallSettings, Loading, Reading};
 
 /// Whether there is a link that disabling the units removes.
 fn is_linked(tree: &Tree, units: &Units) -> bool
@@ -64,14 +64,18 @@ fn enabling_of(asked: &UnitName, loading: &Loading, linked: bool) -> Enabling
     }
 }
 
-/// How the unit is enabled in the tree (systemctl(1), "is-enabled"): the first that fits of not found, masked, another name of a
+/// How the unit is enabled in the tree as it is read (systemctl(1), "is-enabled"): the first that fits of not found, masked, another name of a
 /// unit, enabled, disabled, indirect and static. It is enabled where there is a link that disabling it removes.
-pub fn is_enabled(alloc: Global, tree: &Tree, unit: &UnitName) -> Result<Enabling, AllocError>
-    ensures { IfOk result (λ e. model.IsEnabledAs tree.now unit.now e) }
+pub fn is_enabled(
+    alloc: Global,
+    reading: Reading<'_>,
+    unit: &UnitName,
+) -> Result<Enabling, AllocError>
+    ensures { IfOk result (λ e. model.IsEnabledAs (tree_read reading.entry) unit.now e) }
 {
-    let units = walk(alloc, tree, Naming::AsWritten, unit)?;
+    let units = walk(alloc, reading, Naming::AsWritten, unit)?;
     match units.get(unit.as_str()) {
-        Some(loading) => Ok(enabling_of(unit, loading, is_linked(tree, &units))),
+        Some(loading) => Ok(enabling_of(unit, loading, is_linked(reading.tree, &units))),
         None => Ok(Enabling::NotFound),
     }
 }

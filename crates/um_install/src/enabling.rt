@@ -8,7 +8,7 @@ ghost use Rattle.um_model.specs.Tree.{IsTree};
 ghost use Rattle.um_model.specs.Units.{Found};
 ghost use Rattle.um_model.specs.declared.install.InstallVerb.TheVariants as verbs;
 ghost use Rattle.um_model.specs.declared.refusals.Limit.TheVariants.{Entries};
-ghost use Rattle.um_unit.specs.View.{loading_of, unit_of};
+ghost use Rattle.um_unit.specs.View.{loading_of, tree_read, unit_of};
 ghost use Rattle.um_install.specs.Changes.{linked};
 ghost use Rattle.um_wire.specs.Gives.{Gives, RefusesBy};
 ghost use Rattle.um_install.specs.Checks as checks;
@@ -21,7 +21,7 @@ use crate::walk::{Naming, Units, walk};
 use std::alloc::{AllocError, Global};
 use um_name::UnitName;
 use um_tree::Tree;
-use um_unit::{LoadedUnit, Loading};
+use um_unit::{LoadedUnit, Loading, Reading};
 use um_wire::{Limit, Refusal, bad_path, bad_setting, exists_at, masked, not_found};
 
 /// Refuses the least path that isn't served, or at which its link may not stand (E12).
@@ -117,23 +117,27 @@ fn with_links(tree: &Tree, targets: &Targets) -> Result<Tree, Refusal>
 }
 
 /// Refuses to enable the unit where one that it takes along can't be enabled: the least of them.
-pub(crate) fn check_taken(alloc: Global, tree: &Tree, unit: &UnitName) -> Result<(), Refusal>
-    ensures { RefusesBy (model.RefusesUnits tree.now verbs.Enable unit.now) result }
+pub(crate) fn check_taken(
+    alloc: Global,
+    reading: Reading<'_>,
+    unit: &UnitName,
+) -> Result<(), Refusal>
+    ensures { RefusesBy (model.RefusesUnits (tree_read reading.entry) verbs.Enable unit.now) result }
 {
-    let units = walk(alloc, tree, Naming::AsResolved, unit)?;
+    let units = walk(alloc, reading, Naming::AsResolved, unit)?;
     check_units(alloc, &units)
 }
 
 /// The tree with the links that enabling the unit asks for, whether the units that it takes can be enabled or not.
-pub(crate) fn enabled(alloc: Global, tree: &Tree, unit: &UnitName) -> Result<Tree, Refusal>
-    ensures installs { IfOk result (λ t. model.Installs tree.now verbs.Enable unit.now t) }
-    ensures refused { RefusesBy (model.RefusesLinks tree.now verbs.Enable unit.now) result }
+pub(crate) fn enabled(alloc: Global, reading: Reading<'_>, unit: &UnitName) -> Result<Tree, Refusal>
+    ensures installs { IfOk result (λ t. model.Installs (tree_read reading.entry) verbs.Enable unit.now t) }
+    ensures refused { RefusesBy (model.RefusesLinks (tree_read reading.entry) verbs.Enable unit.now) result }
 {
-    let units = walk(alloc, tree, Naming::AsResolved, unit)?;
+    let units = walk(alloc, reading, Naming::AsResolved, unit)?;
     let links = links_of(alloc, &units)?;
     let targets = targets_of(alloc, links.as_slice())?;
-    check_fit(alloc, tree, links.as_slice())?;
-    check_free(alloc, tree, &targets, links.as_slice())?;
-    check_room(tree, &targets)?;
-    with_links(tree, &targets)
+    check_fit(alloc, reading.tree, links.as_slice())?;
+    check_free(alloc, reading.tree, &targets, links.as_slice())?;
+    check_room(reading.tree, &targets)?;
+    with_links(reading.tree, &targets)
 }

@@ -2,6 +2,7 @@
 
 ghost use Rattle.std.specs.Prelude.{◌≡◌, IfOk, map as each, string_bytes};
 ghost use Rattle.um_model.specs.Install as model;
+ghost use Rattle.um_unit.specs.View.{tree_read};
 ghost use Rattle.um_wire.specs.Gives.{RefusesBy};
 
 use crate::disabling::disabled;
@@ -11,6 +12,7 @@ use std::alloc::{AllocError, Global};
 use um_model::InstallVerb;
 use um_name::UnitName;
 use um_tree::Tree;
+use um_unit::Reading;
 use um_wire::Refusal;
 
 /// A tree that a verb made of another one.
@@ -37,19 +39,24 @@ fn paths_beyond(alloc: Global, other: &Tree, tree: &Tree) -> Result<Vec<String>,
 }
 
 /// The tree that the verb makes of this one.
-fn changed(alloc: Global, tree: &Tree, verb: InstallVerb, unit: &UnitName) -> Result<Tree, Refusal>
-    ensures installs { IfOk result (λ t. model.Installs tree.now verb unit.now t) }
-    ensures refused { RefusesBy (model.RefusesLinks tree.now verb unit.now) result }
+fn changed(
+    alloc: Global,
+    reading: Reading<'_>,
+    verb: InstallVerb,
+    unit: &UnitName,
+) -> Result<Tree, Refusal>
+    ensures installs { IfOk result (λ t. model.Installs (tree_read reading.entry) verb unit.now t) }
+    ensures refused { RefusesBy (model.RefusesLinks (tree_read reading.entry) verb unit.now) result }
 {
     match verb {
-        InstallVerb::Enable => enabled(alloc, tree, unit),
-        InstallVerb::Disable => disabled(alloc, tree, unit),
-        InstallVerb::Mask => masked(alloc, tree, unit),
-        InstallVerb::Unmask => unmasked(alloc, tree, unit),
+        InstallVerb::Enable => enabled(alloc, reading, unit),
+        InstallVerb::Disable => disabled(alloc, reading, unit),
+        InstallVerb::Mask => masked(alloc, reading, unit),
+        InstallVerb::Unmask => unmasked(alloc, reading, unit),
     }
 }
 
-/// What the verb makes of the tree for the unit, with the paths that are made and removed, whether the units that it takes can be
+/// What the verb makes of the tree, as it is read, for the unit, with the paths that are made and removed, whether the units that it takes can be
 /// enabled or not: `check_units` asks that.
 ///
 /// Refused are the least path that isn't served or at which its link may not stand (E12), the least at which something else stands
@@ -57,19 +64,19 @@ fn changed(alloc: Global, tree: &Tree, verb: InstallVerb, unit: &UnitName) -> Re
 /// E15.
 pub fn relink(
     alloc: Global,
-    tree: &Tree,
+    reading: Reading<'_>,
     verb: InstallVerb,
     unit: &UnitName,
 ) -> Result<Installed, Refusal>
-    ensures installed { IfOk result (λ i. model.Installs tree.now verb unit.now i.tree) }
-    ensures made { IfOk result (λ i. each string_bytes i.made.items ≡ model.paths_beyond tree.now i.tree) }
-    ensures removed { IfOk result (λ i. each string_bytes i.removed.items ≡ model.paths_beyond i.tree tree.now) }
-    ensures refused { RefusesBy (model.RefusesLinks tree.now verb unit.now) result }
+    ensures installed { IfOk result (λ i. model.Installs (tree_read reading.entry) verb unit.now i.tree) }
+    ensures made { IfOk result (λ i. each string_bytes i.made.items ≡ model.paths_beyond reading.entry.tree.now i.tree) }
+    ensures removed { IfOk result (λ i. each string_bytes i.removed.items ≡ model.paths_beyond i.tree reading.entry.tree.now) }
+    ensures refused { RefusesBy (model.RefusesLinks (tree_read reading.entry) verb unit.now) result }
 {
-    let changed = changed(alloc, tree, verb, unit)?;
+    let changed = changed(alloc, reading, verb, unit)?;
     Ok(Installed {
-        made: paths_beyond(alloc, tree, &changed)?,
-        removed: paths_beyond(alloc, &changed, tree)?,
+        made: paths_beyond(alloc, reading.tree, &changed)?,
+        removed: paths_beyond(alloc, &changed, reading.tree)?,
         tree: changed,
     })
 }
@@ -78,32 +85,32 @@ pub fn relink(
 /// refused setting or is a template without a fit default instance (E6). Only enabling takes units. Want of memory is E15.
 pub fn check_units(
     alloc: Global,
-    tree: &Tree,
+    reading: Reading<'_>,
     verb: InstallVerb,
     unit: &UnitName,
 ) -> Result<(), Refusal>
-    ensures { RefusesBy (model.RefusesUnits tree.now verb unit.now) result }
+    ensures { RefusesBy (model.RefusesUnits (tree_read reading.entry) verb unit.now) result }
 {
     match verb {
-        InstallVerb::Enable => check_taken(alloc, tree, unit),
+        InstallVerb::Enable => check_taken(alloc, reading, unit),
         InstallVerb::Disable | InstallVerb::Mask | InstallVerb::Unmask => Ok(()),
     }
 }
 
-/// What the verb makes of the tree for the unit, with the paths that are made and removed: what `enable`, `disable`, `mask` or `unmask`
+/// What the verb makes of the tree, as it is read, for the unit, with the paths that are made and removed: what `enable`, `disable`, `mask` or `unmask`
 /// makes of it, which say what is refused and when.
 pub fn install(
     alloc: Global,
-    tree: &Tree,
+    reading: Reading<'_>,
     verb: InstallVerb,
     unit: &UnitName,
 ) -> Result<Installed, Refusal>
-    ensures installed { IfOk result (λ i. model.Installs tree.now verb unit.now i.tree) }
-    ensures made { IfOk result (λ i. each string_bytes i.made.items ≡ model.paths_beyond tree.now i.tree) }
-    ensures removed { IfOk result (λ i. each string_bytes i.removed.items ≡ model.paths_beyond i.tree tree.now) }
-    ensures refused { RefusesBy (model.RefusesInstall tree.now verb unit.now) result }
+    ensures installed { IfOk result (λ i. model.Installs (tree_read reading.entry) verb unit.now i.tree) }
+    ensures made { IfOk result (λ i. each string_bytes i.made.items ≡ model.paths_beyond reading.entry.tree.now i.tree) }
+    ensures removed { IfOk result (λ i. each string_bytes i.removed.items ≡ model.paths_beyond i.tree reading.entry.tree.now) }
+    ensures refused { RefusesBy (model.RefusesInstall (tree_read reading.entry) verb unit.now) result }
 {
-    let installed = relink(alloc, tree, verb, unit)?;
-    check_units(alloc, tree, verb, unit)?;
+    let installed = relink(alloc, reading, verb, unit)?;
+    check_units(alloc, reading, verb, unit)?;
     Ok(installed)
 }

@@ -4,7 +4,7 @@ ghost use Rattle.std.specs.Prelude.{◌≡◌, ◌++◌, IfOk, OnOk, map as each
 ghost use Rattle.std.specs.FinMap as map;
 ghost use Rattle.std.specs.List.{flat_map};
 ghost use Rattle.um_model.specs.Names.{named};
-ghost use Rattle.um_unit.specs.View.{loading_of};
+ghost use Rattle.um_unit.specs.View.{loading_of, tree_read};
 ghost use Rattle.um_install.specs.View.{units_of};
 ghost use Rattle.um_install.specs.Walk.{AreWalked, also_in, listed, name_in, name_taken, units_with, waiting_with};
 
@@ -13,7 +13,7 @@ use std::collections::BTreeMap;
 use um_name::UnitName;
 use um_resolve::unit_named;
 use um_tree::Tree;
-use um_unit::{Loading, load};
+use um_unit::{Loading, Reading, load};
 
 /// Units by their names, each with what became of the look for it.
 pub(crate) type Units = BTreeMap<String, Loading>;
@@ -93,18 +93,18 @@ pub(crate) fn contains(units: &Units, name: &str) -> bool
 /// Takes the unit, and has the names in its Also= wait, unless it is taken already.
 fn take(
     alloc: Global,
-    tree: &Tree,
+    reading: Reading<'_>,
     units: &mut Units,
     waiting: &mut Vec<UnitName>,
     unit: &UnitName,
 ) -> Result<(), AllocError>
-    ensures units { OnOk result (units_of units.new.entries ≡ units_with tree.now (units_of units.old.entries) unit.now) }
-    ensures waiting { OnOk result (waiting.new.items ≡ waiting_with tree.now (units_of units.old.entries) waiting.old.items unit.now) }
+    ensures units { OnOk result (units_of units.new.entries ≡ units_with (tree_read reading.entry) (units_of units.old.entries) unit.now) }
+    ensures waiting { OnOk result (waiting.new.items ≡ waiting_with (tree_read reading.entry) (units_of units.old.entries) waiting.old.items unit.now) }
 {
     if contains(units, unit.as_str()) {
         return Ok(());
     }
-    let loading = load(alloc, tree, unit)?;
+    let loading = load(alloc, reading, unit)?;
     push_also(alloc, waiting, &loading)?;
     units.insert(String::from_str(alloc, unit.as_str())?, loading)?;
     Ok(())
@@ -113,19 +113,19 @@ fn take(
 /// The unit that is asked for, those that its Also= names, and so on; each is loaded once.
 pub(crate) fn walk(
     alloc: Global,
-    tree: &Tree,
+    reading: Reading<'_>,
     naming: Naming,
     asked: &UnitName,
 ) -> Result<Units, AllocError>
-    ensures { IfOk result (λ units. AreWalked naming tree.now asked.now (units_of units.entries)) }
+    ensures { IfOk result (λ units. AreWalked naming (tree_read reading.entry) asked.now (units_of units.entries)) }
 {
     let mut units = BTreeMap::new(alloc);
     let mut waiting = Vec::new(alloc);
     waiting.push(asked.copy()?)?;
     let mut next = 0;
     while next < waiting.len() {
-        let unit = taken_for(alloc, tree, naming, &waiting[next])?;
-        take(alloc, tree, &mut units, &mut waiting, &unit)?;
+        let unit = taken_for(alloc, reading.tree, naming, &waiting[next])?;
+        take(alloc, reading, &mut units, &mut waiting, &unit)?;
         next += 1;
     }
     Ok(units)

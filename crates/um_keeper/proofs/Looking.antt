@@ -7,11 +7,12 @@ use Rattle.um_model.specs.InputSpellings.{input_at}
 use Rattle.um_model.specs.Machine.{State, Input}
 use Rattle.um_model.specs.Stands.{inputs_of}
 use Rattle.um_model.specs.Store as sectors
+use Rattle.um_model.specs.declared.layout.Format.{Format}
 use Rattle.um_model.specs.declared.layout.Layout.{Layout}
 use Rattle.um_model.specs.declared.layout.Slot.{Slot}
 use Rattle.um_laws.proofs.ImageLaws.{newest_some}
 use Rattle.um_laws.proofs.StandsLaws.{bound, has_contents}
-use Rattle.um_laws.proofs.StoreLaws.{same_newest}
+use Rattle.um_laws.proofs.StoreLaws.{one_format, same_newest}
 use Rattle.um_keeper.specs.Inspecting.{IsSummed}
 use Rattle.um_keeper.specs.Opening.{IsTakenUp, IsRead, TellsCutOff, TellsDamaged}
 use Rattle.um_keeper.specs.declared.inspecting.Summary.{Summary}
@@ -35,7 +36,8 @@ pub summed : {count : ℕ} {image : Image} {layout : Layout} {slot : Slot} {gene
     → m.clock ≡ s.clock → m.next ≡ s.next → IsSummed count image m s
 summed {image = image} {layout = layout} m opened taken read of_generation of_records of_cut_off of_damaged of_clock of_next =
     let stands = taken_stands taken in
-    let holds = has_contents layout image stands.contents stands.holds in
+    let format : read.format ≡ stands.format = one_format read.format stands.format layout layout (sym read.first ∙ stands.first) in
+    let holds = has_contents stands.format layout image stands.contents stands.holds in
     let newest = same_newest holds.newest ((newest_some layout image read.newest).0 read.is_newest) in
     let generation : m.generation ≡ read.newest.generation = of_generation ∙ read.generation_is in
     record {
@@ -43,12 +45,14 @@ summed {image = image} {layout = layout} m opened taken read of_generation of_re
       room = taken.has.room;
       stands = stands;
       generation_is = generation ∙ sym newest.1;
-      records_are = of_records ∙ read.records_are ∙ ap (λ (g : ℕ). length (sectors.records_of layout g image)) (sym newest.1)
-          ∙ same_count (sectors.records_of layout stands.contents.generation image) stands.contents.inputs holds.inputs_are;
+      records_are = of_records ∙ read.records_are ∙ (λ k. length (sectors.all_records (format k) layout (sym newest.1 k) image))
+          ∙ same_count (sectors.all_records stands.format layout stands.contents.generation image) stands.contents.inputs holds.inputs_are;
       clock_is = of_clock;
       next_is = of_next;
-      cut_off_is = subst (λ g. TellsCutOff layout g image m.cut_off) (sym generation) (subst (TellsCutOff layout read.newest.generation image) (sym of_cut_off) read.cut_off_is);
-      damaged_is = subst (λ t. TellsDamaged layout t m.generation image m.damaged) (sym newest.0)
-          (subst (λ g. TellsDamaged layout read.newest.slot g image m.damaged) (sym generation)
-          (subst (TellsDamaged layout read.newest.slot read.newest.generation image) (sym of_damaged) read.damaged_is));
+      cut_off_is = subst (λ (f : Format). TellsCutOff f layout m.generation image m.cut_off) format
+          (subst (λ g. TellsCutOff read.format layout g image m.cut_off) (sym generation) (subst (TellsCutOff read.format layout read.newest.generation image) (sym of_cut_off) read.cut_off_is));
+      damaged_is = subst (λ (f : Format). TellsDamaged f layout stands.contents.slot m.generation image m.damaged) format
+          (subst (λ t. TellsDamaged read.format layout t m.generation image m.damaged) (sym newest.0)
+          (subst (λ g. TellsDamaged read.format layout read.newest.slot g image m.damaged) (sym generation)
+          (subst (TellsDamaged read.format layout read.newest.slot read.newest.generation image) (sym of_damaged) read.damaged_is)));
     }

@@ -15,8 +15,8 @@ use Rattle.um_log.specs.Appending.{EitherRecord}
 -- ---- what a crash leaves meanwhile
 
 -- While a record is written the image is a store of the state before the step or of that after it.
-pub either_state : {layout : Layout} {image : Image} {slot : Slot} {generation : ℕ} {body : List ℕ} {records : List (List ℕ)} {start : State} {inputs : List Input} {s t : State} {input : Input} {reply : Reply}
+pub either_state : {layout : Layout} {image : Image} {slot : Slot} {newest : ℕ} {body : List ℕ} {records : List (List ℕ)} {start : State} {inputs : List Input} {s t : State} {input : Input} {reply : Reply}
     {actions : List Action} → ComesTo (body_limit layout) body records start inputs s → FitInput input → Step (body_limit layout) s input reply actions t
-    → EitherRecord layout slot generation body records (input_spelling input) image → IsStoreOf layout image s ⊎ IsStoreOf layout image t
+    → EitherRecord layout slot newest body records (input_spelling input) image → IsStoreOf layout image s ⊎ IsStoreOf layout image t
 either_state comes fit step (inl kept) = inl (store_of kept comes)
 either_state comes fit step (inr done) = inr (one_more done comes fit step)

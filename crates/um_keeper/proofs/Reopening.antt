@@ -12,21 +12,25 @@ use Rattle.um_model.specs.Servable.{IsServable}
 use Rattle.um_model.specs.InputSpellings.{input_at}
 use Rattle.um_model.specs.StateSpellings.{state_at, state_spelling, FitState}
 use Rattle.um_model.specs.Stands.{Contents, contents_of, inputs_of, StandsFor, IsStoreOf}
-use Rattle.um_model.specs.Store.{store_name, store_format, superblock, body_limit, log_start, store_sectors, filled, other, part_count, placed, records_of, sectors_of, IsOf, GoesOn}
+use Rattle.um_model.specs.Store.{current, store_name, format_name, superblock, body_limit, log_start, first_log_sector, area_start, store_sectors, top, filled, other, part_count, placed, records_of, all_records, IsNoneAbove, GoesOn}
 use Rattle.um_log.specs.Greatest.{IsTold, IsGreatest}
 use Rattle.um_slot.specs.Snapshots.{HasNewest, EitherNewest}
 use Rattle.um_model.specs.Store as sectors
+use Rattle.um_model.specs.declared.layout.Format.{Format}
+use Rattle.um_model.specs.declared.layout.Format.TheVariants.{One}
 use Rattle.um_model.specs.declared.layout.Layout.{Layout}
 use Rattle.um_model.specs.declared.layout.Slot.{Slot}
 use Rattle.um_laws.proofs.DiskLaws.{started, weaker, followed, during_sync, settled_after_sync}
-use Rattle.um_laws.proofs.ImageLaws.{newest_some, newest_none, records_are, only_records}
-use Rattle.um_laws.proofs.StandsLaws.{ComesTo, contents, one_contents, has_contents, newest_told, records_told, contents_are, state_back, ends_of, anew, one_layout, bound}
-use Rattle.um_laws.proofs.StoreLaws.{superblock_name, same_newest, same_records}
+use Rattle.um_laws.proofs.CountedLaws.{same_all, below_top, above_later}
+use Rattle.um_laws.proofs.ImageLaws.{newest_some, newest_none}
+use Rattle.um_laws.proofs.StandsLaws.{ComesTo, contents, one_contents, has_contents, state_back, anew, comes_anew, one_layout, bound}
+use Rattle.um_laws.proofs.StoreLaws.{superblock_name, one_format, same_newest, same_above}
 use Rattle.um_sector.specs.Refused.{IsLost}
 use Rattle.um_wire.specs.declared.refusal.Refusal.{Refusal}
 use Rattle.um_wire.specs.declared.refusal.Refusal.TheVariants.{Damaged, NotFormatted, GenerationsSpent, OtherLayout}
 use Rattle.um_keeper.specs.Keeping.{Keeps}
-use Rattle.um_keeper.specs.Opening.{HasLayout, Replays, no_more, and_then, IsNoInput, here, later, IsUnread, no_sector, no_store, other_format, no_layout, no_header, no_state, no_input, IsSpent, IsUntaken, unread, spent, IsNextOf, IsTakenUp, IsBehind, IsSomeStore, IsStill, IsAsBefore, StaysFor, StaysForOne, IsUnwritten}
+use Rattle.um_keeper.proofs.Kept.{packed}
+use Rattle.um_keeper.specs.Opening.{HasLayout, all_placed, Replays, no_more, and_then, IsNoInput, here, later, IsUnread, no_sector, no_store, other_format, no_layout, no_header, no_state, no_input, IsSpent, IsUntaken, unread, spent, IsNextOf, IsTakenUp, IsFound, IsSomeStore, IsStill, IsAsBefore, StaysFor, StaysForOne, IsUnwritten}
 
 -- ---- sector 0
 
@@ -37,23 +41,33 @@ not_other xs ys twice = ⊎_elim
     (λ differ. absurd (twice (λ is. false≢true (sym differ ∙ (bytes_eq-Decides xs ys).1 is))))
     (cases_Bool (bytes_eq xs ys))
 
-same_error : (r : Result Layout Refusal) (x y : Refusal) → r ≡ Err x → r ≡ Err y → x ≡ y
+same_error : (r : Result (Format × Layout) Refusal) (x y : Refusal) → r ≡ Err x → r ≡ Err y → x ≡ y
 same_error r x y p q = cc
 
+-- a text that isn't no format's name is that of one
+some_format : (name : List ℕ) → ¬ ((format : Format) → ¬ (name ≡ format_name format)) → (format : Format) × (name ≡ format_name format)
+some_format name none = (One, not_other name (format_name One) (λ differs. none (by differs)))
+  where
+    by : ¬ (name ≡ format_name One) → (format : Format) → ¬ (name ≡ format_name format)
+    by differs One = differs
+
 -- why sector 0 isn't read
-pub first_unread : (count : ℕ) (image : Image) (sector : Sector) (result : Result Layout Refusal) (e : Refusal) → result ≡ Err e → sector ≡ image 0 → 0 < count
-    → ((e ≡ NotFormatted) ⊎ (e ≡ OtherLayout)) ⊎ ((e ≡ Damaged 0) × ((layout : Layout) → ¬ (sector ≡ superblock layout)))
-    → ((result ≡ Err NotFormatted) → ¬ (take 6 sector ≡ store_name)) → ((result ≡ Err OtherLayout) → (take 6 sector ≡ store_name) × ¬ (take 8 sector ≡ store_format))
-    → (¬ (take 6 sector ≡ store_name) → result ≡ Err NotFormatted) → ((take 6 sector ≡ store_name) × ¬ (take 8 sector ≡ store_format) → result ≡ Err OtherLayout)
+pub first_unread : (count : ℕ) (image : Image) (sector : Sector) (result : Result (Format × Layout) Refusal) (e : Refusal) → result ≡ Err e → sector ≡ image 0 → 0 < count
+    → ((e ≡ NotFormatted) ⊎ (e ≡ OtherLayout)) ⊎ ((e ≡ Damaged 0) × ((format : Format) (layout : Layout) → ¬ (sector ≡ superblock format layout)))
+    → ((result ≡ Err NotFormatted) → ¬ (take 6 sector ≡ store_name))
+    → ((result ≡ Err OtherLayout) → (take 6 sector ≡ store_name) × ((format : Format) → ¬ (take 8 sector ≡ format_name format)))
+    → (¬ (take 6 sector ≡ store_name) → result ≡ Err NotFormatted)
+    → ((take 6 sector ≡ store_name) × ((format : Format) → ¬ (take 8 sector ≡ format_name format)) → result ≡ Err OtherLayout)
     → IsUnread count image e
 first_unread count image sector result e is same some (inl (inl none)) says_none says_other none_says other_says =
     subst (IsUnread count image) (sym none) (no_store some (subst (λ (s : Sector). ¬ (take 6 s ≡ store_name)) same (says_none (is ∙ ap Err none))))
 first_unread count image sector result e is same some (inl (inr other)) says_none says_other none_says other_says =
     let says = says_other (is ∙ ap Err other) in
     subst (IsUnread count image) (sym other)
-    (other_format some (subst (λ (s : Sector). take 6 s ≡ store_name) same says.0) (subst (λ (s : Sector). ¬ (take 8 s ≡ store_format)) same says.1))
+    (other_format some (subst (λ (s : Sector). take 6 s ≡ store_name) same says.0) (subst (λ (s : Sector). (format : Format) → ¬ (take 8 s ≡ format_name format)) same says.1))
 first_unread count image sector result e is same some (inr (damaged, none)) says_none says_other none_says other_says =
-    subst (IsUnread count image) (sym damaged) (no_layout some (subst (λ (s : Sector). take 8 s ≡ store_format) same format) (λ layout h. none layout (same ∙ h.first)))
+    subst (IsUnread count image) (sym damaged)
+    (no_layout format.0 some (subst (λ (s : Sector). take 8 s ≡ format_name format.0) same format.1) (λ layout h. none h.format layout (same ∙ h.first)))
   where
     not_none : NotFormatted ≡ Damaged 0 → ⊥
     not_none c = absurd (cc)
@@ -67,15 +81,15 @@ first_unread count image sector result e is same some (inr (damaged, none)) says
     name : take 6 sector ≡ store_name
     name = not_other (take 6 sector) store_name (λ differs. not_none (err_of (none_says differs) (is ∙ ap Err damaged)))
 
-    format : take 8 sector ≡ store_format
-    format = not_other (take 8 sector) store_format (λ differs. not_format (err_of (other_says (name, differs)) (is ∙ ap Err damaged)))
+    format : (format : Format) × (take 8 sector ≡ format_name format)
+    format = some_format (take 8 sector) (λ differs. not_format (err_of (other_says (name, differs)) (is ∙ ap Err damaged)))
 
 -- where the disk is too small
-pub too_small : (count : ℕ) (image : Image) (layout : Layout) → 0 < count → image 0 ≡ superblock layout → count < store_sectors layout → take 8 (superblock layout) ≡ store_format
+pub too_small : (count : ℕ) (image : Image) (format : Format) (layout : Layout) → 0 < count → image 0 ≡ superblock format layout → count < store_sectors layout
     → IsUnread count image (Damaged 0)
-too_small count image layout some first small name =
-    no_layout some (ap (λ (s : Sector). take 8 s) first ∙ name)
-    (λ other h. let same = one_layout layout other image first h.first in let room = subst (λ (l : Layout). store_sectors l ≤ count) (sym same) h.room in omega (arith, room, small))
+too_small count image format layout some first small =
+    no_layout format some (ap (λ (s : Sector). take 8 s) first ∙ superblock_name format layout)
+    (λ other h. let same = one_layout format h.format layout other image first h.first in let room = subst (λ (l : Layout). store_sectors l ≤ count) (sym same) h.room in omega (arith, room, small))
 
 -- ---- the records
 
@@ -89,16 +103,16 @@ replayed (and_then {records = records} {input = input} is leads more) =
 
 -- what comes of it
 pub taken_comes : {count : ℕ} {image : Image} {layout : Layout} {slot : Slot} {generation : ℕ} {s : State} (t : IsTakenUp count image layout slot generation s)
-    → (inputs : List Input) × ComesTo (body_limit layout) t.body (records_of layout generation image) t.start inputs s
+    → (inputs : List Input) × ComesTo (body_limit layout) t.body (all_records t.has.format layout generation image) t.start inputs s
 taken_comes t = let (inputs, are, run) = replayed t.replays in (inputs, record { start_is = t.starts.read; inputs_are = are; servable = t.starts.servable; run = run })
 
--- what the newest slot and the records of its generation hold
-contents_told : (layout : Layout) (image : Image) {slot : Slot} {generation : ℕ} {body : List ℕ} {start s : State} {inputs : List Input}
+-- what the newest slot and the records beside it hold
+contents_told : (format : Format) (layout : Layout) (image : Image) {slot : Slot} {generation : ℕ} {body : List ℕ} {start s : State} {inputs : List Input}
     → sectors.newest_of layout image ≡ Some (record { slot = slot; generation = generation; body = body })
-    → ComesTo (body_limit layout) body (records_of layout generation image) start inputs s → contents_of layout image ≡ Some (contents slot generation start inputs)
-contents_told layout image {slot} {generation} {start = start} newest comes =
-    (λ k. newest k >>= λ n. nothing_left (state_at n.body) >>= λ x. inputs_of (records_of layout n.generation image) >>= λ xs. Some (contents n.slot n.generation x xs))
-    ∙ (λ k. comes.start_is k >>= λ x. inputs_of (records_of layout generation image) >>= λ xs. Some (contents slot generation x xs))
+    → ComesTo (body_limit layout) body (all_records format layout generation image) start inputs s → contents_of format layout image ≡ Some (contents slot generation start inputs)
+contents_told format layout image {slot} {generation} {start = start} newest comes =
+    (λ k. newest k >>= λ n. nothing_left (state_at n.body) >>= λ x. inputs_of (all_records format layout n.generation image) >>= λ xs. Some (contents n.slot n.generation x xs))
+    ∙ (λ k. comes.start_is k >>= λ x. inputs_of (all_records format layout generation image) >>= λ xs. Some (contents slot generation x xs))
     ∙ (λ k. comes.inputs_are k >>= λ xs. Some (contents slot generation start xs))
 
 -- what was taken up of an image is what it stands for
@@ -106,34 +120,38 @@ pub taken_stands : {count : ℕ} {image : Image} {layout : Layout} {slot : Slot}
 taken_stands {image = image} {layout = layout} {slot = slot} {generation = generation} t =
     let (inputs, comes) = taken_comes t in
     record {
+      format = t.has.format;
       first = t.has.first;
       contents = contents slot generation t.start inputs;
-      holds = contents_told layout image ((newest_some layout image _).1 t.newest) comes;
+      holds = contents_told t.has.format layout image ((newest_some layout image _).1 t.newest) comes;
       servable = comes.servable;
       run = comes.run;
     }
 
-module _ {count : ℕ} {layout : Layout} {slot : Slot} {generation : ℕ} {s : State} (from image : Image) (taken : IsTakenUp count from layout slot generation s) (first : image 0 ≡ superblock layout)
-    (newest : sectors.IsNewest layout image slot generation taken.body) (log : (j : ℕ) → log_start layout generation ≤ j → image j ≡ from j) where
+module _ {count : ℕ} {layout : Layout} {slot : Slot} {generation : ℕ} {s : State} (from image : Image) (taken : IsTakenUp count from layout slot generation s)
+    (first : image 0 ≡ superblock taken.has.format layout) (newest : sectors.IsNewest layout image slot generation taken.body)
+    (log : (j : ℕ) → first_log_sector layout ≤ j → image j ≡ from j) where
   -- an image with its log has the same records
-  same_log : records_of layout generation image ≡ records_of layout generation from
-  same_log = only_records layout generation image (records_of layout generation from)
-      (same_records 0 (log_start layout generation) (records_of layout generation from) (λ j low high. log j low) (records_are layout generation from))
+  same_log : all_records taken.has.format layout generation image ≡ all_records taken.has.format layout generation from
+  same_log = same_all taken.has.format layout generation from image (λ j low high. log j low)
 
   -- and with its newest snapshot too it stands for the same state
   still_was : IsStill layout from s image
   still_was =
+      let format = taken.has.format in
       let (inputs, comes) = taken_comes taken in
-      let here = contents_told layout image ((newest_some layout image _).1 newest) (subst (λ r. ComesTo (body_limit layout) taken.body r taken.start inputs s) (sym same_log) comes) in
-      let there = contents_told layout from ((newest_some layout from _).1 taken.newest) comes in
+      let here = contents_told format layout image ((newest_some layout image _).1 newest) (subst (λ r. ComesTo (body_limit layout) taken.body r taken.start inputs s) (sym same_log) comes) in
+      let there = contents_told format layout from ((newest_some layout from _).1 taken.newest) comes in
       record {
-        stands = record { first = first; contents = contents slot generation taken.start inputs; holds = here; servable = comes.servable; run = comes.run };
+        stands = record { format = format; first = first; contents = contents slot generation taken.start inputs; holds = here; servable = comes.servable; run = comes.run };
         store = λ is. record {
-          stands = record { first = first; contents = contents slot generation taken.start inputs; holds = here; servable = comes.servable; run = comes.run };
-          none_later = λ theirs j low high told.
-              let below = is.none_later theirs j low high (subst (IsOf theirs) (log j low) told) in
-              let same = ap (λ (c : Contents). c.generation) (one_contents layout from is.stands.contents (contents slot generation taken.start inputs) is.stands.holds there) in
-              omega (arith, below, same);
+          stands = record { format = format; first = first; contents = contents slot generation taken.start inputs; holds = here; servable = comes.servable; run = comes.run };
+          none_later =
+              let of = one_format is.stands.format format layout layout (sym is.stands.first ∙ taken.has.first) in
+              let holds : contents_of format layout from ≡ Some is.stands.contents = subst (λ (f : Format). contents_of f layout from ≡ Some is.stands.contents) of is.stands.holds in
+              let same = ap (λ (c : Contents). c.generation) (one_contents format layout from is.stands.contents (contents slot generation taken.start inputs) holds there) in
+              subst (λ (n : ℕ). IsNoneAbove layout image (top format n)) same
+              (subst (λ (f : Format). IsNoneAbove layout image (top f is.stands.contents.generation)) of (same_above layout (λ j low high. log j low) is.none_later));
         };
       }
 
@@ -152,56 +170,51 @@ one_greatest layout image newest a b one two =
   where
     most : {x y : ℕ} → (x ≡ newest) ⊎ IsTold layout image x → IsGreatest layout image newest y → x ≤ y
     most (inl same) top = let least = top.least in omega (arith, same, least)
-    most {x} (inr told) top = let below = top.none_later x told.place told.low told.high told.is in omega (arith, below)
+    most {x} (inr told) top = top.none_later x told.place told.low told.high told.is
 
 -- ---- the next generation
 
 -- a new snapshot without records is what a keeper holds
 pub keeps_anew : {past : Past} {count : ℕ} {layout : Layout} {slot : Slot} {generation : ℕ} {s : State} → IsImage past (seen past)
     → GoesOn layout past slot generation (state_spelling s) [] generation 0 (log_start layout generation) → FitState s → IsServable (body_limit layout) s → store_sectors layout ≤ count
-    → Keeps past count layout slot generation 0 (log_start layout generation) s
-keeps_anew {past} {count} {layout} {slot} {generation} {s} is on fits may room =
-    let this = on.store (seen past) is in
-    let back = state_back s fits in
-    let told = contents_are this back refl in
-    let stands = (anew this back may).stands in
-    let none = records_told this in
-    record {
-      first = λ image at. (on.store image at).first;
-      newest = λ image at. newest_told (on.store image at) ∙ sym (newest_told this);
-      records = λ image at. records_told (on.store image at) ∙ sym none;
-      none_later = λ image at. (on.store image at).none_later;
-      free = λ image at. (on.end image at).free;
-      holds = ap is_some told;
-      home = λ c holds. let same = same_Some _ c (sym told ∙ holds) in (sym (ap (λ d. d.slot) same), sym (ap (λ d. d.generation) same));
-      start = λ c holds. (ends_of stands holds).0;
-      run = λ c holds. (ends_of stands holds).1;
-      count = sym (ap (λ (l : List (List ℕ)). length l) none);
-      place = let zero_sectors : sectors_of (records_of layout generation (seen past)) ≡ 0 = ap sectors_of none in omega (arith, zero_sectors);
-      within = omega arith;
-      on_disk = omega (arith, room);
-    }
+    → Keeps past count layout slot generation generation 0 (log_start layout generation) s
+keeps_anew is on fits may room = packed is on (comes_anew (state_back _ fits) may) room
 
-module _ (past : Past) (count : ℕ) (layout : Layout) (slot : Slot) (generation greatest : ℕ) (s : State) (settled : IsSettled past) (taken : IsTakenUp count (seen past) layout slot generation s)
-    (top : IsGreatest layout (seen past) generation greatest) where
+module _ (past : Past) (count : ℕ) (layout : Layout) (slot : Slot) (generation greatest : ℕ) (s : State) (settled : IsSettled past)
+    (found : IsFound count (seen past) layout slot generation greatest s) where
+  abbrev taken : IsTakenUp count (seen past) layout slot generation s
+  taken = found.taken
+
+  abbrev format : Format
+  format = found.taken.has.format
+
   -- each image has the snapshot that was taken up
-  pub have_newest : Images past (HasNewest layout slot generation taken.body greatest)
-  have_newest image at = subst (HasNewest layout slot generation taken.body greatest) (sym (settled image at))
-      (record { first = taken.has.first; snapshot = taken.newest; none_later = top.none_later })
+  pub have_newest : Images past (HasNewest format layout slot generation taken.body greatest)
+  have_newest image at = subst (HasNewest format layout slot generation taken.body greatest) (sym (settled image at))
+      (record { first = taken.has.first; snapshot = taken.newest; none_later = found.greatest_is.none_later })
+
+  -- the greatest generation is none below the newest
+  pub least_greatest : generation ≤ greatest
+  least_greatest = let low = below_top format generation in let least = found.greatest_is.least in omega (arith, low, least)
 
   module _ (body : List ℕ) (is_body : body ≡ state_spelling s) (fits : FitState s) (may : IsServable (body_limit layout) s) where
-    still_either : (image : Image) → EitherNewest layout past slot generation taken.body greatest body image → IsStill layout (seen past) s image
+    still_either : (image : Image) → EitherNewest format layout past slot generation taken.body greatest body image → IsStill layout (seen past) s image
     still_either image (inl was) =
         let same : was.from ≡ seen past = settled was.from was.was in
         still_was (seen past) image taken was.first was.snapshot (λ j low. was.log j low ∙ ap (λ (i : Image). i j) same)
     still_either image (inr new) =
-        let store = anew (subst (λ b. sectors.IsStore layout image (other slot) (greatest + 1) b []) is_body new) (state_back s fits) may in
+        let store = anew (subst (λ b. sectors.IsStore format layout image (other slot) (greatest + 1) b []) is_body new) (state_back s fits) may in
         record { stands = store.stands; store = λ is. store }
 
     -- while the snapshot of its state is written, the image stands for the state
-    pub renewed : (new : Past) → ((newest : ℕ) (before : List ℕ) → newest ≤ greatest → Images past (HasNewest layout slot newest before greatest)
-        → During past new (EitherNewest layout past slot newest before greatest body)) → During past new (IsStill layout (seen past) s)
-    renewed new run = weaker past new _ _ still_either (run generation taken.body top.least have_newest)
+    pub renewed : (new : Past) → ((format : Format) (newest : ℕ) (before : List ℕ) → newest ≤ greatest → Images past (HasNewest format layout slot newest before greatest)
+        → During past new (EitherNewest format layout past slot newest before greatest body)) → During past new (IsStill layout (seen past) s)
+    renewed new run = weaker past new _ _ still_either (run format generation taken.body least_greatest have_newest)
+
+-- stores are written in the format that they have
+pub have_current : (past : Past) {layout : Layout} {slot : Slot} {newest last : ℕ} {body : List ℕ} (format : Format) → Images past (HasNewest format layout slot newest body last)
+    → Images past (HasNewest current layout slot newest body last)
+have_current past One have = have
 
 -- ---- what a crash leaves of an opening
 
@@ -225,7 +238,7 @@ module _ (layout : Layout) (old : Past) (all : Images old (IsSomeStore layout)) 
   -- and all behind it
   pub stays_before : (found : Layout) (s : State) (new : Past) → StaysFor found s old new → During old new (IsAsBefore layout old)
   stays_before found s new stays =
-      let one : found ≡ layout = one_layout found layout (seen old) stays.stands.first (all (seen old) is).stands.first in
+      let one : found ≡ layout = one_layout stays.stands.format (all (seen old) is).stands.format found layout (seen old) stays.stands.first (all (seen old) is).stands.first in
       followed old (after synced old) new (IsAsBefore layout old) sync_before
       (weaker (after synced old) new (IsStill found (seen old) s) (IsAsBefore layout old)
       (λ image m. record {
@@ -247,14 +260,13 @@ sync_unwritten (Ok x) old new is = inr is
 sync_unwritten (Err e) old new is = inl is
 
 -- from the first sync on
-pub stays_of : (count : ℕ) (layout : Layout) (slot : Slot) (generation greatest : ℕ) (s : State) (old mid new : Past) → mid ≡ after synced old → IsTakenUp count (seen old) layout slot generation s
-    → IsGreatest layout (seen old) generation greatest
-    → (IsSettled mid → IsTakenUp count (seen mid) layout slot generation s → IsGreatest layout (seen mid) generation greatest → During mid new (IsStill layout (seen mid) s)) → StaysFor layout s old new
-stays_of count layout slot generation greatest s old mid new sync taken top more = record {
-  stands = taken_stands taken;
+pub stays_of : (count : ℕ) (layout : Layout) (slot : Slot) (generation greatest : ℕ) (s : State) (old mid new : Past) → mid ≡ after synced old
+    → IsFound count (seen old) layout slot generation greatest s
+    → (IsSettled mid → IsFound count (seen mid) layout slot generation greatest s → During mid new (IsStill layout (seen mid) s)) → StaysFor layout s old new
+stays_of count layout slot generation greatest s old mid new sync found more = record {
+  stands = taken_stands found.taken;
   during = subst (λ p. During p new (IsStill layout (seen p) s)) sync
-      (more (subst IsSettled (sym sync) (settled_after_sync old)) (subst (λ p. IsTakenUp count (seen p) layout slot generation s) (sym sync) taken)
-      (subst (λ p. IsGreatest layout (seen p) generation greatest) (sym sync) top));
+      (more (subst IsSettled (sym sync) (settled_after_sync old)) (subst (λ p. IsFound count (seen p) layout slot generation greatest s) (sym sync) found));
 }
 
 -- ---- why it isn't taken up
@@ -272,9 +284,9 @@ header_unread count old new layout e has same is none =
 
 -- ---- a store is taken up
 
-name_six : (layout : Layout) → take 6 (superblock layout) ≡ store_name
+name_six : (format : Format) (layout : Layout) → take 6 (superblock format layout) ≡ store_name
 unfolding superblock filled
-name_six layout = refl
+name_six One layout = refl
 
 -- the first of such places, and those behind it
 abbrev first_bytes : List (ℕ × List ℕ) → List ℕ
@@ -303,51 +315,64 @@ no_input_none (later {places = places} is fails) at (bytes ∷ records) inputs s
     let (others, all, last) = bound (inputs_of records) _ inputs more in
     no_input_none fails (at + part_count (length bytes)) records others rest all
 
-module _ (count : ℕ) (layout : Layout) (image : Image) (room : store_sectors layout ≤ count) (slot : Slot) (generation : ℕ) (body : List ℕ) (start s : State) (inputs : List Input)
-    (first : image 0 ≡ superblock layout) (newest : sectors.IsNewest layout image slot generation body) (comes : ComesTo (body_limit layout) body (records_of layout generation image) start inputs s) where
+-- of all that count none spells none
+none_placed : (format : Format) (layout : Layout) (newest : ℕ) (image : Image) {e : Refusal} {inputs : List Input} → inputs_of (all_records format layout newest image) ≡ Some inputs
+    → IsNoInput (all_placed format layout newest image) e → ⊥
+none_placed One layout newest image {inputs = inputs} are fails = no_input_none fails (area_start One layout newest) (records_of One layout newest image) inputs refl are
+
+module _ (count : ℕ) (format : Format) (layout : Layout) (image : Image) (room : store_sectors layout ≤ count) (slot : Slot) (generation : ℕ) (body : List ℕ) (start s : State) (inputs : List Input)
+    (first : image 0 ≡ superblock format layout) (newest : sectors.IsNewest layout image slot generation body)
+    (comes : ComesTo (body_limit layout) body (all_records format layout generation image) start inputs s) where
   there : sectors.newest_of layout image ≡ Some (record { slot = slot; generation = generation; body = body })
   there = (newest_some layout image _).1 newest
 
   -- whatever is told of it is told of this store
-  this : (other : Layout) (n : sectors.Newest) → image 0 ≡ superblock other → sectors.newest_of other image ≡ Some n
+  this : (by : Format) (other : Layout) (n : sectors.Newest) → image 0 ≡ superblock by other → sectors.newest_of other image ≡ Some n
       → (other ≡ layout) × (n.generation ≡ generation) × (n.body ≡ body)
-  this other n zero held =
-      let one = one_layout other layout image zero first in
+  this by other n zero held =
+      let one = one_layout by format other layout image zero first in
       let same = same_Some n _ (sym (subst (λ l. sectors.newest_of l image ≡ Some n) one held) ∙ there) in
       (one, ap (λ (m : sectors.Newest). m.generation) same, ap (λ (m : sectors.Newest). m.body) same)
 
+  of_format : (by : Format) (other : Layout) → image 0 ≡ superblock by other → by ≡ format
+  of_format by other zero = one_format by format other layout (sym zero ∙ first)
+
   -- only where its greatest generation is the last one it is refused by E20
-  store_spent : (greatest : ℕ) → IsGreatest layout image generation greatest → IsSpent count image → greatest ≡ 2 ^ 64 - 1
-  store_spent greatest top h =
-      let same = this h.layout (record { slot = h.slot; generation = h.generation; body = h.taken.body }) h.taken.has.first ((newest_some h.layout image _).1 h.taken.newest) in
-      one_greatest layout image generation greatest (2 ^ 64 - 1) top
-      (subst (λ g. IsGreatest layout image g (2 ^ 64 - 1)) same.1 (subst (λ l. IsGreatest l image h.generation (2 ^ 64 - 1)) same.0 h.last))
+  store_spent : (greatest : ℕ) → IsGreatest layout image (top format generation) greatest → IsSpent count image → greatest ≡ 2 ^ 64 - 1
+  store_spent greatest most h =
+      let same = this h.taken.has.format h.layout (record { slot = h.slot; generation = h.generation; body = h.taken.body }) h.taken.has.first ((newest_some h.layout image _).1 h.taken.newest) in
+      let by = of_format h.taken.has.format h.layout h.taken.has.first in
+      one_greatest layout image (top format generation) greatest (2 ^ 64 - 1) most
+      (subst (λ (f : Format). IsGreatest layout image (top f generation) (2 ^ 64 - 1)) by
+      (subst (λ g. IsGreatest layout image (top h.taken.has.format g) (2 ^ 64 - 1)) same.1
+      (subst (λ l. IsGreatest l image (top h.taken.has.format h.generation) (2 ^ 64 - 1)) same.0 h.last)))
 
   -- and never for a cause of its reading
   store_unread : {e : Refusal} → ¬ IsUnread count image e
   store_unread (no_sector none) = absurd (omega (arith, none, room))
-  store_unread (no_store some differs) = absurd (differs (ap (λ (x : Sector). take 6 x) first ∙ name_six layout))
-  store_unread (other_format some name differs) = absurd (differs (ap (λ (x : Sector). take 8 x) first ∙ superblock_name layout))
-  store_unread (no_layout some name none) = absurd (none layout (record { first = first; room = room }))
+  store_unread (no_store some differs) = absurd (differs (ap (λ (x : Sector). take 6 x) first ∙ name_six format layout))
+  store_unread (other_format some name differs) = absurd (differs format (ap (λ (x : Sector). take 8 x) first ∙ superblock_name format layout))
+  store_unread (no_layout by some name none) = absurd (none layout (record { format = format; first = first; room = room }))
   store_unread (no_header {layout = other} has none) =
-      absurd (none-some _ (sym (subst (λ l. sectors.newest_of l image ≡ None) (one_layout other layout image has.first first) none) ∙ there))
+      absurd (none-some _ (sym (subst (λ l. sectors.newest_of l image ≡ None) (one_layout has.format format other layout image has.first first) none) ∙ there))
   store_unread (no_state {layout = other} {n = n} has held none) =
-      let same = this other n has.first held in
+      let same = this has.format other n has.first held in
       absurd (none start (record {
         read = ap (λ (b : List ℕ). nothing_left (state_at b)) same.2 ∙ comes.start_is;
         servable = subst (λ l. IsServable (body_limit l) start) (sym same.0) comes.servable;
       }))
   store_unread (no_input {layout = other} {n = n} has held starts fails) =
-      let same = this other n has.first held in
-      let are : records_of other n.generation image ≡ records_of layout generation image = λ k. records_of (same.0 k) (same.1 k) image in
-      absurd (no_input_none fails (log_start other n.generation) (records_of other n.generation image) inputs refl (ap inputs_of are ∙ comes.inputs_are))
+      let same = this has.format other n has.first held in
+      let by = of_format has.format other has.first in
+      let are : all_records has.format other n.generation image ≡ all_records format layout generation image = λ k. all_records (by k) (same.0 k) (same.1 k) image in
+      absurd (none_placed has.format other n.generation image (ap inputs_of are ∙ comes.inputs_are) fails)
 
 -- as laws of what is told of a disk
 pub a_store_unread : (count : ℕ) (layout : Layout) (image : Image) (s : State) (e : Refusal) → store_sectors layout ≤ count → StandsFor layout image s → ¬ IsUnread count image e
 a_store_unread count layout image s e room is fails =
     let c = is.contents in
-    let h = has_contents layout image c is.holds in
-    store_unread count layout image room c.slot c.generation h.body c.start s c.inputs is.first h.newest
+    let h = has_contents is.format layout image c is.holds in
+    store_unread count is.format layout image room c.slot c.generation h.body c.start s c.inputs is.first h.newest
     (record { start_is = h.start_is; inputs_are = h.inputs_are; servable = is.servable; run = is.run }) fails
 
 pub a_store_untaken : (count : ℕ) (layout : Layout) (image : Image) (s : State) (e : Refusal) → store_sectors layout ≤ count → StandsFor layout image s → IsUntaken count image e
@@ -355,39 +380,51 @@ pub a_store_untaken : (count : ℕ) (layout : Layout) (image : Image) (s : State
 a_store_untaken count layout image s e room is (unread fails) = absurd (a_store_unread count layout image s e room is fails)
 a_store_untaken count layout image s e room is (spent last) = refl
 
-pub a_taken_read : (count : ℕ) (layout : Layout) (image : Image) (slot : Slot) (generation greatest : ℕ) (s : State) (e : Refusal) → IsTakenUp count image layout slot generation s
-    → IsGreatest layout image generation greatest → greatest < 2 ^ 64 - 1 → ¬ IsUntaken count image e
-a_taken_read count layout image slot generation greatest s e t top early (unread fails) =
+pub a_taken_read : (count : ℕ) (layout : Layout) (image : Image) (slot : Slot) (generation greatest : ℕ) (s : State) (e : Refusal) (taken : IsTakenUp count image layout slot generation s)
+    → IsGreatest layout image (top taken.has.format generation) greatest → greatest < 2 ^ 64 - 1 → ¬ IsUntaken count image e
+a_taken_read count layout image slot generation greatest s e t most early (unread fails) =
     let (inputs, comes) = taken_comes t in
-    store_unread count layout image t.has.room slot generation t.body t.start s inputs t.has.first t.newest comes fails
-a_taken_read count layout image slot generation greatest s e t top early (spent is) =
+    store_unread count t.has.format layout image t.has.room slot generation t.body t.start s inputs t.has.first t.newest comes fails
+a_taken_read count layout image slot generation greatest s e t most early (spent is) =
     let (inputs, comes) = taken_comes t in
-    let last = store_spent count layout image t.has.room slot generation t.body t.start s inputs t.has.first t.newest comes greatest top is in
+    let last = store_spent count t.has.format layout image t.has.room slot generation t.body t.start s inputs t.has.first t.newest comes greatest most is in
     omega (arith, last, early)
 
 -- the state that was taken up, one generation behind the greatest
 pub next_of : (count : ℕ) (image : Image) (from layout : Layout) (before slot : Slot) (earlier greatest generation : ℕ) (s t : State) → t ≡ s → layout ≡ from → slot ≡ other before
-    → generation ≡ greatest + 1 → IsGreatest from image earlier greatest → IsTakenUp count image from before earlier s → IsNextOf count image layout slot generation t
-next_of count image from layout before slot earlier greatest generation s t state one turned next top taken = record {
-  before = before;
-  earlier = earlier;
-  greatest = greatest;
-  turned = turned;
-  is_greatest = subst (λ l. IsGreatest l image earlier greatest) (sym one) top;
-  next = next;
-  taken = subst (λ l. IsTakenUp count image l before earlier t) (sym one) (subst (IsTakenUp count image from before earlier) (sym state) taken);
-}
+    → generation ≡ greatest + 1 → IsFound count image from before earlier greatest s → IsNextOf count image layout slot generation t
+next_of count image from layout before slot earlier greatest generation s t state one turned next found =
+    let there : IsFound count image layout before earlier greatest t =
+    subst (λ l. IsFound count image l before earlier greatest t) (sym one) (subst (IsFound count image from before earlier greatest) (sym state) found) in
+    record {
+      before = before;
+      earlier = earlier;
+      greatest = greatest;
+      turned = turned;
+      taken = there.taken;
+      is_greatest = there.greatest_is;
+      next = next;
+    }
 
--- of a store no sector of the log is above its newest header
+-- of a store no sector of the log is of a generation above those that count
 pub one_up : (count : ℕ) (layout : Layout) (image : Image) (slot : Slot) (generation : ℕ) (s : State) (next : IsNextOf count image layout slot generation s) → IsStoreOf layout image s
     → generation ≡ next.earlier + 1
 one_up count layout image slot generation s next is = by next.is_greatest.stands
   where
     same : is.stands.contents.generation ≡ next.earlier
-    same = (same_newest (has_contents layout image is.stands.contents is.stands.holds).newest next.taken.newest).1
+    same = (same_newest (has_contents is.stands.format layout image is.stands.contents is.stands.holds).newest next.taken.newest).1
 
-    by : (next.greatest ≡ next.earlier) ⊎ IsTold layout image next.greatest → generation ≡ next.earlier + 1
-    by (inl first) = omega (arith, next.next, first)
+    none_later : IsNoneAbove layout image (top next.taken.has.format next.earlier)
+    none_later =
+        subst (λ (n : ℕ). IsNoneAbove layout image (top next.taken.has.format n)) same
+        (subst (λ (f : Format). IsNoneAbove layout image (top f is.stands.contents.generation)) (one_format is.stands.format next.taken.has.format layout layout (sym is.stands.first ∙ next.taken.has.first)) is.none_later)
+
+    -- of the first format those of its own generation alone count
+    own : (format : Format) (newest : ℕ) → top format newest ≡ newest
+    own One newest = refl
+
+    by : (next.greatest ≡ top next.taken.has.format next.earlier) ⊎ IsTold layout image next.greatest → generation ≡ next.earlier + 1
+    by (inl first) = omega (arith, next.next, first, own next.taken.has.format next.earlier)
     by (inr told) =
-        let below = is.none_later next.greatest told.place told.low told.high told.is in
-        omega (arith, next.next, next.is_greatest.least, below, same)
+        let below = none_later next.greatest told.place told.low told.high told.is in
+        omega (arith, next.next, next.is_greatest.least, below, own next.taken.has.format next.earlier)

@@ -10,9 +10,10 @@ use Rattle.um_model.specs.Refusals.{Refused}
 use Rattle.um_model.specs.Servable.{IsServable}
 use Rattle.um_model.specs.Service.{Action}
 use Rattle.um_model.specs.StateSpellings.{FitState, state_spelling}
-use Rattle.um_model.specs.Store.{body_limit, store_sectors, records_of, IsStore, GoesOn}
+use Rattle.um_model.specs.Store.{current, other, body_limit, store_sectors, all_records, IsStore, GoesOn}
 use Rattle.um_model.specs.declared.layout.Layout.{Layout}
 use Rattle.um_model.specs.declared.layout.Slot.{Slot}
+use Rattle.um_laws.proofs.CountedLaws.{none_counts, top_fits}
 use Rattle.um_laws.proofs.DiskLaws.{started, weaker, followed}
 use Rattle.um_laws.proofs.StandsLaws.{ComesTo, records_told, store_of, comes_further, comes_anew, state_back, run_step}
 use Rattle.um_slot.specs.Snapshots.{HasStore, EitherSnapshot}
@@ -54,9 +55,9 @@ begins_longer {layout} {s} {taken} more begins =
 -- ---- at the beginning, and behind a snapshot
 
 -- the log is ahead by nothing
-nothing_behind : {layout : Layout} {s : State} {taken : List Input} {past : Past} {slot : Slot} {generation number next : ℕ} {body : List ℕ} {records : List (List ℕ)} {state : State} (unsynced : Bool)
-    → IsImage past (seen past) → GoesOn layout past slot generation body records generation number next → Spells layout body records state → Run (body_limit layout) s taken state
-    → IsUnderway layout s taken past slot generation number next unsynced state
+nothing_behind : {layout : Layout} {s : State} {taken : List Input} {past : Past} {slot : Slot} {newest generation number next : ℕ} {body : List ℕ} {records : List (List ℕ)} {state : State} (unsynced : Bool)
+    → IsImage past (seen past) → GoesOn layout past slot newest body records generation number next → Spells layout body records state → Run (body_limit layout) s taken state
+    → IsUnderway layout s taken past slot newest generation number next unsynced state
 nothing_behind {layout} {s} {taken} {body = body} {records} {state} unsynced here whole spells run =
     let none : (n : ℕ) → records ≡ records ++ take n [] = λ n. sym (ap (λ (l : List (List ℕ)). records ++ l) (take_all n [] (omega arith)) ∙ append-nil records) in
     record {
@@ -70,15 +71,15 @@ nothing_behind {layout} {s} {taken} {body = body} {records} {state} unsynced her
       synced = λ _. refl;
     }
 
-pub underway_kept : {past : Past} {sectors : ℕ} {layout : Layout} {slot : Slot} {generation number next : ℕ} {s : State} (unsynced : Bool) → IsImage past (seen past)
-    → Keeps past sectors layout slot generation number next s → IsUnderway layout s [] past slot generation number next unsynced s
+pub underway_kept : {past : Past} {sectors : ℕ} {layout : Layout} {slot : Slot} {newest generation number next : ℕ} {s : State} (unsynced : Bool) → IsImage past (seen past)
+    → Keeps past sectors layout slot newest generation number next s → IsUnderway layout s [] past slot newest generation number next unsynced s
 underway_kept unsynced here k = nothing_behind unsynced here (unpacked k).goes_on (spells_of (unpacked k).comes) rests
 
-module _ {layout : Layout} {s : State} {taken : List Input} {past : Past} {slot : Slot} {generation number next : ℕ} {unsynced : Bool} {state : State}
-    (under : IsUnderway layout s taken past slot generation number next unsynced state) where
+module _ {layout : Layout} {s : State} {taken : List Input} {past : Past} {slot : Slot} {newest generation number next : ℕ} {unsynced : Bool} {state : State}
+    (under : IsUnderway layout s taken past slot newest generation number next unsynced state) where
   -- ---- what a crash leaves
 
-  some_begun : (image : Image) → HasSome layout slot generation under.body under.records under.more image → IsBegun layout s taken image
+  some_begun : (image : Image) → HasSome layout slot newest under.body under.records under.more image → IsBegun layout s taken image
   some_begun image has =
       let b = under.begins has.count in
       record { count = b.count; state = b.state; run = b.run; store = store_of has.store (comes_of b.spells) }
@@ -90,12 +91,12 @@ module _ {layout : Layout} {s : State} {taken : List Input} {past : Past} {slot 
   still_longer more = weaker past past _ _ (begun_longer taken more) still_begun
 
   -- while the records are synced
-  pub during_begun : {new : Past} → During past new (HasSome layout slot generation under.body under.records under.more) → During past new (IsBegun layout s taken)
+  pub during_begun : {new : Past} → During past new (HasSome layout slot newest under.body under.records under.more) → During past new (IsBegun layout s taken)
   during_begun {new} run = weaker past new _ _ some_begun run
 
   -- ---- an input without a record
 
-  pub underway_longer : (more : List Input) → Run (body_limit layout) s (taken ++ more) state → IsUnderway layout s (taken ++ more) past slot generation number next unsynced state
+  pub underway_longer : (more : List Input) → Run (body_limit layout) s (taken ++ more) state → IsUnderway layout s (taken ++ more) past slot newest generation number next unsynced state
   underway_longer more run = record {
     body = under.body;
     records = under.records;
@@ -109,7 +110,7 @@ module _ {layout : Layout} {s : State} {taken : List Input} {past : Past} {slot 
 
   -- one that is refused, or has no effect
   pub underway_stayed : {input : Input} {reply : Reply} {actions : List Action} → Step (body_limit layout) state input reply actions state
-      → IsUnderway layout s (taken ++ input ∷ []) past slot generation number next unsynced state
+      → IsUnderway layout s (taken ++ input ∷ []) past slot newest generation number next unsynced state
   underway_stayed {input} step = underway_longer (input ∷ []) (run_step under.ends step)
 
   -- ---- an input with its record
@@ -131,17 +132,17 @@ module _ {layout : Layout} {s : State} {taken : List Input} {past : Past} {slot 
         (cases_lt (length under.more) n)
 
     -- while the record is written
-    pub during_recorded : {new : Past} → During past new (HasSome layout slot generation under.body under.records more) → During past new (IsBegun layout s (taken ++ input ∷ []))
+    pub during_recorded : {new : Past} → During past new (HasSome layout slot newest under.body under.records more) → During past new (IsBegun layout s (taken ++ input ∷ []))
     during_recorded {new} run = weaker past new _ _ (λ image has.
         let b = begins_more has.count in
         record { count = b.count; state = b.state; run = b.run; store = store_of has.store (comes_of b.spells) })
         run
 
     -- and behind it
-    pub underway_recorded : {new : Past} {l : Layout} {g later further : ℕ} → l ≡ layout → GoesOnAhead l new slot g under.body under.records more later further
-        → IsUnderway l s (taken ++ input ∷ []) new slot g later further true t
+    pub underway_recorded : {new : Past} {l : Layout} {g later further : ℕ} → l ≡ layout → GoesOnAhead l new slot newest under.body under.records more g later further
+        → IsUnderway l s (taken ++ input ∷ []) new slot newest g later further true t
     underway_recorded {new} {l} {g} {later} {further} same =
-        subst (λ (z : Layout). GoesOnAhead z new slot g under.body under.records more later further → IsUnderway z s (taken ++ input ∷ []) new slot g later further true t) (sym same)
+        subst (λ (z : Layout). GoesOnAhead z new slot newest under.body under.records more g later further → IsUnderway z s (taken ++ input ∷ []) new slot newest g later further true t) (sym same)
         (λ ahead. record {
           body = under.body;
           records = under.records;
@@ -156,53 +157,55 @@ module _ {layout : Layout} {s : State} {taken : List Input} {past : Past} {slot 
   -- ---- a snapshot
 
   -- each image is that of a store with the newest snapshot, as the slots need it
-  pub each_has : {of : ℕ} → of ≡ generation → Images past (HasStore layout slot of under.body)
-  each_has same = subst (λ g. Images past (HasStore layout slot g under.body)) (sym same) (λ image is.
+  pub each_has : Images past (HasStore layout slot newest under.body)
+  each_has image is =
       let has = (under.ahead.images image is).some in
-      subst (IsStore layout image slot generation under.body) (sym (records_told has.store)) has.store)
+      subst (IsStore current layout image slot newest under.body) (sym (records_told has.store)) has.store
 
   module _ (fits : FitState state) (may : IsServable (body_limit layout) state) where
     renewed : Spells layout (state_spelling state) [] state
     renewed = spells_of (comes_anew (state_back state fits) may)
 
     -- while it is written
-    either_begun : (image : Image) → EitherSnapshot layout past slot generation under.body (state_spelling state) image → IsBegun layout s taken image
-    either_begun image (inl was) =
+    either_begun : newest + 1 < 2 ^ 64 → (image : Image) → EitherSnapshot layout past slot newest under.body (state_spelling state) image → IsBegun layout s taken image
+    either_begun early image (inl was) =
         let has = (under.ahead.images was.from was.was).some in
-        some_begun image (record { count = has.count; within = has.within; store = subst (IsStore layout image slot generation under.body) (records_told has.store) was.store })
-    either_begun image (inr new) =
+        some_begun image (record { count = has.count; within = has.within; store = subst (IsStore current layout image slot newest under.body) (records_told has.store) was.store })
+    either_begun early image (inr new) =
         let b = begins_all under.ends renewed in
-        record { count = b.count; state = b.state; run = b.run; store = store_of new (comes_of b.spells) }
+        record { count = b.count; state = b.state; run = b.run; store = store_of (subst (IsStore current layout image (other slot) (newest + 1) (state_spelling state)) none_new new) (comes_of b.spells) }
+      where
+        none_new : all_records current layout (newest + 1) (seen past) ≡ []
+        none_new = none_counts current layout (newest + 1) newest (seen past) (top_fits current (newest + 1) early) (omega arith) under.ahead.store.none_later
 
-    pub snapshot_begun : {new : Past} {of : ℕ} {body : List ℕ} → of ≡ generation → body ≡ state_spelling state
-        → During past new (EitherSnapshot layout past slot of under.body body) → During past new (IsBegun layout s taken)
-    snapshot_begun {new} {of} {body} same is run = weaker past new _ _ either_begun
-        (subst (λ b. During past new (EitherSnapshot layout past slot generation under.body b)) is (subst (λ g. During past new (EitherSnapshot layout past slot g under.body body)) same run))
+    pub snapshot_begun : {new : Past} {body : List ℕ} → newest + 1 < 2 ^ 64 → body ≡ state_spelling state
+        → During past new (EitherSnapshot layout past slot newest under.body body) → During past new (IsBegun layout s taken)
+    snapshot_begun {new} {body} early is run = weaker past new _ _ (either_begun early) (subst (λ b. During past new (EitherSnapshot layout past slot newest under.body b)) is run)
 
     -- and behind it
-    pub underway_renewed : {new : Past} {to : Slot} {l : Layout} {of g number' next' : ℕ} {body : List ℕ} {start : ℕ} → IsImage new (seen new) → l ≡ layout → g ≡ of → number' ≡ 0 → next' ≡ start
-        → body ≡ state_spelling state → GoesOn layout new to of body [] of 0 start → IsUnderway l s taken new to g number' next' false state
-    underway_renewed {new} {to} {l} {of} {g} {number'} {next'} {body} {start} here on_layout on none first is whole =
-        subst (λ (z : Layout). IsUnderway z s taken new to g number' next' false state) (sym on_layout)
-        (subst (λ n. IsUnderway layout s taken new to n number' next' false state) (sym on)
-        (subst (λ n. IsUnderway layout s taken new to of n next' false state) (sym none)
-        (subst (λ n. IsUnderway layout s taken new to of 0 n false state) (sym first)
-        (nothing_behind false here (subst (λ b. GoesOn layout new to of b [] of 0 start) is whole) renewed under.ends))))
+    pub underway_renewed : {new : Past} {to : Slot} {l : Layout} {after of g number' next' : ℕ} {body : List ℕ} {start : ℕ} → IsImage new (seen new) → l ≡ layout → g ≡ of → number' ≡ 0 → next' ≡ start
+        → body ≡ state_spelling state → GoesOn layout new to after body [] of 0 start → IsUnderway l s taken new to after g number' next' false state
+    underway_renewed {new} {to} {l} {after} {of} {g} {number'} {next'} {body} {start} here on_layout on none first is whole =
+        subst (λ (z : Layout). IsUnderway z s taken new to after g number' next' false state) (sym on_layout)
+        (subst (λ n. IsUnderway layout s taken new to after n number' next' false state) (sym on)
+        (subst (λ n. IsUnderway layout s taken new to after of n next' false state) (sym none)
+        (subst (λ n. IsUnderway layout s taken new to after of 0 n false state) (sym first)
+        (nothing_behind false here (subst (λ b. GoesOn layout new to after b [] of 0 start) is whole) renewed under.ends))))
 
   -- ---- at the end
 
   -- behind the sync each image is a store of the state
   pub kept_synced : {new : Past} {sectors : ℕ} → IsImage new (seen new) → store_sectors layout ≤ sectors
-      → GoesOn layout new slot generation under.body (under.records ++ under.more) generation number next → Keeps new sectors layout slot generation number next state
+      → GoesOn layout new slot newest under.body (under.records ++ under.more) generation number next → Keeps new sectors layout slot newest generation number next state
   kept_synced here on_disk whole = packed here whole (comes_of under.all) on_disk
 
   -- and so it is where nothing was to be synced
-  pub kept_unsynced : {sectors : ℕ} → IsImage past (seen past) → store_sectors layout ≤ sectors → unsynced ≡ false → Keeps past sectors layout slot generation number next state
+  pub kept_unsynced : {sectors : ℕ} → IsImage past (seen past) → store_sectors layout ≤ sectors → unsynced ≡ false → Keeps past sectors layout slot newest generation number next state
   kept_unsynced here on_disk clean =
       let none = under.synced clean in
       let all : under.records ≡ under.records ++ under.more = sym (ap (λ (l : List (List ℕ)). under.records ++ l) none ∙ append-nil under.records) in
-      kept_synced here on_disk (subst (λ (l : List (List ℕ)). GoesOn layout past slot generation under.body l generation number next) all
-      (nothing_ahead (subst (λ (l : List (List ℕ)). GoesOnAhead layout past slot generation under.body under.records l number next) none under.ahead)))
+      kept_synced here on_disk (subst (λ (l : List (List ℕ)). GoesOn layout past slot newest under.body l generation number next) all
+      (nothing_ahead (subst (λ (l : List (List ℕ)). GoesOnAhead layout past slot newest under.body under.records l generation number next) none under.ahead)))
 
 -- ---- what the calls need
 
@@ -227,18 +230,18 @@ pub then_settled : {old mid new : Past} {layout l : Layout} {s : State} {taken :
 then_settled {old} {mid} {new} {layout} {l} {s} {taken} same first second = followed old mid new _ first (subst (λ (z : Layout). During mid new (IsBegun z s taken)) same second)
 
 -- a refusal that is a step's, or turns the input away
-pub underway_refused : {layout : Layout} {s : State} {taken : List Input} {past : Past} {slot : Slot} {generation number next : ℕ} {unsynced : Bool} {state : State} {input : Input} (e : declared.Refusal)
-    → IsUnderway layout s taken past slot generation number next unsynced state → ((is_turned_away e ≡ true) ⊎ ((r : Refused) × Step (body_limit layout) state input (Refusal r) [] state))
-    → IsUnderway layout s (taken ++ where_step (Err e) input) past slot generation number next unsynced state
-underway_refused {layout} {s} {taken} {past} {slot} {generation} {number} {next} {unsynced} {state} {input} e under told = by (is_turned_away e) refl told
+pub underway_refused : {layout : Layout} {s : State} {taken : List Input} {past : Past} {slot : Slot} {newest generation number next : ℕ} {unsynced : Bool} {state : State} {input : Input} (e : declared.Refusal)
+    → IsUnderway layout s taken past slot newest generation number next unsynced state → ((is_turned_away e ≡ true) ⊎ ((r : Refused) × Step (body_limit layout) state input (Refusal r) [] state))
+    → IsUnderway layout s (taken ++ where_step (Err e) input) past slot newest generation number next unsynced state
+underway_refused {layout} {s} {taken} {past} {slot} {newest} {generation} {number} {next} {unsynced} {state} {input} e under told = by (is_turned_away e) refl told
   where
-    turned : is_turned_away e ≡ true → IsUnderway layout s (taken ++ where_step (Err e) input) past slot generation number next unsynced state
-    turned is = subst (λ away. IsUnderway layout s (taken ++ (if away then [] else input ∷ [])) past slot generation number next unsynced state) (sym is) (subst (λ l. IsUnderway layout s l past slot generation number next unsynced state) (sym (append-nil taken)) under)
+    turned : is_turned_away e ≡ true → IsUnderway layout s (taken ++ where_step (Err e) input) past slot newest generation number next unsynced state
+    turned is = subst (λ away. IsUnderway layout s (taken ++ (if away then [] else input ∷ [])) past slot newest generation number next unsynced state) (sym is) (subst (λ l. IsUnderway layout s l past slot newest generation number next unsynced state) (sym (append-nil taken)) under)
 
-    by : (away : Bool) → is_turned_away e ≡ away → ((is_turned_away e ≡ true) ⊎ ((r : Refused) × Step (body_limit layout) state input (Refusal r) [] state)) → IsUnderway layout s (taken ++ where_step (Err e) input) past slot generation number next unsynced state
+    by : (away : Bool) → is_turned_away e ≡ away → ((is_turned_away e ≡ true) ⊎ ((r : Refused) × Step (body_limit layout) state input (Refusal r) [] state)) → IsUnderway layout s (taken ++ where_step (Err e) input) past slot newest generation number next unsynced state
     by true is cause = turned is
     by false is (inl other) = turned other
-    by false is (inr step) = subst (λ away. IsUnderway layout s (taken ++ (if away then [] else input ∷ [])) past slot generation number next unsynced state) (sym is) (underway_stayed under step.1)
+    by false is (inr step) = subst (λ away. IsUnderway layout s (taken ++ (if away then [] else input ∷ [])) past slot newest generation number next unsynced state) (sym is) (underway_stayed under step.1)
 
 -- the cause of a refusal that isn't the disk's
 pub cause_of : (layout : Layout) {size : ℕ} {state : State} {input : Input} {e : declared.Refusal} → size ≡ body_limit layout → ¬ (e ≡ Device)

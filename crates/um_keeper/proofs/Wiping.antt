@@ -6,15 +6,17 @@ use Rattle.std.proofs.lemmas.List.{length-replicate, get_or-replicate}
 use Rattle.um_model.specs.Disk.{Sector, Image, Past, seen, IsImage, Images, synced as synced_call, with_sector, Wrote, Synced, During}
 use Rattle.um_sector.specs.Runs.{IsLaid, MaybeLaid, AfterRun}
 use Rattle.um_model.specs.Machine.{empty_state}
+use Rattle.um_model.specs.Profiles.{current}
 use Rattle.um_model.specs.StateSpellings.{state_spelling}
-use Rattle.um_model.specs.Store.{superblock, slot_start, body_limit, log_start, HasNoHeader, IsHeader, IsNewest, IsOf, IsFree}
+use Rattle.um_model.specs.Store.{current, superblock, slot_start, body_limit, first_log_sector, HasNoHeader, IsHeader, IsNewest, IsOf, IsNoneAbove}
 use Rattle.um_model.specs.declared.layout.Layout.{Layout}
 use Rattle.um_model.specs.declared.layout.Slot.{Slot}
 use Rattle.um_model.specs.declared.layout.Slot.TheVariants.{A, B}
 use Rattle.um_laws.proofs.DiskLaws.{with_same, during_write, during_sync, followed, weaker, started, at_end, image_synced}
 use Rattle.um_laws.proofs.FitStateLaws.{empty_fit}
 use Rattle.um_laws.proofs.StandsLaws.{contents_are, empty_store, empty_back, empty_may}
-use Rattle.um_laws.proofs.StoreLaws.{blank_header, blank_log, made_store}
+use Rattle.um_laws.proofs.StoreLaws.{blank_header, blank_log}
+use Rattle.um_laws.proofs.CountedLaws.{made_store}
 use Rattle.um_laws.proofs.WholeLaws.{spelled_room}
 use Rattle.um_sector.specs.Unsynced.{is_sync, sync_count}
 use Rattle.um_keeper.specs.Creating.{blank, IsNoStore, WasOrIsNone, IsEmptyStore, NoneOrEmpty, WhileCreated, synced, IsWiped}
@@ -84,43 +86,43 @@ blank_outside : (old image : Image) (at n : ℕ) → IsLaid old at (replicate n 
 blank_outside old image at n laid j out = laid.outside j (⊎_elim (λ low. inl low) (λ high. inr (omega (arith, high, length-replicate n blank))) out)
 
 pub wiped : (layout : Layout) (a b c d : Image) → IsZeroed a → IsLaid a (slot_start layout A) (replicate 1 blank) b → IsLaid b (slot_start layout B) (replicate 1 blank) c
-    → IsLaid c (log_start layout 1) (replicate layout.log_sectors blank) d → IsWiped layout d
+    → IsLaid c (first_log_sector layout) (replicate layout.log_sectors blank) d → IsWiped layout d
 wiped layout a b c d zero one two three = record {
   first = low 0 (omega arith) ∙ blank_outside b c (slot_start layout B) 1 two 0 (inl (omega arith)) ∙ blank_outside a b 1 1 one 0 (inl (omega arith)) ∙ zero;
   headers = headers;
-  log = λ j l h. blank_inside c d (log_start layout 1) layout.log_sectors three j l h;
+  log = λ j l h. blank_inside c d (first_log_sector layout) layout.log_sectors three j l h;
 }
   where
-    low : (j : ℕ) → j < log_start layout 1 → d j ≡ c j
-    low j l = blank_outside c d (log_start layout 1) layout.log_sectors three j (inl l)
+    low : (j : ℕ) → j < first_log_sector layout → d j ≡ c j
+    low j l = blank_outside c d (first_log_sector layout) layout.log_sectors three j (inl l)
 
     headers : (slot : Slot) → d (slot_start layout slot) ≡ blank
     headers A = low 1 (omega (arith, layout.slot_least)) ∙ blank_outside b c (slot_start layout B) 1 two 1 (inl (omega (arith, layout.slot_least))) ∙ blank_inside a b 1 1 one 1 (omega arith) (omega arith)
     headers B = low (slot_start layout B) (omega (arith, layout.slot_least)) ∙ blank_inside b c (slot_start layout B) 1 two (slot_start layout B) (omega arith) (omega arith)
 
--- so there is no header, and the log is free
+-- so there is no header, and none of the log is of any generation
 pub wiped_none : (layout : Layout) (image : Image) → IsWiped layout image → HasNoHeader layout image
 wiped_none layout image w slot generation size is = blank_header layout generation size (subst (λ (s : Sector). IsHeader layout s generation size) (w.headers slot) is)
 
-pub wiped_free : (layout : Layout) (image : Image) → IsWiped layout image → IsFree layout 1 image (log_start layout 1)
-wiped_free layout image w theirs j low high is = absurd (blank_log theirs (subst (IsOf theirs) (w.log j low high) is))
+pub wiped_above : (layout : Layout) (image : Image) → IsWiped layout image → IsNoneAbove layout image 0
+wiped_above layout image w theirs j low high is = absurd (blank_log theirs (subst (IsOf theirs) (w.log j low high) is))
 
 -- ---- sector 0 makes it the store of the empty state
 
 -- whose bytes have room
 pub empty_room : (layout : Layout) → length (state_spelling empty_state) ≤ body_limit layout
-empty_room layout = spelled_room (body_limit layout) empty_state empty_fit (empty_may layout)
+empty_room layout = spelled_room (body_limit layout) empty_state (empty_fit current) (empty_may layout)
 
-module _ (layout : Layout) (mid : Image) (newest : IsNewest layout mid A 1 (state_spelling empty_state)) (free : IsFree layout 1 mid (log_start layout 1)) where
-  makes : (image : Image) → image 0 ≡ superblock layout → ((j : ℕ) → 1 ≤ j → image j ≡ mid j) → IsEmptyStore layout image
+module _ (layout : Layout) (mid : Image) (newest : IsNewest layout mid A 1 (state_spelling empty_state)) (none : IsNoneAbove layout mid 0) where
+  makes : (image : Image) → image 0 ≡ superblock current layout → ((j : ℕ) → 1 ≤ j → image j ≡ mid j) → IsEmptyStore layout image
   makes image first same =
-      let store = made_store newest (omega arith) free same first in
+      let store = made_store newest (omega arith) (omega arith) none same first in
       record { store = empty_store store; holds = contents_are store empty_back refl }
 
-  pub made : (image : Image) → IsLaid mid 0 (superblock layout ∷ []) image → IsEmptyStore layout image
+  pub made : (image : Image) → IsLaid mid 0 (superblock current layout ∷ []) image → IsEmptyStore layout image
   made image laid = makes image (laid.inside 0 (omega arith)) (λ j above. laid.outside j (inr above))
 
-  pub made_maybe : IsZeroed mid → (image : Image) → MaybeLaid mid 0 (superblock layout ∷ []) image → NoneOrEmpty layout image
+  pub made_maybe : IsZeroed mid → (image : Image) → MaybeLaid mid 0 (superblock current layout ∷ []) image → NoneOrEmpty layout image
   made_maybe zero image maybe = ⊎_elim {C = NoneOrEmpty layout image}
       (λ old. inl (zeroed_none image (old ∙ zero)))
       (λ new. inr (makes image new (λ j above. maybe.outside j (inr above))))

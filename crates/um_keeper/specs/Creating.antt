@@ -5,7 +5,7 @@ use Rattle.std.specs.Prelude.{◌≡◌, ◌⊎◌, ◌+◌, ◌<◌, ◌≤◌,
 use Rattle.um_model.specs.Disk.{Sector, Image, Past, IsImage, During}
 use Rattle.um_model.specs.Machine.{empty_state}
 use Rattle.um_model.specs.Stands.{contents_of, IsStoreOf}
-use Rattle.um_model.specs.Store.{sector_bytes, store_name, slot_start, log_start, log_end}
+use Rattle.um_model.specs.Store.{current, sector_bytes, store_name, slot_start, first_log_sector, store_sectors}
 use Rattle.um_model.specs.declared.layout.Layout.{Layout}
 use Rattle.um_model.specs.declared.layout.Slot.{Slot}
 use Rattle.um_model.specs.declared.layout.Slot.TheVariants.{A}
@@ -27,7 +27,7 @@ WasOrIsNone past image = IsImage past image ⊎ IsNoStore image
 -- the store of the empty state: its snapshot of generation 1 in slot A, and no record
 pub record IsEmptyStore (layout : Layout) (image : Image) : Type 0 where
   pub store : IsStoreOf layout image empty_state
-  pub holds : contents_of layout image ≡ Some (record { slot = A; generation = 1; start = empty_state; inputs = [] })
+  pub holds : contents_of current layout image ≡ Some (record { slot = A; generation = 1; start = empty_state; inputs = [] })
 
 -- no store, or that of the empty state
 abbrev pub NoneOrEmpty : Layout → Image → Type 0
@@ -50,4 +50,4 @@ create_calls layout = 2 + (layout.log_sectors + 2) + snapshot_calls empty_state 
 pub record IsWiped (layout : Layout) (image : Image) : Type 0 where
   pub first : image 0 ≡ blank
   pub headers : (slot : Slot) → image (slot_start layout slot) ≡ blank
-  pub log : (j : ℕ) → log_start layout 1 ≤ j → j < log_end layout 1 → image j ≡ blank
+  pub log : (j : ℕ) → first_log_sector layout ≤ j → j < store_sectors layout → image j ≡ blank

@@ -19,8 +19,8 @@ pub record IsSummed (count : ℕ) (image : Image) (m : Summary) (s : State) : Ty
   pub records_are : m.records ≡ length stands.contents.inputs
   pub clock_is : m.clock ≡ s.clock
   pub next_is : m.next ≡ s.next
-  pub cut_off_is : TellsCutOff layout m.generation image m.cut_off
-  pub damaged_is : TellsDamaged layout stands.contents.slot m.generation image m.damaged
+  pub cut_off_is : TellsCutOff stands.format layout m.generation image m.cut_off
+  pub damaged_is : TellsDamaged stands.format layout stands.contents.slot m.generation image m.damaged
 
 -- it tells so of some state
 pub record IsSomeSummed (count : ℕ) (image : Image) (m : Summary) : Type 0 where

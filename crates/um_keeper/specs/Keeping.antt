@@ -8,7 +8,7 @@ use Rattle.um_model.specs.Machine.{State, Input, Run}
 use Rattle.um_model.specs.Servable.{IsServable}
 use Rattle.um_model.specs.StateSpellings.{FitState, state_spelling}
 use Rattle.um_model.specs.Stands.{Contents, contents_of, IsStoreOf}
-use Rattle.um_model.specs.Store.{superblock, body_limit, log_start, log_end, store_sectors, newest_of, records_of, sectors_of, sector_count, part_count, IsFree}
+use Rattle.um_model.specs.Store.{current, superblock, body_limit, log_start, log_end, store_sectors, newest_of, records_of, sectors_of, sector_count, part_count, IsNoneAbove, IsFree}
 use Rattle.um_model.specs.declared.layout.Layout.{Layout}
 use Rattle.um_model.specs.declared.layout.Slot.{Slot}
 
@@ -20,22 +20,25 @@ pub record MayHold (layout : Layout) (size : ℕ) (s : State) : Type 0 where
 
 -- What always holds of the disk of a keeper that hasn't failed, where it does what it answers. It is told by what is read alone, without
 -- saying of any state or input that there is one, so that it is the same fact however it came to hold.
-pub record Keeps (past : Past) (sectors : ℕ) (layout : Layout) (slot : Slot) (generation number next : ℕ) (s : State) : Type 0 where
-  -- each image that a crash may leave is a store of this layout, with what a read gives as its newest snapshot and its records
-  pub first : Images past (λ image. image 0 ≡ superblock layout)
-  pub newest : Images past (λ image. newest_of layout image ≡ newest_of layout (seen past))
-  pub records : Images past (λ image. records_of layout generation image ≡ records_of layout generation (seen past))
-  -- no sector of the log is of a later generation, and from the next record's on none is of this one
-  pub none_later : Images past (λ image. IsFree layout (generation + 1) image (log_start layout (generation + 1)))
+pub record Keeps (past : Past) (sectors : ℕ) (layout : Layout) (slot : Slot) (newest generation number next : ℕ) (s : State) : Type 0 where
+  -- the log takes records of the newest snapshot's generation
+  pub same : generation ≡ newest
+  -- each image that a crash may leave is a store of this layout, with what a read gives as its newest snapshot and as the records of both generations
+  pub first : Images past (λ image. image 0 ≡ superblock current layout)
+  pub newest_is : Images past (λ image. newest_of layout image ≡ newest_of layout (seen past))
+  pub front : Images past (λ image. records_of current layout newest image ≡ records_of current layout newest (seen past))
+  pub logged : Images past (λ image. records_of current layout generation image ≡ records_of current layout generation (seen past))
+  -- no sector of the log is of a generation above that of the log, and from the next record's on none is of this one
+  pub above : Images past (λ image. IsNoneAbove layout image generation)
   pub free : Images past (λ image. IsFree layout generation image next)
-  -- the snapshot and the records spell a state and inputs, and the run over them ends in the state
-  pub holds : is_some (contents_of layout (seen past)) ≡ true
-  pub home : (c : Contents) → contents_of layout (seen past) ≡ Some c → (c.slot ≡ slot) × (c.generation ≡ generation)
-  pub start : (c : Contents) → contents_of layout (seen past) ≡ Some c → IsServable (body_limit layout) c.start
-  pub run : (c : Contents) → contents_of layout (seen past) ≡ Some c → (t : State) → Run (body_limit layout) c.start c.inputs t → t ≡ s
-  -- the next record goes behind those
-  pub count : number ≡ length (records_of layout generation (seen past))
-  pub place : next ≡ log_start layout generation + sectors_of (records_of layout generation (seen past))
+  -- the snapshot and the records that count spell a state and inputs, and the run over them ends in the state
+  pub holds : is_some (contents_of current layout (seen past)) ≡ true
+  pub home : (c : Contents) → contents_of current layout (seen past) ≡ Some c → (c.slot ≡ slot) × (c.generation ≡ newest)
+  pub start : (c : Contents) → contents_of current layout (seen past) ≡ Some c → IsServable (body_limit layout) c.start
+  pub run : (c : Contents) → contents_of current layout (seen past) ≡ Some c → (t : State) → Run (body_limit layout) c.start c.inputs t → t ≡ s
+  -- the next record goes behind those of the log's generation
+  pub count : number ≡ length (records_of current layout generation (seen past))
+  pub place : next ≡ log_start layout generation + sectors_of (records_of current layout generation (seen past))
   pub within : next ≤ log_end layout generation
   pub on_disk : store_sectors layout ≤ sectors
 

@@ -10,8 +10,10 @@ use Rattle.um_model.specs.Servable.{IsServable}
 use Rattle.um_model.specs.Service.{Action}
 use Rattle.um_model.specs.Stands.{StandsFor, IsStoreOf}
 use Rattle.um_model.specs.StateSpellings.{state_at}
-use Rattle.um_model.specs.Store.{store_name, store_format, superblock, slot_start, body_limit, log_start, log_end, store_sectors, Newest, newest_of, records_of, sectors_of, placed}
+use Rattle.um_model.specs.Store.{store_name, format_name, superblock, slot_start, body_limit, area_start, area_end, store_sectors, top, Newest, newest_of, records_of, all_records, sectors_of, placed}
 use Rattle.um_model.specs.Store as sectors
+use Rattle.um_model.specs.declared.layout.Format.{Format}
+use Rattle.um_model.specs.declared.layout.Format.TheVariants.{One}
 use Rattle.um_model.specs.declared.layout.Layout.{Layout}
 use Rattle.um_model.specs.declared.layout.Slot.{Slot}
 use Rattle.um_wire.specs.declared.refusal.Refusal.{Refusal}
@@ -23,10 +25,15 @@ use Rattle.um_slot.specs.Reading.{IsDamaged}
 use Rattle.um_keeper.specs.declared.keeper.OpenedStore.{OpenedStore}
 use Rattle.um_keeper.specs.declared.keeper.Uncounted.{Uncounted}
 
--- sector 0 tells a layout for which a disk of so many sectors has room
+-- sector 0 tells a format and a layout for which a disk of so many sectors has room
 pub record HasLayout (count : ℕ) (image : Image) (layout : Layout) : Type 0 where
-  pub first : image 0 ≡ superblock layout
+  pub format : Format
+  pub first : image 0 ≡ superblock format layout
   pub room : store_sectors layout ≤ count
+
+-- the records that count beside the newest snapshot, each with its first sector
+abbrev pub all_placed : Format → Layout → ℕ → Image → List (ℕ × List ℕ)
+all_placed One layout newest image = placed (area_start One layout newest) (records_of One layout newest image)
 
 -- a body spells a state that a store of this layout may hold
 pub record IsStart (layout : Layout) (body : List ℕ) (s : State) : Type 0 where
@@ -55,27 +62,27 @@ pub data IsNoInput : List (ℕ × List ℕ) → Refusal → Type 0 where
 pub data IsUnread (count : ℕ) (image : Image) : Refusal → Type 0 where
   no_sector : count ≡ 0 → IsUnread count image NotFormatted
   no_store : 0 < count → ¬ (take 6 (image 0) ≡ store_name) → IsUnread count image NotFormatted
-  other_format : 0 < count → take 6 (image 0) ≡ store_name → ¬ (take 8 (image 0) ≡ store_format) → IsUnread count image OtherLayout
-  no_layout : 0 < count → take 8 (image 0) ≡ store_format → ((layout : Layout) → ¬ HasLayout count image layout) → IsUnread count image (Damaged 0)
+  other_format : 0 < count → take 6 (image 0) ≡ store_name → ((format : Format) → ¬ (take 8 (image 0) ≡ format_name format)) → IsUnread count image OtherLayout
+  no_layout : (format : Format) → 0 < count → take 8 (image 0) ≡ format_name format → ((layout : Layout) → ¬ HasLayout count image layout) → IsUnread count image (Damaged 0)
   no_header : {layout : Layout} → HasLayout count image layout → newest_of layout image ≡ None → IsUnread count image (Damaged 1)
   no_state : {layout : Layout} {n : Newest} → HasLayout count image layout → newest_of layout image ≡ Some n
       → ((s : State) → ¬ IsStart layout n.body s) → IsUnread count image (Damaged (slot_start layout n.slot + 1))
-  no_input : {layout : Layout} {n : Newest} {s : State} {e : Refusal} → HasLayout count image layout → newest_of layout image ≡ Some n → IsStart layout n.body s
-      → IsNoInput (placed (log_start layout n.generation) (records_of layout n.generation image)) e → IsUnread count image e
+  no_input : {layout : Layout} {n : Newest} {s : State} {e : Refusal} (has : HasLayout count image layout) → newest_of layout image ≡ Some n → IsStart layout n.body s
+      → IsNoInput (all_placed has.format layout n.generation image) e → IsUnread count image e
 
 -- all records of the generation lie before this number and this place
-pub record IsBehind (layout : Layout) (generation : ℕ) (image : Image) (number next : ℕ) : Type 0 where
-  pub count : number ≡ length (records_of layout generation image)
-  pub place : next ≡ log_start layout generation + sectors_of (records_of layout generation image)
+pub record IsBehind (format : Format) (layout : Layout) (generation : ℕ) (image : Image) (number next : ℕ) : Type 0 where
+  pub count : number ≡ length (records_of format layout generation image)
+  pub place : next ≡ area_start format layout generation + sectors_of (records_of format layout generation image)
 
--- What a read gives is taken up: a store of this layout on the disk, whose newest snapshot and its records come to the state.
+-- What a read gives is taken up: a store of this layout on the disk, whose newest snapshot and the records beside it come to the state.
 pub record IsTakenUp (count : ℕ) (image : Image) (layout : Layout) (slot : Slot) (generation : ℕ) (s : State) : Type 0 where
   pub has : HasLayout count image layout
   pub body : List ℕ
   pub newest : sectors.IsNewest layout image slot generation body
   pub start : State
   pub starts : IsStart layout body start
-  pub replays : Replays (body_limit layout) (records_of layout generation image) start s
+  pub replays : Replays (body_limit layout) (all_records has.format layout generation image) start s
 
 -- What a read gives would be taken up, but the greatest generation that stands there is the last one, so that no next one can be written.
 pub record IsSpent (count : ℕ) (image : Image) : Type 0 where
@@ -84,7 +91,12 @@ pub record IsSpent (count : ℕ) (image : Image) : Type 0 where
   pub generation : ℕ
   pub state : State
   pub taken : IsTakenUp count image layout slot generation state
-  pub last : IsGreatest layout image generation (2 ^ 64 - 1)
+  pub last : IsGreatest layout image (top taken.has.format generation) (2 ^ 64 - 1)
+
+-- What a read gives is taken up, and the greatest generation that stands there is that one.
+pub record IsFound (count : ℕ) (image : Image) (layout : Layout) (slot : Slot) (generation greatest : ℕ) (s : State) : Type 0 where
+  pub taken : IsTakenUp count image layout slot generation s
+  pub greatest_is : IsGreatest layout image (top taken.has.format generation) greatest
 
 -- Why a disk isn't taken up: for a cause of its reading, or by E20.
 pub data IsUntaken (count : ℕ) (image : Image) : Refusal → Type 0 where
@@ -97,62 +109,64 @@ pub record IsNextOf (count : ℕ) (image : Image) (layout : Layout) (slot : Slot
   pub earlier : ℕ
   pub greatest : ℕ
   pub turned : slot ≡ sectors.other before
-  pub is_greatest : IsGreatest layout image earlier greatest
-  pub next : generation ≡ greatest + 1
   pub taken : IsTakenUp count image layout before earlier s
+  pub is_greatest : IsGreatest layout image (top taken.has.format earlier) greatest
+  pub next : generation ≡ greatest + 1
 
 -- how many records of a generation count, and the first sector behind them
-abbrev pub count_in : Layout → ℕ → Image → ℕ
-count_in layout generation image = length (records_of layout generation image)
+abbrev pub count_in : Format → Layout → ℕ → Image → ℕ
+count_in format layout generation image = length (records_of format layout generation image)
 
-abbrev pub end_in : Layout → ℕ → Image → ℕ
-end_in layout generation image = log_start layout generation + sectors_of (records_of layout generation image)
+abbrev pub end_in : Format → Layout → ℕ → Image → ℕ
+end_in format layout generation image = area_start format layout generation + sectors_of (records_of format layout generation image)
 
 -- behind the records of a generation that count stand so many whole ones of it with a greater number
-abbrev pub HasUncounted : Layout → ℕ → Image → ℕ → Type 0
-HasUncounted layout generation image =
-    Counts (EndsUncounted layout image (end_in layout generation image) generation (count_in layout generation image))
-    (end_in layout generation image) (log_end layout generation)
+abbrev pub HasUncounted : Format → Layout → ℕ → Image → ℕ → Type 0
+HasUncounted format layout generation image =
+    Counts (EndsUncounted format layout image (end_in format layout generation image) generation (count_in format layout generation image))
+    (end_in format layout generation image) (area_end format layout generation)
 
 -- and so many of later generations
-abbrev pub HasLater : Layout → ℕ → Image → ℕ → Type 0
-HasLater layout generation image =
-    Counts (EndsLater layout image (end_in layout generation image) generation) (end_in layout generation image) (log_end layout generation)
+abbrev pub HasLater : Format → Layout → ℕ → Image → ℕ → Type 0
+HasLater format layout generation image =
+    Counts (EndsLater format layout image (end_in format layout generation image) generation) (end_in format layout generation image) (area_end format layout generation)
 
 -- the reading of the records of a generation ends with that sector
-abbrev pub EndsAt : Layout → ℕ → Image → ℕ → Type 0
-EndsAt layout generation image = StopsAt layout generation image (count_in layout generation image) (end_in layout generation image)
+abbrev pub EndsAt : Format → Layout → ℕ → Image → ℕ → Type 0
+EndsAt format layout generation image = StopsAt format layout generation image (count_in format layout generation image) (end_in format layout generation image)
 
 -- what is told of whole records of the generation that don't count: how many there are, and the sector with which the reading ends; or there are none
-abbrev pub TellsCutOff : Layout → ℕ → Image → Option Uncounted → Type 0
-TellsCutOff layout generation image None = HasUncounted layout generation image 0
-TellsCutOff layout generation image (Some cut) =
-    (0 < cut.records) × HasUncounted layout generation image cut.records × EndsAt layout generation image cut.sector
+abbrev pub TellsCutOff : Format → Layout → ℕ → Image → Option Uncounted → Type 0
+TellsCutOff format layout generation image None = HasUncounted format layout generation image 0
+TellsCutOff format layout generation image (Some cut) =
+    (0 < cut.records) × HasUncounted format layout generation image cut.records × EndsAt format layout generation image cut.sector
 
 -- what is told of the other slot, beside the newest one: its first sector is damaged, and so many whole records of later generations stand in the log;
 -- or it isn't damaged
-abbrev pub TellsDamaged : Layout → Slot → ℕ → Image → Option Uncounted → Type 0
-TellsDamaged layout slot generation image None = ¬ IsDamaged layout (image (slot_start layout (sectors.other slot)))
-TellsDamaged layout slot generation image (Some damaged) =
+abbrev pub TellsDamaged : Format → Layout → Slot → ℕ → Image → Option Uncounted → Type 0
+TellsDamaged format layout slot generation image None = ¬ IsDamaged layout (image (slot_start layout (sectors.other slot)))
+TellsDamaged format layout slot generation image (Some damaged) =
     IsDamaged layout (image (slot_start layout (sectors.other slot))) × (damaged.sector ≡ slot_start layout (sectors.other slot))
-    × HasLater layout generation image damaged.records
+    × HasLater format layout generation image damaged.records
 
--- What was read of an image: the generation of its newest header, the count of the records of that generation, which are replayed, and what doesn't
--- count.
+-- What was read of an image: the generation of its newest header, the count of the records that count beside it, which are replayed, and what
+-- doesn't count.
 pub record IsRead (layout : Layout) (image : Image) (opened : OpenedStore) : Type 0 where
+  pub format : Format
+  pub first : image 0 ≡ superblock format layout
   pub newest : Newest
   pub is_newest : newest_of layout image ≡ Some newest
   pub generation_is : opened.generation ≡ newest.generation
-  pub records_are : opened.records ≡ count_in layout newest.generation image
-  pub cut_off_is : TellsCutOff layout newest.generation image opened.cut_off
-  pub damaged_is : TellsDamaged layout newest.slot newest.generation image opened.damaged
+  pub records_are : opened.records ≡ length (all_records format layout newest.generation image)
+  pub cut_off_is : TellsCutOff format layout newest.generation image opened.cut_off
+  pub damaged_is : TellsDamaged format layout newest.slot newest.generation image opened.damaged
 
 -- what remains in the log behind the records of a generation
-pub record Remain (layout : Layout) (generation : ℕ) (image : Image) (remains : Remains) : Type 0 where
+pub record Remain (format : Format) (layout : Layout) (generation : ℕ) (image : Image) (remains : Remains) : Type 0 where
   pub greatest : IsGreatest layout image generation remains.greatest
-  pub uncounted : HasUncounted layout generation image remains.uncounted
-  pub later : HasLater layout generation image remains.later
-  pub stop : end_in layout generation image < log_end layout generation → EndsAt layout generation image remains.stop
+  pub uncounted : HasUncounted format layout generation image remains.uncounted
+  pub later : HasLater format layout generation image remains.later
+  pub stop : end_in format layout generation image < area_end format layout generation → EndsAt format layout generation image remains.stop
 
 -- what a store of this layout may hold
 pub record IsKept (layout : Layout) (size : ℕ) (s : State) : Type 0 where

@@ -42,12 +42,12 @@ pub record Begins (layout : Layout) (s : State) (taken : List Input) (body : Lis
   pub spells : Spells layout body records state
 
 -- While a list is taken from a state on: the disk has a beginning of the inputs that were taken, and a read gives the state behind them all.
-pub record IsUnderway (layout : Layout) (s : State) (taken : List Input) (past : Past) (slot : Slot) (generation number next : ℕ) (unsynced : Bool)
+pub record IsUnderway (layout : Layout) (s : State) (taken : List Input) (past : Past) (slot : Slot) (newest generation number next : ℕ) (unsynced : Bool)
     (state : State) : Type 0 where
   pub body : List ℕ
   pub records : List (List ℕ)
   pub more : List (List ℕ)
-  pub ahead : GoesOnAhead layout past slot generation body records more number next
+  pub ahead : GoesOnAhead layout past slot newest body records more generation number next
   -- each beginning of the records that weren't synced is one of the inputs
   pub begins : (n : ℕ) → Begins layout s taken body (records ++ take n more)
   pub all : Spells layout body (records ++ more) state
@@ -57,11 +57,11 @@ pub record IsUnderway (layout : Layout) (s : State) (taken : List Input) (past :
 
 -- the same of where a store stands
 abbrev pub UnderwayIn : State → List Input → Past → Ahead → State → Type 0
-UnderwayIn s taken past a state = IsUnderway a.log.layout s taken past a.home.slot a.log.generation a.log.number a.log.next a.unsynced state
+UnderwayIn s taken past a state = IsUnderway a.log.layout s taken past a.home.slot a.home.generation a.log.generation a.log.number a.log.next a.unsynced state
 
 -- all of it is synced, and each image is a store of the state
 abbrev pub KeptIn : Past → ℕ → Ahead → State → Type 0
-KeptIn past sectors a state = Keeps past sectors a.log.layout a.home.slot a.log.generation a.log.number a.log.next state
+KeptIn past sectors a state = Keeps past sectors a.log.layout a.home.slot a.home.generation a.log.generation a.log.number a.log.next state
 
 -- one disk call is owed where something is to be synced
 abbrev pub owed : Bool → ℕ

@@ -10,7 +10,7 @@ ghost use Rattle.um_sector.specs.Refused.{CountsDevice, IsLost};
 ghost use Rattle.um_keeper.specs.Creating.{blank, WasOrIsNone, IsEmptyStore, WhileCreated, IsWiped, create_calls};
 
 use std::alloc::Global;
-use um_model::{Layout, SECTOR_BYTES, Slot};
+use um_model::{CURRENT, Layout, SECTOR_BYTES, Slot};
 use um_sector::{Disk, Fault, Sector, write_blank, write_run_synced};
 use um_slot::{superblock, write_first};
 use um_state::State;
@@ -44,7 +44,7 @@ fn wipe<D: Disk>(disk: &mut D, layout: Layout) -> Result<(), Fault>
 {
     write_blank(disk, layout.slot_start(Slot::A), 1)?;
     write_blank(disk, layout.slot_start(Slot::B), 1)?;
-    write_blank(disk, layout.log_start(1), layout.log_sectors as usize)
+    write_blank(disk, layout.first_log_sector(), layout.log_sectors as usize)
 }
 
 /// Writes the store of the empty state, whose bytes the body has.
@@ -63,7 +63,7 @@ fn lay<D: Disk>(disk: &mut D, layout: Layout, body: &[u8]) -> Result<(), Refusal
     let Some(_) = write_first(disk, layout, body)? else {
         unreachable!();
     };
-    let first: [Sector; 1] = [superblock(layout)];
+    let first: [Sector; 1] = [superblock(CURRENT, layout)];
     write_run_synced(disk, 0, &first)?;
     Ok(())
 }

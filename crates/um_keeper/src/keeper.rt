@@ -17,7 +17,7 @@ ghost use Rattle.um_engine.specs.Engine.{LacksEffect};
 ghost use Rattle.um_model.specs.Numbers.{AreNew, started_numbers};
 ghost use Rattle.um_model.specs.Refusals.{Refused};
 ghost use Rattle.um_model.specs.Stands.{contents_of, IsStoreOf};
-ghost use Rattle.um_model.specs.Store.{other, body_limit, log_start, part_count};
+ghost use Rattle.um_model.specs.Store.{current, other, body_limit, log_start, part_count};
 ghost use Rattle.um_sector.specs.Refused.{CountsDevice, IsLost};
 ghost use Rattle.um_state.specs.View.{state_of, input_of, query_of, reply_of};
 ghost use Rattle.um_tree.specs.Code.{tree_code};
@@ -67,7 +67,7 @@ pub struct Keeper<D: Disk> {
     ghost same: { log.generation ≡ home.generation },
     ghost holds: { MayHold log.layout (machine.size_in engine) (machine.state_in engine) },
     ghost kept: { failed ≡ false → IsTrue (D.honest disk)
-        → Keeps (D.past disk) (D.size disk) log.layout home.slot home.generation log.number log.next (machine.state_in engine) } by { Prim.hlevel (props, codes, maps.code, tree_code) },
+        → Keeps (D.past disk) (D.size disk) log.layout home.slot home.generation log.generation log.number log.next (machine.state_in engine) } by { Prim.hlevel (props, codes, maps.code, tree_code) },
 }
 
 // One call, where a derived one is taken apart at each exit.
@@ -153,14 +153,14 @@ impl<D: Disk> Keeper<D> {
 
     /// Writes the state as the next generation, so that no record is read.
     ///
-    /// Each image of each moment meanwhile is a store of the state. E17 where an earlier call answered E16; E20 where the generation is
+    /// Each image of each moment meanwhile is a store of the state. E17 where an earlier call answered E16; E20 where the log's generation is
     /// the last; E15, with nothing written; E16 where a disk call fails.
     pub fn checkpoint(&mut self) -> Result<(), Refusal>
         ensures during { has_failed self.old ≡ false → IsTrue (D.honest (disk_in self.old))
             → During (D.past (disk_in self.old)) (D.past (disk_in self.new)) (λ image. IsStoreOf (layout_in self.old) image (state_in self.old)) }
-        ensures ok { OnOk result ((slot_in self.new ≡ other (slot_in self.old)) × (generation_in self.new ≡ generation_in self.old + 1)
+        ensures ok { OnOk result ((slot_in self.new ≡ other (slot_in self.old)) × (generation_in self.new ≡ log_generation_in self.old + 1)
             × (log_generation_in self.new ≡ generation_in self.new) × (number_in self.new ≡ 0) × (next_in self.new ≡ log_start (layout_in self.old) (log_generation_in self.new))) }
-        ensures stored { OnOk result (IsTrue (D.honest (disk_in self.old)) → Images (D.past (disk_in self.new)) (λ image. contents_of (layout_in self.old) image
+        ensures stored { OnOk result (IsTrue (D.honest (disk_in self.old)) → Images (D.past (disk_in self.new)) (λ image. contents_of current (layout_in self.old) image
             ≡ Some (record { slot = slot_in self.new; generation = generation_in self.new; start = state_in self.old; inputs = [] }))) }
         ensures state { state_in self.new ≡ state_in self.old }
         ensures stands { standing_in self.new ≡ standing_in self.old }
@@ -172,7 +172,7 @@ impl<D: Disk> Keeper<D> {
         ensures device { CountsDevice result (D.failures (disk_in self.old)) (D.failures (disk_in self.new)) }
         ensures failed { (has_failed self.new ≡ true) ↔ ((has_failed self.old ≡ true) ⊎ (result ≡ Err Refusal.Device)) }
         ensures reopen { (result ≡ Err Refusal.Reopen) ↔ (has_failed self.old ≡ true) }
-        ensures spent { (result ≡ Err Refusal.GenerationsSpent) ↔ ((has_failed self.old ≡ false) × (generation_in self.old ≡ 2 ^ 64 - 1)) }
+        ensures spent { (result ≡ Err Refusal.GenerationsSpent) ↔ ((has_failed self.old ≡ false) × (log_generation_in self.old ≡ 2 ^ 64 - 1)) }
         ensures calls { D.calls (disk_in self.new) ≤ D.calls (disk_in self.old) + snapshot_calls (state_in self.old) }
         ensures life { (s : model.State) (before : List Offer) → has_failed self.old ≡ false → IsTrue (D.honest (disk_in self.old))
             → HasCome (layout_in self.old) s before (state_in self.old)
@@ -183,7 +183,7 @@ impl<D: Disk> Keeper<D> {
         if self.failed {
             return Err(Refusal::Reopen);
         }
-        if self.home.generation == u64::MAX {
+        if self.log.generation == u64::MAX {
             return Err(Refusal::GenerationsSpent);
         }
         let body = spell(self.alloc, self.engine.state())?;

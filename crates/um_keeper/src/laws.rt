@@ -10,7 +10,7 @@ ghost use Rattle.um_model.specs.Lives.{Life, Lived, AreKept, RunsThrough, HasInO
 ghost use Rattle.um_model.specs.Machine.{State, Input, Run};
 ghost use Rattle.um_model.specs.Stands.{StandsFor, IsStoreOf};
 ghost use Rattle.um_model.specs.InputSpellings.{input_limit};
-ghost use Rattle.um_model.specs.Store.{body_limit, record_limit, store_sectors};
+ghost use Rattle.um_model.specs.Store.{top, body_limit, record_limit, store_sectors};
 ghost use Rattle.um_model.specs.Unread.{IsRead};
 ghost use Rattle.um_model.specs.declared.layout.Layout.{Layout};
 ghost use Rattle.um_model.specs.declared.layout.Slot.{Slot};
@@ -72,7 +72,7 @@ pub fn a_store_is_taken_up()
 /// What is taken up isn't refused, unless the greatest generation that stands there is the last one.
 pub fn what_is_taken_up_is_not_refused()
     ensures { (count : ℕ) (layout : Layout) (image : Image) (slot : Slot) (generation greatest : ℕ) (s : State) (e : Refusal)
-        → IsTakenUp count image layout slot generation s → IsGreatest layout image generation greatest → greatest < 2 ^ 64 - 1 → ¬ IsUntaken count image e }
+        (taken : IsTakenUp count image layout slot generation s) → IsGreatest layout image (top taken.has.format generation) greatest → greatest < 2 ^ 64 - 1 → ¬ IsUntaken count image e }
 {}
 
 /// A store that was left by calls that answered goes up by one generation when it is opened: no sector of its log is of a later one than

@@ -1,15 +1,14 @@
 ghost use Rattle.std.specs.Prelude.{◌≡◌, ◌⊎◌, ◌↔◌, ◌+◌, ◌-◌, ◌^◌, ◌<◌, ◌≤◌, Ok, None, false, List, IfOk, IfErr, IfSome, OnOk, IsTrue};
 ghost use Rattle.um_engine.specs.Engine.{state_in, size_in};
 ghost use Rattle.um_keeper.specs.Keeping.{Keeps, MayHold};
-ghost use Rattle.um_keeper.specs.Opening.{HasLayout, IsStart, Leads, Replays, IsNoInput, IsUnread, IsUntaken, IsTakenUp, IsNextOf, IsRead, Remain, IsKept, IsSomeStore, IsAsBefore};
+ghost use Rattle.um_keeper.specs.Opening.{IsStart, Leads, Replays, IsNoInput, IsUnread, IsUntaken, IsFound, IsNextOf, IsRead, Remain, IsKept, IsSomeStore, IsAsBefore};
 ghost use Rattle.um_keeper.specs.Opening.{IsBehind, IsStill, StaysFor, StaysForOne, IsUnwritten};
-ghost use Rattle.um_log.specs.Greatest.{IsGreatest};
 ghost use Rattle.um_model.specs.Disk.{seen, Images, IsSettled, During};
 ghost use Rattle.um_model.specs.Disk.{one_more};
 ghost use Rattle.um_model.specs.Lives.{Offer, MayLeave};
 ghost use Rattle.um_model.specs.Machine as model;
 ghost use Rattle.um_model.specs.Servable.{IsServable};
-ghost use Rattle.um_model.specs.Store.{body_limit, store_sectors, slot_start, other, log_start, placed, records_of};
+ghost use Rattle.um_model.specs.Store.{body_limit, store_sectors, slot_start, other, superblock, area_start, placed, records_of};
 ghost use Rattle.um_model.specs.Stands.{StandsFor, IsStoreOf};
 ghost use Rattle.um_model.specs.declared.layout.Layout as declared;
 ghost use Rattle.um_sector.specs.Refused.{CountsDevice, IsLost};
@@ -19,21 +18,20 @@ use crate::keeper::{Keeper, OpenedStore, Uncounted};
 use crate::receipt::Receipt;
 use std::alloc::{AllocError, Global};
 use um_engine::Engine;
-use um_log::{Log, Remains};
-use um_model::{Layout, Slot};
+use um_log::{Log, Reader, Remains};
+use um_model::{Format, Layout, Slot};
 use um_sector::{Disk, SECTOR_BYTES, Sector};
 use um_slot::{Home, newest, read_superblock, write_other};
 use um_state::Input;
 use um_wire::{Refusal, read_whole, spell};
 
 /// What was taken up of a disk: the layout of its store, where the newest snapshot stands, the engine in the state that the store stands for,
-/// the log behind the records that were replayed to it, and what was read.
+/// and what was read.
 #[derive(Drop)]
 pub(crate) struct Found {
     layout: Layout,
     pub(crate) home: Home,
     pub(crate) engine: Engine,
-    pub(crate) log: Log,
     /// The greatest generation that stands on the disk.
     greatest: u64,
     pub(crate) opened: OpenedStore,
@@ -48,10 +46,10 @@ pub(crate) struct Held {
     pub(crate) opened: OpenedStore,
 }
 
-/// The layout that sector 0 tells, of a store for which the disk has room.
-fn read_layout<D: Disk>(disk: &mut D) -> Result<Layout, Refusal>
-    ensures ok { IfOk result (λ layout. IsTrue (D.honest disk.old) → HasLayout (D.size disk.old) (seen (D.past disk.old)) layout) }
-    ensures room { IfOk result (λ layout. store_sectors layout ≤ D.size disk.old) }
+/// The format and the layout that sector 0 tells, of a store for which the disk has room.
+fn read_layout<D: Disk>(disk: &mut D) -> Result<(Format, Layout), Refusal>
+    ensures ok { IfOk result (λ told. IsTrue (D.honest disk.old) → seen (D.past disk.old) 0 ≡ superblock told.0 told.1) }
+    ensures room { IfOk result (λ told. store_sectors told.1 ≤ D.size disk.old) }
     ensures err { IfErr result (λ e. (e ≡ Refusal.Device) ⊎ (IsTrue (D.honest disk.old) → IsUnread (D.size disk.old) (seen (D.past disk.old)) e)) }
     ensures past { IsTrue (D.honest disk.old) → D.past disk.new ≡ D.past disk.old }
     ensures failures { CountsDevice result (D.failures disk.old) (D.failures disk.new) }
@@ -63,11 +61,11 @@ fn read_layout<D: Disk>(disk: &mut D) -> Result<Layout, Refusal>
     }
     let mut sector: Sector = [0; SECTOR_BYTES];
     disk.read(0, &mut sector)?;
-    let layout = read_superblock(&sector)?;
+    let (format, layout) = read_superblock(&sector)?;
     if layout.sectors() > disk.sectors() {
         return Err(Refusal::Damaged { sector: 0 });
     }
-    Ok(layout)
+    Ok((format, layout))
 }
 
 /// The engine in the state that a body spells; None where it spells none that a store of this layout may hold.
@@ -114,31 +112,31 @@ fn retake(engine: &mut Engine, input: Input) -> Result<(), AllocError>
     }
 }
 
-/// Takes the steps of the inputs that the records of a log spell, one behind the other, each as it is read.
+/// Takes the steps of the inputs that the records of a generation spell, one behind the other, each as it is read.
 ///
 /// E18 with the first sector of the first record that spells none; E15; E16 where a read fails.
 fn replay<D: Disk>(
     alloc: Global,
     disk: &mut D,
     engine: &mut Engine,
-    log: &mut Log,
+    reader: &mut Reader,
 ) -> Result<(), Refusal>
     requires kept { IsServable (size_in engine.old) (state_in engine.old) }
-    requires anew { (log.old.number ≡ 0) × (log.old.next ≡ log_start log.old.layout log.old.generation) }
-    ensures ok { OnOk result (IsTrue (D.honest disk.old) → Replays (size_in engine.old) (records_of log.old.layout log.old.generation (seen (D.past disk.old)))
+    requires anew { (reader.old.number ≡ 0) × (reader.old.next ≡ area_start reader.old.format reader.old.layout reader.old.generation) }
+    ensures ok { OnOk result (IsTrue (D.honest disk.old) → Replays (size_in engine.old) (records_of reader.old.format reader.old.layout reader.old.generation (seen (D.past disk.old)))
         (state_in engine.old) (state_in engine.new)) }
-    ensures all { OnOk result (IsTrue (D.honest disk.old) → IsBehind log.old.layout log.old.generation (seen (D.past disk.old)) log.new.number log.new.next) }
+    ensures all { OnOk result (IsTrue (D.honest disk.old) → IsBehind reader.old.format reader.old.layout reader.old.generation (seen (D.past disk.old)) reader.new.number reader.new.next) }
     ensures kept { OnOk result (IsServable (size_in engine.new) (state_in engine.new)) }
     ensures err { IfErr result (λ e. IsLost e ⊎ (IsTrue (D.honest disk.old)
-        → IsNoInput (placed (log_start log.old.layout log.old.generation) (records_of log.old.layout log.old.generation (seen (D.past disk.old)))) e)) }
+        → IsNoInput (placed (area_start reader.old.format reader.old.layout reader.old.generation) (records_of reader.old.format reader.old.layout reader.old.generation (seen (D.past disk.old)))) e)) }
     ensures size { size_in engine.new ≡ size_in engine.old }
-    ensures of { (log.new.layout ≡ log.old.layout) × (log.new.generation ≡ log.old.generation) }
+    ensures of { (reader.new.format ≡ reader.old.format) × (reader.new.layout ≡ reader.old.layout) × (reader.new.generation ≡ reader.old.generation) }
     ensures past { IsTrue (D.honest disk.old) → D.past disk.new ≡ D.past disk.old }
     ensures failures { CountsDevice result (D.failures disk.old) (D.failures disk.new) }
     ensures disk_size { D.size disk.new ≡ D.size disk.old }
     ensures honest { D.honest disk.new ≡ D.honest disk.old }
 {
-    while let Some(found) = log.read_next(alloc, disk)? {
+    while let Some(found) = reader.read_next(alloc, disk)? {
         let Some(input) = read_whole(alloc, &found.bytes)? else {
             return Err(Refusal::Damaged {
                 sector: found.first as u64,
@@ -149,33 +147,33 @@ fn replay<D: Disk>(
     Ok(())
 }
 
-/// Takes the steps of the inputs that the records of a log spell, and tells what remains in the log behind them.
+/// Takes the steps of the inputs that the records of a generation spell, and tells what remains in the log behind them.
 ///
 /// E18 with the first sector of the first record that spells none; E15; E16 where a read fails.
 fn replay_all<D: Disk>(
     alloc: Global,
     disk: &mut D,
     engine: &mut Engine,
-    log: &mut Log,
+    reader: &mut Reader,
 ) -> Result<Remains, Refusal>
     requires kept { IsServable (size_in engine.old) (state_in engine.old) }
-    requires anew { (log.old.number ≡ 0) × (log.old.next ≡ log_start log.old.layout log.old.generation) }
-    ensures ok { OnOk result (IsTrue (D.honest disk.old) → Replays (size_in engine.old) (records_of log.old.layout log.old.generation (seen (D.past disk.old)))
+    requires anew { (reader.old.number ≡ 0) × (reader.old.next ≡ area_start reader.old.format reader.old.layout reader.old.generation) }
+    ensures ok { OnOk result (IsTrue (D.honest disk.old) → Replays (size_in engine.old) (records_of reader.old.format reader.old.layout reader.old.generation (seen (D.past disk.old)))
         (state_in engine.old) (state_in engine.new)) }
-    ensures all { OnOk result (IsTrue (D.honest disk.old) → IsBehind log.old.layout log.old.generation (seen (D.past disk.old)) log.new.number log.new.next) }
+    ensures all { OnOk result (IsTrue (D.honest disk.old) → IsBehind reader.old.format reader.old.layout reader.old.generation (seen (D.past disk.old)) reader.new.number reader.new.next) }
     ensures kept { OnOk result (IsServable (size_in engine.new) (state_in engine.new)) }
-    ensures remains { IfOk result (λ remains. IsTrue (D.honest disk.old) → Remain log.old.layout log.old.generation (seen (D.past disk.old)) remains) }
+    ensures remains { IfOk result (λ remains. IsTrue (D.honest disk.old) → Remain reader.old.format reader.old.layout reader.old.generation (seen (D.past disk.old)) remains) }
     ensures err { IfErr result (λ e. IsLost e ⊎ (IsTrue (D.honest disk.old)
-        → IsNoInput (placed (log_start log.old.layout log.old.generation) (records_of log.old.layout log.old.generation (seen (D.past disk.old)))) e)) }
+        → IsNoInput (placed (area_start reader.old.format reader.old.layout reader.old.generation) (records_of reader.old.format reader.old.layout reader.old.generation (seen (D.past disk.old)))) e)) }
     ensures size { size_in engine.new ≡ size_in engine.old }
-    ensures of { (log.new.layout ≡ log.old.layout) × (log.new.generation ≡ log.old.generation) }
+    ensures of { (reader.new.format ≡ reader.old.format) × (reader.new.layout ≡ reader.old.layout) × (reader.new.generation ≡ reader.old.generation) }
     ensures past { IsTrue (D.honest disk.old) → D.past disk.new ≡ D.past disk.old }
     ensures failures { CountsDevice result (D.failures disk.old) (D.failures disk.new) }
     ensures disk_size { D.size disk.new ≡ D.size disk.old }
     ensures honest { D.honest disk.new ≡ D.honest disk.old }
 {
-    replay(alloc, disk, engine, log)?;
-    log.remains(disk)
+    replay(alloc, disk, engine, reader)?;
+    reader.remains(disk)
 }
 
 /// The sector with which the reading of the records ends, where whole records of their generation don't count.
@@ -209,38 +207,34 @@ fn damaged_of(layout: Layout, slot: Slot, is_damaged: bool, remains: Remains) ->
 /// Takes up the store that a disk holds, and writes nothing.
 pub(crate) fn take_up<D: Disk>(alloc: Global, disk: &mut D) -> Result<Found, Refusal>
     ensures found { IfOk result (λ f. IsTrue (D.honest disk.old)
-        → IsTakenUp (D.size disk.old) (seen (D.past disk.old)) f.layout f.home.slot f.home.generation (state_in f.engine)) }
+        → IsFound (D.size disk.old) (seen (D.past disk.old)) f.layout f.home.slot f.home.generation f.greatest (state_in f.engine)) }
     ensures read { IfOk result (λ f. IsTrue (D.honest disk.old)
         → IsRead f.layout (seen (D.past disk.old)) f.opened) }
-    ensures greatest { IfOk result (λ f. IsTrue (D.honest disk.old) → IsGreatest f.layout (seen (D.past disk.old)) f.home.generation f.greatest) }
     ensures kept { IfOk result (λ f. IsKept f.layout (size_in f.engine) (state_in f.engine)) }
     ensures room { IfOk result (λ f. store_sectors f.layout ≤ D.size disk.old) }
-    ensures of { IfOk result (λ f. (f.log.layout ≡ f.layout) × (f.log.generation ≡ f.home.generation)) }
-    ensures behind { IfOk result (λ f. IsTrue (D.honest disk.old) → IsBehind f.layout f.home.generation (seen (D.past disk.old)) f.log.number f.log.next) }
     ensures err { IfErr result (λ e. IsLost e ⊎ (IsTrue (D.honest disk.old) → IsUnread (D.size disk.old) (seen (D.past disk.old)) e)) }
     ensures past { IsTrue (D.honest disk.old) → D.past disk.new ≡ D.past disk.old }
     ensures failures { CountsDevice result (D.failures disk.old) (D.failures disk.new) }
     ensures size { D.size disk.new ≡ D.size disk.old }
     ensures honest { D.honest disk.new ≡ D.honest disk.old }
 {
-    let layout = read_layout(disk)?;
+    let (format, layout) = read_layout(disk)?;
     let snapshot = newest(alloc, disk, layout)?;
     let home = snapshot.home;
     let Some(mut engine) = start_of(alloc, layout, &snapshot.body)? else {
         let sector = layout.slot_start(home.slot) as u64 + 1;
         return Err(Refusal::Damaged { sector });
     };
-    let mut log = Log::new(layout, home.generation);
-    match replay_all(alloc, disk, &mut engine, &mut log) {
+    let mut reader = Reader::new(format, layout, home.generation);
+    match replay_all(alloc, disk, &mut engine, &mut reader) {
         Ok(remains) => Ok(Found {
             layout,
             home,
             engine,
-            log,
             greatest: remains.greatest,
             opened: OpenedStore {
                 generation: home.generation,
-                records: log.number as usize,
+                records: reader.number as usize,
                 cut_off: cut_off_of(remains),
                 damaged: damaged_of(layout, home.slot, snapshot.is_other_damaged, remains),
             },
@@ -258,13 +252,11 @@ fn renew<D: Disk>(alloc: Global, disk: &mut D, found: Found) -> Result<Held, Ref
     requires early { found.greatest < 2 ^ 64 - 1 }
     requires room { store_sectors found.layout ≤ D.size disk.old }
     ensures during { IsTrue (D.honest disk.old) → IsSettled (D.past disk.old)
-        → IsTakenUp (D.size disk.old) (seen (D.past disk.old)) found.layout found.home.slot found.home.generation (state_in found.engine)
-        → IsGreatest found.layout (seen (D.past disk.old)) found.home.generation found.greatest
+        → IsFound (D.size disk.old) (seen (D.past disk.old)) found.layout found.home.slot found.home.generation found.greatest (state_in found.engine)
         → During (D.past disk.old) (D.past disk.new) (IsStill found.layout (seen (D.past disk.old)) (state_in found.engine)) }
     ensures ok { IfOk result (λ held. IsTrue (D.honest disk.old) → IsSettled (D.past disk.old)
-        → IsTakenUp (D.size disk.old) (seen (D.past disk.old)) found.layout found.home.slot found.home.generation (state_in found.engine)
-        → IsGreatest found.layout (seen (D.past disk.old)) found.home.generation found.greatest
-        → Keeps (D.past disk.new) (D.size disk.new) held.log.layout held.home.slot held.home.generation held.log.number held.log.next (state_in held.engine)) }
+        → IsFound (D.size disk.old) (seen (D.past disk.old)) found.layout found.home.slot found.home.generation found.greatest (state_in found.engine)
+        → Keeps (D.past disk.new) (D.size disk.new) held.log.layout held.home.slot held.home.generation held.log.generation held.log.number held.log.next (state_in held.engine)) }
     ensures held { IfOk result (λ held. (state_in held.engine ≡ state_in found.engine) × (size_in held.engine ≡ size_in found.engine)
         × (held.log.layout ≡ found.layout) × (held.home.slot ≡ other found.home.slot) × (held.home.generation ≡ found.greatest + 1) × (held.log.generation ≡ held.home.generation) × (held.log.number ≡ 0)
         × (held.opened ≡ found.opened)) }
@@ -306,7 +298,7 @@ pub(crate) fn recover<D: Disk>(alloc: Global, disk: &mut D) -> Result<Held, Refu
     ensures unwritten { IfErr result (λ e. IsTrue (D.honest disk.old)
         → IsUnwritten (D.past disk.old) (D.past disk.new) ⊎ (IsLost e × StaysForOne (D.past disk.old) (D.past disk.new))) }
     ensures ok { IfOk result (λ held. IsTrue (D.honest disk.old)
-        → Keeps (D.past disk.new) (D.size disk.new) held.log.layout held.home.slot held.home.generation held.log.number held.log.next (state_in held.engine)) }
+        → Keeps (D.past disk.new) (D.size disk.new) held.log.layout held.home.slot held.home.generation held.log.generation held.log.number held.log.next (state_in held.engine)) }
     ensures taken { IfOk result (λ held. IsTrue (D.honest disk.old)
         → IsNextOf (D.size disk.old) (seen (D.past disk.old)) held.log.layout held.home.slot held.home.generation (state_in held.engine)) }
     ensures opened { IfOk result (λ held. IsTrue (D.honest disk.old) → IsRead held.log.layout (seen (D.past disk.old)) held.opened) }

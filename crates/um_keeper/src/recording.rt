@@ -46,7 +46,7 @@ fn renew<D: Disk>(
     ensures size { D.size disk.new ≡ D.size disk.old }
     ensures honest { D.honest disk.new ≡ D.honest disk.old }
 {
-    if ahead.home.generation == u64::MAX {
+    if ahead.log.generation == u64::MAX {
         return Err(Refusal::GenerationsSpent);
     }
     let body = spell(alloc, engine.state())?;

@@ -7,7 +7,7 @@ use Rattle.um_model.specs.Jobs.{jobs_of_unit, no_jobs, start_job}
 use Rattle.um_model.specs.Machine.{State, IsBefore, NeedsStart, IsTakenAlong, TakesAlong}
 use Rattle.um_model.specs.Reached.{first, next}
 use Rattle.um_model.specs.Service.{dead_unit, state_of_unit}
-use Rattle.um_model.specs.Tree.{Tree}
+use Rattle.um_model.specs.Profiles.{ReadTree}
 use Rattle.um_model.specs.declared.dependencies.DependencyKind.{DependencyKind}
 use Rattle.um_model.specs.declared.dependencies.DependencyKind.TheVariants.{Requires, BindsTo}
 use Rattle.um_model.specs.declared.jobs.JobState.TheVariants.{Waiting}
@@ -40,14 +40,14 @@ these_listed : (x y : List ℕ) → IsListOf (These x y) (x ∷ y ∷ [])
 these_listed x y = record { has = λ a is. is; all = λ a is. is }
 
 -- one unit goes before another by the tree, or not
-pub before_or_not : (tree : Tree) (x y : List ℕ) → IsDecided (IsBefore tree x y)
+pub before_or_not : (tree : ReadTree) (x y : List ℕ) → IsDecided (IsBefore tree x y)
 before_or_not tree x y =
     decided_as (precedes_anyhow tree (These x y) Everything x y (first (extra tt)) (first (extra tt)))
     (precedes_anyhow tree Everything (These x y) x y (first (extra (inl refl))) (first (extra (inr (inl refl)))))
     (precedes_or_not tree (These x y) (x ∷ y ∷ []) (these_listed x y) x y)
 
 -- one unit depends on another in this kind, or not
-pub depends_by_all : (tree : Tree) (kind : DependencyKind) (x y : List ℕ) → IsDecided (Depends tree Everything kind x y)
+pub depends_by_all : (tree : ReadTree) (kind : DependencyKind) (x y : List ℕ) → IsDecided (Depends tree Everything kind x y)
 depends_by_all tree kind x y =
     decided_as (depends_anyhow tree (These x y) Everything kind x y (first (extra tt)) (first (extra tt)))
     (depends_anyhow tree Everything (These x y) kind x y (first (extra (inl refl))) (first (extra (inr (inl refl)))))

@@ -2,6 +2,7 @@
 use Rattle.std.proofs.Common.{ℕ, List}
 use Rattle.std.specs.List.{All}
 use Rattle.std.proofs.lemmas.List.Elements.{All-nil, All-cons, All-append}
+use Rattle.um_model.specs.declared.profile.Profile.{Profile}
 use Rattle.um_model.specs.Begun.{begun_settling, begun_firing, begun_following, begun_taking, begun_in, WasNext}
 use Rattle.um_model.specs.Machine.{State, Happening, Event, Input, Reply, Settles, begins_next, Fires, FiresOne, Follows, TakesEffect, Step}
 use Rattle.um_model.specs.Service.{Action}
@@ -24,7 +25,7 @@ following_next (Follows.reports unit of_it awaits effect settles) = settling_nex
 following_next (Follows.ticks timers are firing) = firing_next firing
 following_next Follows.boots = All-nil WasNext
 
-taking_next : {t : ℕ} {s v : State} {event : Event} {actions : List Action} (h : TakesEffect t s event actions v) → All WasNext (begun_taking h)
+taking_next : {profile : Profile} {t : ℕ} {s v : State} {event : Event} {actions : List Action} (h : TakesEffect profile t s event actions v) → All WasNext (begun_taking h)
 taking_next (TakesEffect.obeys allowed does settles) = settling_next settles
 taking_next (TakesEffect.meets counts follows) = following_next follows
 

@@ -5,10 +5,12 @@ use Rattle.std.specs.Cmp.Lexicographic.{slice_cmp, nat_list_cmp_total}
 use Rattle.std.specs.FinMap as map
 use Rattle.std.specs.List.{list_any}
 use Rattle.std.specs.Ordering.{nat_cmp, eq_by_cmp}
+use Rattle.um_model.specs.Profiles.{ReadTree, read_by, lasting_tree}
+use Rattle.um_model.specs.declared.profile.Profile.{Profile}
 use Rattle.um_model.specs.Dependencies as model
 use Rattle.um_model.specs.Dependencies.{Links, IsNamed, KnowsTooMany, extra}
 use Rattle.um_model.specs.Jobs.{Job, job_of, jobs, no_jobs, jobs_of_unit, has_job, with_jobs, cancelled, IsPending, jobs_left, state_of_job}
-use Rattle.um_model.specs.Machine.{State, empty_state, Command, Happening, Event, Input, Reply, IsHeld, IsCrowded, by_jobs, settings_in, around, changed, IsTakenAlong, TakesAlong, Becomes, Carries, change_of, FallDown, all_told, told_next, Happens, begins, begun, Settles, Refuses, Changes, AreReset, all_reset, reset_next, units_reset, Does, with_plan, unit_asked, with_start_alone, Restarts, isnt_put, ComesDue, Fires, FiresOne, IsProcessOf, booted, Follows, TakesEffect, end_of, moment_of, Step, Run}
+use Rattle.um_model.specs.Machine.{State, empty_of, Command, Happening, Event, Input, Reply, IsHeld, IsCrowded, by_jobs, settings_in, around, changed, IsTakenAlong, TakesAlong, Becomes, Carries, change_of, FallDown, all_told, told_next, Happens, begins, begun, Settles, Refuses, Changes, AreReset, all_reset, reset_next, units_reset, Does, with_plan, unit_asked, with_start_alone, Restarts, isnt_put, ComesDue, Fires, FiresOne, IsProcessOf, booted, Follows, TakesEffect, end_of, moment_of, Step, Run}
 use Rattle.um_model.specs.Reached.{first, next}
 use Rattle.um_model.specs.Refusals.{Refused, at_first, at_second}
 use Rattle.um_model.specs.Resolution.{unit_path}
@@ -308,18 +310,18 @@ cancel_no_more s unit = record { loaded = refl; held = still }
 pub no_more_few : (s u : State) → HoldsNoMore s u → IsFew s → IsFew u
 no_more_few s u less few r crowded = few r (fewer (subst (λ tree. IsCrowded tree (IsHeld u) r) less.loaded crowded))
   where
-    many : (tree : Tree) → KnowsTooMany tree (IsHeld u) → KnowsTooMany tree (IsHeld s)
+    many : (tree : ReadTree) → KnowsTooMany tree (IsHeld u) → KnowsTooMany tree (IsHeld s)
     many tree = more_known tree (IsHeld u) (IsHeld s) (λ x is. first (extra (less.held x is)))
 
-    by_tree : KnowsTooMany s.loaded (IsHeld u) ⊎ KnowsTooMany (without_run s.loaded) (IsHeld u) → KnowsTooMany s.loaded (IsHeld s) ⊎ KnowsTooMany (without_run s.loaded) (IsHeld s)
+    by_tree : KnowsTooMany s.loaded (IsHeld u) ⊎ KnowsTooMany (lasting_tree s.loaded) (IsHeld u) → KnowsTooMany s.loaded (IsHeld s) ⊎ KnowsTooMany (lasting_tree s.loaded) (IsHeld s)
     by_tree (inl k) = inl (many s.loaded k)
-    by_tree (inr k) = inr (many (without_run s.loaded) k)
+    by_tree (inr k) = inr (many (lasting_tree s.loaded) k)
 
     fewer : IsCrowded s.loaded (IsHeld u) r → IsCrowded s.loaded (IsHeld s) r
     fewer c = record { many = by_tree c.many; refusal = c.refusal }
 
 -- a command that isn't refused leaves them so
-changes_few : (s : State) (command : Command) (u : State) → ((r : Refused) → ¬ Refuses s command r) → Changes s command u → IsFew s → IsFew u
+changes_few : {profile : Profile} (s : State) (command : Command) (u : State) → ((r : Refused) → ¬ Refuses profile s command r) → Changes profile s command u → IsFew s → IsFew u
 changes_few s command u none (Changes.puts e) few = few
 changes_few s command u none (Changes.links e) few = few
 changes_few s command u none (Changes.removes e) few = few
@@ -330,7 +332,7 @@ changes_few s command u none (Changes.cancels {asked = asked}) few = no_more_few
 changes_few s command u none (Changes.demands_nothing is) few = few
 changes_few s command u none (Changes.plans is plan) few = λ r crowded. none r (at_first (by_jobs is plan crowded))
 
-does_few : (t : ℕ) (s : State) (command : Command) (actions : List Action) (u : State) → ((r : Refused) → ¬ Refuses s command r) → Does t s command actions u → IsFew s → IsFew u
+does_few : {profile : Profile} (t : ℕ) (s : State) (command : Command) (actions : List Action) (u : State) → ((r : Refused) → ¬ Refuses profile s command r) → Does profile t s command actions u → IsFew s → IsFew u
 does_few t s command actions u none (Does.changes h) few = changes_few s command u none h few
 does_few t s command actions u none (Does.resets {asked = asked} h) few = no_more_few s u (resets_no_more t (units_reset s asked) s actions u h) few
 
@@ -343,13 +345,13 @@ booted_none boot s x (inr h) = h (map.get-empty (slice_cmp nat_cmp) x)
 pub booted_few : (boot : List ℕ) (s : State) → IsFew s → IsFew (booted boot s)
 booted_few boot s few r crowded = few r (record { many = inr (by_tree crowded.many); refusal = crowded.refusal })
   where
-    fewer : (tree : Tree) → KnowsTooMany tree (IsHeld (booted boot s)) → KnowsTooMany tree (IsHeld s)
+    fewer : (tree : ReadTree) → KnowsTooMany tree (IsHeld (booted boot s)) → KnowsTooMany tree (IsHeld s)
     fewer tree = more_known tree (IsHeld (booted boot s)) (IsHeld s) (λ x is. absurd (booted_none boot s x is))
 
-    by_tree : KnowsTooMany (without_run s.loaded) (IsHeld (booted boot s)) ⊎ KnowsTooMany (without_run (without_run s.loaded)) (IsHeld (booted boot s))
-        → KnowsTooMany (without_run s.loaded) (IsHeld s)
-    by_tree (inl k) = fewer (without_run s.loaded) k
-    by_tree (inr k) = fewer (without_run s.loaded) (subst (λ tree. KnowsTooMany tree (IsHeld (booted boot s))) (without_run_twice s.loaded) k)
+    by_tree : KnowsTooMany (lasting_tree s.loaded) (IsHeld (booted boot s)) ⊎ KnowsTooMany (lasting_tree (lasting_tree s.loaded)) (IsHeld (booted boot s))
+        → KnowsTooMany (lasting_tree s.loaded) (IsHeld s)
+    by_tree (inl k) = fewer (lasting_tree s.loaded) k
+    by_tree (inr k) = fewer (lasting_tree s.loaded) (subst (λ entries. KnowsTooMany (read_by s.loaded.profile entries) (IsHeld (booted boot s))) (without_run_twice s.loaded.entries) k)
 
 -- what happens makes the state hold nothing new, or it is a boot
 pub follows_no_more : (t : ℕ) (s : State) (happening : Happening) (actions : List Action) (v : State) → Follows t s happening actions v
@@ -367,7 +369,7 @@ follows_few t s happening actions v h few = elim (follows_no_more t s happening 
   | inr (boot, is) ↦ subst IsFew (sym is) (booted_few boot s few)
 ]
 
-takes_few : (t : ℕ) (s : State) (event : Event) (actions : List Action) (v : State) → TakesEffect t s event actions v → IsFew s → IsFew v
+takes_few : {profile : Profile} (t : ℕ) (s : State) (event : Event) (actions : List Action) (v : State) → TakesEffect profile t s event actions v → IsFew s → IsFew v
 takes_few t s event actions v (TakesEffect.obeys {command = command} {first = x} {more = y} {u = u} none h k) few =
     no_more_few u v (settles_no_more t u y v k) (does_few t s command x u none h few)
 takes_few t s event actions v (TakesEffect.meets {happening = happening} effect h) few = follows_few t s happening actions v h few
@@ -385,18 +387,21 @@ run_few size s t (i ∷ inputs) (Run.goes {t = v} reply actions step run) few = 
 
 -- ---- a state in which nothing is held
 
--- in the empty tree nothing is known where nothing is held
-module _ (Extra : List ℕ → Type 0) (none : (x : List ℕ) → ¬ Extra x) where
-  none_linked : (kind : DependencyKind) (x y : List ℕ) → ¬ Links map.empty kind x y
-  none_linked kind x y links = let l = link_there map.empty kind x y links in none-some (Link l.target) (sym (map.get-empty (slice_cmp nat_cmp) l.path) ∙ l.link)
+-- in an empty tree nothing is known where nothing is held
+module _ (tree : ReadTree) (empty : tree.entries ≡ map.empty) (Extra : List ℕ → Type 0) (none : (x : List ℕ) → ¬ Extra x) where
+  nothing_at : (path : List ℕ) → map.get tree.entries path ≡ None
+  nothing_at path = ap (λ entries. map.get entries path) empty ∙ map.get-empty (slice_cmp nat_cmp) path
 
-  pub none_named : (x : List ℕ) → ¬ IsNamed map.empty Extra x
-  none_named x (model.has h) = true≢false (sym h.held ∙ ap is_some (map.get-empty (slice_cmp nat_cmp) (unit_path h.layer x)))
+  none_linked : (kind : DependencyKind) (x y : List ℕ) → ¬ Links tree.entries kind x y
+  none_linked kind x y links = let l = link_there tree.entries kind x y links in none-some (Link l.target) (sym (nothing_at l.path) ∙ l.link)
+
+  pub none_named : (x : List ℕ) → ¬ IsNamed tree Extra x
+  none_named x (model.has h) = true≢false (sym h.held ∙ ap is_some (nothing_at (unit_path h.layer x)))
   none_named x (model.holder {kind = kind} {y = y} links) = none_linked kind x y links
   none_named x (model.link {kind = kind} {x = holder} links) = none_linked kind holder x links
   none_named x (model.extra is) = none x is
 
-  none_many : ¬ KnowsTooMany map.empty Extra
+  none_many : ¬ KnowsTooMany tree Extra
   none_many k = reached_in (λ _. ⊥) none_named (λ a b known mentions. known) _ (k.known 0 [] (omega (arith, k.many)))
 
 pub blank_none : (s : State) → IsBlank s → (x : List ℕ) → ¬ IsHeld s x
@@ -417,13 +422,13 @@ blank_few s blank r crowded = by_tree crowded.many
     none : (x : List ℕ) → ¬ IsHeld s x
     none = blank_none s blank
 
-    by_tree : ¬ (KnowsTooMany s.loaded (IsHeld s) ⊎ KnowsTooMany (without_run s.loaded) (IsHeld s))
-    by_tree (inl k) = none_many (IsHeld s) none (subst (λ tree. KnowsTooMany tree (IsHeld s)) blank.loaded k)
-    by_tree (inr k) = none_many (IsHeld s) none (subst (λ tree. KnowsTooMany tree (IsHeld s)) (ap without_run blank.loaded ∙ empty_same) k)
+    by_tree : ¬ (KnowsTooMany s.loaded (IsHeld s) ⊎ KnowsTooMany (lasting_tree s.loaded) (IsHeld s))
+    by_tree (inl k) = none_many s.loaded blank.loaded (IsHeld s) none k
+    by_tree (inr k) = none_many (lasting_tree s.loaded) (ap without_run blank.loaded ∙ empty_same) (IsHeld s) none k
 
--- the empty state is such a state
-pub empty_blank : IsBlank empty_state
-empty_blank = record { tree = refl; loaded = refl; units = refl; pending = refl }
+-- the empty state of each profile is such a state
+pub empty_blank : (profile : Profile) → IsBlank (empty_of profile)
+empty_blank profile = record { tree = refl; loaded = refl; units = refl; pending = refl }
 
 -- after any inputs from it no more units are known than may be
 pub few_after : (size : ℕ) (s : State) (inputs : List Input) (t : State) → IsBlank s → Run size s inputs t → IsFew t

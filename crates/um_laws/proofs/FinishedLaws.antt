@@ -5,6 +5,7 @@ use Rattle.std.proofs.lemmas.Option.{none-some}
 use Rattle.std.specs.Cmp.Lexicographic.{slice_cmp}
 use Rattle.std.specs.FinMap as map
 use Rattle.std.specs.Ordering.{nat_cmp}
+use Rattle.um_model.specs.declared.profile.Profile.{Profile}
 use Rattle.um_model.specs.Begun.{Begun, begun_settling, begun_firing, begun_following, begun_taking, jobs_of, jobs_begun_in}
 use Rattle.um_model.specs.Ends.{is_clean, is_failed, is_restart_wanted}
 use Rattle.um_model.specs.Finished.{is_exited, Finishes, is_down_or_done, IsAtRest, PutsStart, PutsNoStart}
@@ -328,8 +329,8 @@ module _ (x : List ℕ) where
   -- ---- a step
 
   -- a command leaves the unit at rest, before any job begins, or puts a start of it
-  changes_rest : (s : State) (moment : ℕ) (command : Command) (u : State) (tree : Tree) → Changes s command u → AtRest s
-      → AtRest u ⊎ PutsStart x s (record { moment = moment; event = Commanded command }) (reply_after (Commanded command) s.tree tree)
+  changes_rest : {profile : Profile} (s : State) (moment : ℕ) (command : Command) (u : State) (tree : Tree) → Changes profile s command u → AtRest s
+      → AtRest u ⊎ PutsStart x s (record { profile = profile; moment = moment; event = Commanded command }) (reply_after (Commanded command) s.tree tree)
   changes_rest s moment command u tree (Changes.puts e) rest = inl (record { none = rest.none; rests = rest.rests })
   changes_rest s moment command u tree (Changes.links e) rest = inl (record { none = rest.none; rests = rest.rests })
   changes_rest s moment command u tree (Changes.removes e) rest = inl (record { none = rest.none; rests = rest.rests })
@@ -338,11 +339,11 @@ module _ (x : List ℕ) where
   changes_rest s moment command u tree (Changes.cancels {asked = asked}) rest =
       inl (record { none = (fewer_at s.pending (unit_asked s asked) _ (cancelled_fewer (jobs_asked s asked)) x job.Start).none rest.none; rests = rest.rests })
   changes_rest s moment command u tree (Changes.demands_nothing is) rest = inl rest
-  changes_rest s moment command u tree (Changes.plans {verb = verb} {asked = asked} {mode = mode} {after = after} is plan) rest =
+  changes_rest {profile} s moment command u tree (Changes.plans {verb = verb} {asked = asked} {mode = mode} {after = after} is plan) rest =
       by (jobs_of_unit after x).start refl
     where
       by : (start : Option JobState) → (jobs_of_unit after x).start ≡ start
-          → AtRest (record s { pending = after }) ⊎ PutsStart x s (record { moment = moment; event = Commanded (ForUnit verb asked mode) }) Done
+          → AtRest (record s { pending = after }) ⊎ PutsStart x s (record { profile = profile; moment = moment; event = Commanded (ForUnit verb asked mode) }) Done
       by None same = inl (record { none = same; rests = rest.rests })
       by (Some state) same = inr (record {
         command = ForUnit verb asked mode;
@@ -354,14 +355,14 @@ module _ (x : List ℕ) where
         one = λ none. none-some state (sym none ∙ same);
       })
 
-  does_rest : (t : ℕ) (s : State) (moment : ℕ) (command : Command) (actions : List Action) (u : State) (tree : Tree) → Does t s command actions u → AtRest s
-      → AtRest u ⊎ PutsStart x s (record { moment = moment; event = Commanded command }) (reply_after (Commanded command) s.tree tree)
+  does_rest : {profile : Profile} (t : ℕ) (s : State) (moment : ℕ) (command : Command) (actions : List Action) (u : State) (tree : Tree) → Does profile t s command actions u → AtRest s
+      → AtRest u ⊎ PutsStart x s (record { profile = profile; moment = moment; event = Commanded command }) (reply_after (Commanded command) s.tree tree)
   does_rest t s moment command actions u tree (Does.changes h) rest = changes_rest s moment command u tree h rest
   does_rest t s moment command actions u tree (Does.resets {asked = asked} h) rest = inl (resets_rest t (units_reset s asked) s actions u h rest)
 
   -- so an event leaves it, with none of its starts begun, or a command puts one
-  takes_rest : (t : ℕ) (s : State) (moment : ℕ) (event : Event) (actions : List Action) (v : State) (tree : Tree) (h : TakesEffect t s event actions v) → AtRest s
-      → HasNone (begun_taking h) × AtRest v ⊎ PutsStart x s (record { moment = moment; event = event }) (reply_after event s.tree tree)
+  takes_rest : {profile : Profile} (t : ℕ) (s : State) (moment : ℕ) (event : Event) (actions : List Action) (v : State) (tree : Tree) (h : TakesEffect profile t s event actions v) → AtRest s
+      → HasNone (begun_taking h) × AtRest v ⊎ PutsStart x s (record { profile = profile; moment = moment; event = event }) (reply_after event s.tree tree)
   takes_rest t s moment event actions v tree (TakesEffect.obeys {command = command} {first = first} {more = more} {u = u} isnt h k) rest =
       elim (does_rest t s moment command first u tree h rest) [
         | inl rests ↦ inl (settles_none t u more v k rests, settles_rest t u more v k rests)

@@ -3,6 +3,8 @@ use Rattle.std.proofs.Common.{ℕ, ◌≡◌, ◌≢◌, ◌⊎◌, ◌∙◌, t
 use Rattle.std.proofs.lemmas.Option.{none-some}
 use Rattle.std.specs.FinMap as map
 use Rattle.std.proofs.lemmas.Bool.{and_parts}
+use Rattle.um_model.specs.Profiles.{ReadTree}
+use Rattle.um_model.specs.declared.profile.Profile.{Profile}
 use Rattle.um_model.specs.Dependencies as model
 use Rattle.um_model.specs.Dependencies.{IsKnown, IsNamed, Mentions}
 use Rattle.um_model.specs.InputSpellings.{FitCommand, FitEvent}
@@ -35,18 +37,18 @@ use Rattle.um_model.proofs.Forms.{with_running}
 abbrev IsName : List ℕ → Type 0
 IsName unit = is_unit_name unit ≡ true
 
-module _ (tree : Tree) (Extra : List ℕ → Type 0) (extra_names : (x : List ℕ) → Extra x → IsName x) where
+module _ (tree : ReadTree) (Extra : List ℕ → Type 0) (extra_names : (x : List ℕ) → Extra x → IsName x) where
   named_name : (x : List ℕ) → IsNamed tree Extra x → IsName x
   named_name x (model.has h) = (and_parts (is_unit_name x) (not (is_template x)) h.plain).0
-  named_name x (model.holder {kind = kind} {y = y} by_link) = (names_of_link tree kind x y by_link).0
-  named_name x (model.link {kind = kind} {x = holder} by_link) = (names_of_link tree kind holder x by_link).1
+  named_name x (model.holder {kind = kind} {y = y} by_link) = (names_of_link tree.entries kind x y by_link).0
+  named_name x (model.link {kind = kind} {x = holder} by_link) = (names_of_link tree.entries kind holder x by_link).1
   named_name x (model.extra more) = extra_names x more
 
   mentioned_name : (a b : List ℕ) → IsName a → Mentions tree a b → IsName b
   mentioned_name a b is mentions = by (names_mentioned tree a b mentions)
     where
       by : OwnOrName tree a b → IsName b
-      by (inl own) = subst IsName (sym own) (named_by_name tree a is)
+      by (inl own) = subst IsName (sym own) (named_by_name tree.entries a is)
       by (inr named) = named
 
   -- where what is named besides the tree are unit names, so is all that is known
@@ -84,7 +86,7 @@ module _ (s : State) (named : List ℕ) (is : IsName named) (demand : Demand) (a
   plan_names x (inl there) = names x (inl there)
   plan_names x (inr there) = of_pending x (map.get after x) refl there
 
-changes_names : (s : State) (command : Command) (u : State) → FitCommand command → Changes s command u → HoldsNames s → HoldsNames u
+changes_names : {profile : Profile} (s : State) (command : Command) (u : State) → FitCommand command → Changes profile s command u → HoldsNames s → HoldsNames u
 changes_names s command u fit (puts e) names = names
 changes_names s command u fit (links e) names = names
 changes_names s command u fit (removes e) names = names
@@ -93,9 +95,9 @@ changes_names s command u fit (installs h) names = names
 changes_names s command u fit (cancels {asked = asked}) names = no_more_names s u (cancel_no_more s (unit_asked s asked)) names
 changes_names s command u fit (demands_nothing is) names = names
 changes_names s command u fit (plans {asked = asked} {demand = demand} {after = after} is plan) names =
-    plan_names s (unit_asked s asked) (named_by_name s.loaded asked fit.1) demand after plan names
+    plan_names s (unit_asked s asked) (named_by_name s.loaded.entries asked fit.1) demand after plan names
 
-does_names : (t : ℕ) (s : State) (command : Command) (actions : List Action) (u : State) → FitCommand command → Does t s command actions u → HoldsNames s → HoldsNames u
+does_names : {profile : Profile} (t : ℕ) (s : State) (command : Command) (actions : List Action) (u : State) → FitCommand command → Does profile t s command actions u → HoldsNames s → HoldsNames u
 does_names t s command actions u fit (Does.changes h) names = changes_names s command u fit h names
 does_names t s command actions u fit (Does.resets {asked = asked} h) names = no_more_names s u (resets_no_more t (units_reset s asked) s actions u h) names
 
@@ -107,7 +109,7 @@ follows_names t s happening actions v h names = by (follows_no_more t s happenin
     by (inr (boot, is)) = subst HoldsNames (sym is) (λ x held. absurd (booted_none boot s x held))
 
 -- what an input has for its effect keeps this
-pub takes_names : (t : ℕ) (s : State) (event : Event) (actions : List Action) (v : State) → FitEvent event → TakesEffect t s event actions v → HoldsNames s → HoldsNames v
+pub takes_names : {profile : Profile} (t : ℕ) (s : State) (event : Event) (actions : List Action) (v : State) → FitEvent event → TakesEffect profile t s event actions v → HoldsNames s → HoldsNames v
 takes_names t s event actions v fit (obeys {command = command} {first = x} {more = y} {u = u} none does h) names =
     no_more_names u v (settles_no_more t u y v h) (does_names t s command x u fit does names)
 takes_names t s event actions v fit (meets {happening = happening} effect h) names = follows_names t s happening actions v h names
@@ -135,7 +137,7 @@ begun_tidy s j tidy = record { units = tidy.units; pending = tidy_jobs s.pending
 restart_tidy : (s : State) (unit : List ℕ) → IsTidyState s → IsTidyState (with_start_alone s unit)
 restart_tidy s unit tidy = record { units = tidy.units; pending = tidy_jobs s.pending unit (jobs None (Some Waiting)) tidy.pending }
 
-changes_tidy : (s : State) (command : Command) (u : State) → Changes s command u → IsTidyState s → IsTidyState u
+changes_tidy : {profile : Profile} (s : State) (command : Command) (u : State) → Changes profile s command u → IsTidyState s → IsTidyState u
 changes_tidy s command u (puts e) tidy = record { units = tidy.units; pending = tidy.pending }
 changes_tidy s command u (links e) tidy = record { units = tidy.units; pending = tidy.pending }
 changes_tidy s command u (removes e) tidy = record { units = tidy.units; pending = tidy.pending }
@@ -149,8 +151,8 @@ changes_tidy s command u (plans is plan) tidy = record { units = tidy.units; pen
 booted_tidy : (s : State) (boot : List ℕ) → IsTidyState s → IsTidyState (booted boot s)
 booted_tidy s boot tidy = record { units = tidy_empty dead_unit; pending = tidy_empty no_jobs }
 
-pub takes_tidy : (t : ℕ) (s : State) (event : Event) (actions : List Action) (v : State) → FitEvent event → TakesEffect t s event actions v → IsTidyState s → IsTidyState v
-takes_tidy t = kept_taking t IsTidyState (carried_tidy t) begun_tidy restart_tidy changes_tidy booted_tidy
+pub takes_tidy : {profile : Profile} (t : ℕ) (s : State) (event : Event) (actions : List Action) (v : State) → FitEvent event → TakesEffect profile t s event actions v → IsTidyState s → IsTidyState v
+takes_tidy t = kept_taking t IsTidyState (carried_tidy t) begun_tidy restart_tidy (λ profile s command u h. changes_tidy s command u h) booted_tidy
 
 pub blank_tidy : (s : State) → IsBlank s → IsTidyState s
 blank_tidy s blank = record { units = subst AreTidyUnits (sym blank.units) (tidy_empty dead_unit); pending = subst AreTidyJobs (sym blank.pending) (tidy_empty no_jobs) }

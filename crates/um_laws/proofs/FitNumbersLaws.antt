@@ -5,6 +5,7 @@ use Rattle.std.proofs.lemmas.Option.{none-some}
 use Rattle.std.specs.Cmp.Lexicographic.{slice_cmp}
 use Rattle.std.specs.FinMap as map
 use Rattle.std.specs.Ordering.{nat_cmp}
+use Rattle.um_model.specs.declared.profile.Profile.{Profile}
 use Rattle.um_model.specs.InputSpellings.{FitEvent}
 use Rattle.um_model.specs.Machine.{State, Command, Event, settings_in, around, change_of, changed, TakesAlong, Becomes, Carries, begun, with_start_alone, Changes, puts, links, removes, reloads, plans, demands_nothing, cancels, installs, booted, TakesEffect}
 use Rattle.um_model.specs.Moments.{moment_limit, process_limit}
@@ -149,7 +150,7 @@ same_good t s v units next h = record {
       h.apart x y n (subst (λ us. HasNumber (state_of_unit us x) n) units has) (subst (λ us. HasNumber (state_of_unit us y) n) units too);
 }
 
-changes_good : (t : ℕ) (s : State) (command : Command) (u : State) → Changes s command u → HasGoodUnits t s → HasGoodUnits t u
+changes_good : {profile : Profile} (t : ℕ) (s : State) (command : Command) (u : State) → Changes profile s command u → HasGoodUnits t s → HasGoodUnits t u
 changes_good t s command u (puts e) h = same_good t s u refl refl h
 changes_good t s command u (links e) h = same_good t s u refl refl h
 changes_good t s command u (removes e) h = same_good t s u refl refl h
@@ -183,9 +184,9 @@ none_good t s none some low = record {
     no_number x n has = dead_none n (subst (λ u. HasNumber u n) (nothing_held x) (subst (λ us. HasNumber (state_of_unit us x) n) none has))
 
 -- what an input has for its effect keeps them
-pub takes_good : (t : ℕ) → t ≤ moment_limit → (s : State) (event : Event) (actions : List Action) (v : State) → FitEvent event → TakesEffect t s event actions v → HasGoodUnits t s → HasGoodUnits t v
+pub takes_good : {profile : Profile} (t : ℕ) → t ≤ moment_limit → (s : State) (event : Event) (actions : List Action) (v : State) → FitEvent event → TakesEffect profile t s event actions v → HasGoodUnits t s → HasGoodUnits t v
 takes_good t early =
-    kept_taking t (HasGoodUnits t) (carried_good t early) (λ s j h. same_good t s (begun s j) refl refl h) (λ s unit h. same_good t s (with_start_alone s unit) refl refl h) (changes_good t)
+    kept_taking t (HasGoodUnits t) (carried_good t early) (λ s j h. same_good t s (begun s j) refl refl h) (λ s unit h. same_good t s (with_start_alone s unit) refl refl h) (λ profile s command u h. changes_good t s command u h)
     (λ s boot h. none_good t (booted boot s) refl h.next_some h.next_low)
 
 -- later they are good too

@@ -5,11 +5,13 @@ use Rattle.std.specs.List.{AllByRecursion}
 use Rattle.std.specs.FinMap as map
 use Rattle.std.proofs.lemmas.Bool.{cases_lt}
 use Rattle.std.proofs.lemmas.Option.{none-some}
+use Rattle.um_model.specs.Profiles.{ReadTree}
+use Rattle.um_model.specs.declared.profile.Profile.{Profile}
 use Rattle.um_model.specs.Bytes.{FitText}
 use Rattle.um_model.specs.Dependencies.{unit_limit, IsKnown, CountsFor, extra}
 use Rattle.um_model.specs.InputSpellings.{input_limit, FitCommand, FitEvent, FitInput, input_spelling}
 use Rattle.um_model.specs.Jobs.{JobShown, job_shown, jobs_shown_of}
-use Rattle.um_model.specs.Machine.{State, empty_state, Command, Event, Input, Reply, Refusal, IsHeld, Refuses, Changes, puts, links, removes, reloads, plans, demands_nothing, cancels, installs, Does, units_reset, ends, reports, ticks, boots, TakesEffect, obeys, meets, end_of, moment_of, Step, refused, crowded_out, idle, taken, Run, goes}
+use Rattle.um_model.specs.Machine.{State, empty_of, Command, Event, Input, Reply, Refusal, IsHeld, Refuses, Changes, puts, links, removes, reloads, plans, demands_nothing, cancels, installs, Does, units_reset, ends, reports, ticks, boots, TakesEffect, obeys, meets, end_of, moment_of, Step, refused, crowded_out, idle, taken, Run, goes}
 use Rattle.um_model.specs.Moments.{moment_limit, deadline_limit, process_limit}
 use Rattle.um_model.specs.Names.{is_unit_name}
 use Rattle.um_model.specs.Reached.{first}
@@ -119,7 +121,7 @@ there o a is none = none-some a (sym none ∙ is)
 pub fit_of_whole : (s : State) → IsFew s → IsWhole s → FitState s
 fit_of_whole s few h = record {
   tree = fit_of_texts s.tree h.texts.tree;
-  loaded = fit_of_texts s.loaded h.texts.loaded;
+  loaded = fit_of_texts s.loaded.entries h.texts.loaded;
   boot = h.boot;
   clock = (omega arith, h.early);
   next = (h.units.next_some, h.units.next_low);
@@ -160,11 +162,11 @@ record HasTexts (s : State) : Type 0 where
 
 keep_texts : (s v : State) → Keeps s v → HasTexts s → HasTexts v
 keep_texts s v k h = record {
-  trees = record { tree = subst IsOfTexts (sym k.tree) h.trees.tree; loaded = subst IsOfTexts (sym k.loaded) h.trees.loaded };
+  trees = record { tree = subst IsOfTexts (sym k.tree) h.trees.tree; loaded = subst (λ (tree : ReadTree). IsOfTexts tree.entries) (sym k.loaded) h.trees.loaded };
   boot = subst FitBoot (sym k.boot) h.boot;
 }
 
-same_boot : (s : State) (command : Command) (u : State) → Changes s command u → u.boot ≡ s.boot
+same_boot : {profile : Profile} (s : State) (command : Command) (u : State) → Changes profile s command u → u.boot ≡ s.boot
 same_boot s command u (puts e) = refl
 same_boot s command u (links e) = refl
 same_boot s command u (removes e) = refl
@@ -174,12 +176,12 @@ same_boot s command u (demands_nothing is) = refl
 same_boot s command u cancels = refl
 same_boot s command u (installs made) = refl
 
-does_texts : (t : ℕ) (s : State) (command : Command) (actions : List Action) (u : State) → FitCommand command → ((r : Refused) → ¬ Refuses s command r) → Does t s command actions u → HasTexts s → HasTexts u
+does_texts : {profile : Profile} (t : ℕ) (s : State) (command : Command) (actions : List Action) (u : State) → FitCommand command → ((r : Refused) → ¬ Refuses profile s command r) → Does profile t s command actions u → HasTexts s → HasTexts u
 does_texts t s command actions u fit none (Does.changes change) h =
     record { trees = changes_texts s command u fit none change h.trees; boot = subst FitBoot (sym (same_boot s command u change)) h.boot }
 does_texts t s command actions u fit none (Does.resets {asked = asked} forgets) h = keep_texts s u (resets_keep t (units_reset s asked) s actions u forgets) h
 
-takes_texts : (t : ℕ) (s : State) (event : Event) (actions : List Action) (v : State) → FitEvent event → TakesEffect t s event actions v → HasTexts s → HasTexts v
+takes_texts : {profile : Profile} (t : ℕ) (s : State) (event : Event) (actions : List Action) (v : State) → FitEvent event → TakesEffect profile t s event actions v → HasTexts s → HasTexts v
 takes_texts t s event actions v fit (obeys {command = command} {first = x} {more = y} {u = u} none does k) h =
     keep_texts u v (settles_keeps t u y v k) (does_texts t s command x u fit none does h)
 takes_texts t s event actions v fit (meets effect (ends {number = number} {end = end} {first = x} {more = y} {u = u} unit is k l)) h =
@@ -188,11 +190,11 @@ takes_texts t s event actions v fit (meets effect (reports {first = x} {more = y
     keep_texts u v (settles_keeps t u y v l) (keep_texts s u (happens_keeps t unit Executed s x u k) h)
 takes_texts t s event actions v fit (meets effect (ticks timers are k)) h = keep_texts s v (fires_keeps t timers s actions v k) h
 takes_texts t s event actions v fit (meets effect (boots {boot = boot})) h =
-    record { trees = record { tree = without_run_fits s.tree h.trees.tree; loaded = without_run_fits s.loaded h.trees.loaded }; boot = fit }
+    record { trees = record { tree = without_run_fits s.tree h.trees.tree; loaded = without_run_fits s.loaded.entries h.trees.loaded }; boot = fit }
 
 -- ---- a step and a run
 
-taken_whole : (s : State) (moment : ℕ) (event : Event) (actions : List Action) (v : State) → FitMoment moment → FitEvent event → TakesEffect (moment_of s moment) s event actions v → IsWhole s
+taken_whole : {profile : Profile} (s : State) (moment : ℕ) (event : Event) (actions : List Action) (v : State) → FitMoment moment → FitEvent event → TakesEffect profile (moment_of s moment) s event actions v → IsWhole s
     → IsWhole (record v { clock = moment_of s moment })
 taken_whole s moment event actions v fits fit takes h = record {
   texts = record { tree = texts.trees.tree; loaded = texts.trees.loaded };
@@ -237,12 +239,12 @@ blank_whole s blank boot clock next = record {
   units = none_good s.clock s blank.units next.0 next.1;
 }
 
-pub empty_whole : IsWhole empty_state
-empty_whole = blank_whole empty_state empty_blank ((omega arith, low_utf8 [] refl), refl) (omega arith, omega arith) (omega arith, omega arith)
+pub empty_whole : (profile : Profile) → IsWhole (empty_of profile)
+empty_whole profile = blank_whole (empty_of profile) (empty_blank profile) ((omega arith, low_utf8 [] refl), refl) (omega arith, omega arith) (omega arith, omega arith)
 
--- the empty state has bytes
-pub empty_fit : FitState empty_state
-empty_fit = fit_of_whole empty_state (blank_few empty_state empty_blank) empty_whole
+-- the empty state of each profile has bytes
+pub empty_fit : (profile : Profile) → FitState (empty_of profile)
+empty_fit profile = fit_of_whole (empty_of profile) (blank_few (empty_of profile) (empty_blank profile)) (empty_whole profile)
 
 module _ (size : ℕ) (s : State) (inputs : List Input) (t : State) (blank : IsBlank s) (has : FitState s) (fit : AllByRecursion FitInput inputs) (run : Run size s inputs t) where
   -- after inputs that have bytes, from a state that has some and in which nothing is held
@@ -254,7 +256,7 @@ module _ (size : ℕ) (s : State) (inputs : List Input) (t : State) (blank : IsB
   fits_after = fit_of_whole t (few_after size s inputs t blank run) whole_after
 
   -- of at most its weight
-  pub spelled_after : (n : ℕ) → CountsFor t.loaded (IsHeld t) n → length (state_spelling t) ≤ weight_of t.tree t.loaded n
+  pub spelled_after : (n : ℕ) → CountsFor t.loaded (IsHeld t) n → length (state_spelling t) ≤ weight_of t.tree t.loaded.entries n
   spelled_after n counts = spelled_short t n fits_after counts
 
   -- and an input that it doesn't refuse has at most 66,078 bytes

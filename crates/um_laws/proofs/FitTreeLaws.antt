@@ -16,6 +16,8 @@ use Rattle.std.proofs.lemmas.Map.Lookups.{exact_bytes}
 use Rattle.std.proofs.lemmas.Map.Views.{tells_apart}
 use Rattle.std.proofs.lemmas.Option.{none-some}
 use Rattle.std.specs.Str.{bytes_eq}
+use Rattle.um_model.specs.Profiles.{ReadTree, read_by}
+use Rattle.um_model.specs.declared.profile.Profile.{Profile}
 use Rattle.um_model.specs.Bytes.{ByText, FitText, are_keys}
 use Rattle.um_model.specs.Install.{LinkAt, link_at, links_to, links_of, linked_name, path_in_etc, IsAskedFor, IsUnlinked, IsEnabled, IsDisabled, is_masking, too_many, CausesOfLinks, Installs, enables, disables, masks, unmasks, RefusesLinks, enables_none}
 use Rattle.um_model.specs.InputSpellings.{FitCommand}
@@ -256,9 +258,9 @@ module _ (tree : Tree) (is : IsTree tree) where
   unless_lies None l h = h
   unless_lies (Some reason) l h = tt
 
-  loads_text : (unit : List ℕ) → LiesAtText (load tree unit)
+  loads_text : (profile : Profile) (unit : List ℕ) → LiesAtText (load (read_by profile tree) unit)
   unfolding load
-  loads_text unit = by (resolution_of tree unit) (resolution_text unit)
+  loads_text profile unit = by (resolution_of tree unit) (resolution_text unit)
     where
       by : (r : Resolution) → LeadsToText r → LiesAtText (loading_at tree r)
       by (AtFile found path text) h = unless_lies _ _ h
@@ -281,8 +283,9 @@ module _ (tree : Tree) (is : IsTree tree) where
       by_list (inl there) = by_two (among_either (wants_in install name path) (requires_in install name path) link there)
       by_list (inr there) = ap (λ (x : LinkAt). x.target) (from_map (λ alias. link_at (path_in_etc alias Itself) path) install.alias link there).2
 
-  asked_text : (asked : List ℕ) (link : LinkAt) → IsAskedFor tree asked link → is_utf8 link.target ≡ true
-  asked_text asked link w = by (load tree w.unit) (loads_text w.unit) (among_contained (links_of (load tree w.unit)) link w.among)
+  asked_text : (profile : Profile) (asked : List ℕ) (link : LinkAt) → IsAskedFor (read_by profile tree) asked link → is_utf8 link.target ≡ true
+  asked_text profile asked link w =
+      let found = load (read_by profile tree) w.unit in by found (loads_text profile w.unit) (among_contained (links_of found) link w.among)
     where
       by : (found : Loading) → LiesAtText found → Among (links_of found) link → is_utf8 link.target ≡ true
       by (Found l) h among = links_text l.settings.install (linked_name l) l.path h link among
@@ -296,7 +299,7 @@ isnt_false : (b : Bool) → ¬ (b ≡ false) → b ≡ true
 isnt_false true h = refl
 isnt_false false h = absurd (h refl)
 
-enabled_fits : (tree : Tree) (asked : List ℕ) (enabled : Tree) → IsOfTexts tree → ((r : Refused) → ¬ CausesOfLinks tree asked r) → IsEnabled tree asked enabled → IsOfTexts enabled
+enabled_fits : (tree : ReadTree) (asked : List ℕ) (enabled : Tree) → IsOfTexts tree.entries → ((r : Refused) → ¬ CausesOfLinks tree asked r) → IsEnabled tree asked enabled → IsOfTexts enabled
 enabled_fits tree asked enabled h none made = record { is = record { fit = λ path. fit path (path_asked_or_not tree asked path); few = few }; texts = λ path. text path (path_asked_or_not tree asked path) }
   where
     fit : (path : List ℕ) → IsDecided ((target : List ℕ) × IsAskedFor tree asked (link_at path target)) → is_fit_at path (map.get enabled path) ≡ true
@@ -312,10 +315,10 @@ enabled_fits tree asked enabled h none made = record { is = record { fit = λ pa
     ]
 
     text : (path : List ℕ) → IsDecided ((target : List ℕ) × IsAskedFor tree asked (link_at path target)) → IsTextAt (map.get enabled path)
-    text path (inl is) = subst IsTextAt (sym (made.linked path is.0 is.1)) (asked_text tree h.is asked (link_at path is.0) is.1)
+    text path (inl is) = subst IsTextAt (sym (made.linked path is.0 is.1)) (asked_text tree.entries h.is tree.profile asked (link_at path is.0) is.1)
     text path (inr isnt) = subst IsTextAt (sym (made.kept path isnt)) (h.texts path)
 
-disabled_fits : (tree : Tree) (asked : List ℕ) (disabled : Tree) → IsOfTexts tree → IsDisabled tree asked disabled → IsOfTexts disabled
+disabled_fits : (tree : ReadTree) (asked : List ℕ) (disabled : Tree) → IsOfTexts tree.entries → IsDisabled tree asked disabled → IsOfTexts disabled
 disabled_fits tree asked disabled h made = record { is = record { fit = λ path. fit path (unlinked_or_not tree asked path); few = few }; texts = λ path. text path (unlinked_or_not tree asked path) }
   where
     fit : (path : List ℕ) → IsDecided (IsUnlinked tree asked path) → is_fit_at path (map.get disabled path) ≡ true
@@ -330,33 +333,33 @@ disabled_fits tree asked disabled h made = record { is = record { fit = λ path.
     there None there_is = absurd (there_is refl)
     there (Some entry) there_is = refl
 
-    named : (path : List ℕ) → IsDecided (IsUnlinked tree asked path) → map.get disabled path ≢ None → Among (map.keys tree) path
+    named : (path : List ℕ) → IsDecided (IsUnlinked tree asked path) → map.get disabled path ≢ None → Among (map.keys tree.entries) path
     named path (inl is) there_is = absurd (there_is (made.gone path is))
-    named path (inr isnt) there_is = among_keys tree path (ap is_some (sym (made.kept path isnt)) ∙ there (map.get disabled path) there_is)
+    named path (inr isnt) there_is = among_keys tree.entries path (ap is_some (sym (made.kept path isnt)) ∙ there (map.get disabled path) there_is)
 
     few : map.len disabled ≤ entry_limit
     few =
-        let less = entries_few disabled (map.keys tree) (λ path there_is. named path (unlinked_or_not tree asked path) there_is) in
-        omega (arith, less, h.is.few, map.len-entries disabled, map.len-entries tree, length-map (map.entries tree) (λ (e : List ℕ × Entry). e.0))
+        let less = entries_few disabled (map.keys tree.entries) (λ path there_is. named path (unlinked_or_not tree asked path) there_is) in
+        omega (arith, less, h.is.few, map.len-entries disabled, map.len-entries tree.entries, length-map (map.entries tree.entries) (λ (e : List ℕ × Entry). e.0))
 
 unmasked_fits : (tree : Tree) (unit : List ℕ) (b : Bool) → IsOfTexts tree → IsOfTexts (cond b (map.remove tree (unit_path Etc unit)) tree)
 unmasked_fits tree unit true h = removed tree (unit_path Etc unit) h
 unmasked_fits tree unit false h = h
 
-installed_fits : (tree : Tree) (verb : InstallVerb) (unit : List ℕ) (after : Tree) → IsOfTexts tree → ((r : Refused) → ¬ RefusesLinks tree verb unit r) → Installs tree verb unit after → IsOfTexts after
+installed_fits : (tree : ReadTree) (verb : InstallVerb) (unit : List ℕ) (after : Tree) → IsOfTexts tree.entries → ((r : Refused) → ¬ RefusesLinks tree verb unit r) → Installs tree verb unit after → IsOfTexts after
 installed_fits tree verb unit after h none (enables {unit = x} made) = enabled_fits tree x after h (λ r c. none r (enables_none c)) made
 installed_fits tree verb unit after h none (disables {unit = x} made) = disabled_fits tree x after h made
-installed_fits tree verb unit after h none (masks {unit = x} e) = link_fits tree (unit_path Etc x) (codes "/dev/null") after h (low_utf8 (codes "/dev/null") refl) e
-installed_fits tree verb unit after h none (unmasks {unit = x}) = unmasked_fits tree x (is_masking (map.get tree (unit_path Etc x))) h
+installed_fits tree verb unit after h none (masks {unit = x} e) = link_fits tree.entries (unit_path Etc x) (codes "/dev/null") after h (low_utf8 (codes "/dev/null") refl) e
+installed_fits tree verb unit after h none (unmasks {unit = x}) = unmasked_fits tree.entries x (is_masking (map.get tree.entries (unit_path Etc x))) h
 
 -- ---- both trees of a state
 
 pub record AreOfTexts (s : State) : Type 0 where
   pub tree : IsOfTexts s.tree
-  pub loaded : IsOfTexts s.loaded
+  pub loaded : IsOfTexts s.loaded.entries
 
 -- a command that has bytes and isn't refused leaves them so
-pub changes_texts : (s : State) (command : Command) (u : State) → FitCommand command → ((r : Refused) → ¬ Refuses s command r) → Changes s command u → AreOfTexts s → AreOfTexts u
+pub changes_texts : {profile : Profile} (s : State) (command : Command) (u : State) → FitCommand command → ((r : Refused) → ¬ Refuses profile s command r) → Changes profile s command u → AreOfTexts s → AreOfTexts u
 changes_texts s command u fit none (puts {path = path} {text = text} {tree = tree} e) h = record { tree = put_fits s.tree path text tree h.tree fit.1.1 e; loaded = h.loaded }
 changes_texts s command u fit none (links {path = path} {target = target} {tree = tree} e) h = record { tree = link_fits s.tree path target tree h.tree fit.1.1 e; loaded = h.loaded }
 changes_texts s command u fit none (removes {path = path} {tree = tree} e) h = record { tree = remove_fits s.tree path tree h.tree e; loaded = h.loaded }
@@ -364,6 +367,6 @@ changes_texts s command u fit none reloads h = record { tree = h.tree; loaded = 
 changes_texts s command u fit none (plans demanded plan) h = record { tree = h.tree; loaded = h.loaded }
 changes_texts s command u fit none (demands_nothing is) h = h
 changes_texts s command u fit none cancels h = record { tree = h.tree; loaded = h.loaded }
-changes_texts s command u fit none (installs {verb = verb} {unit = unit} {tree = tree} made) h =
-    let after = installed_fits s.tree verb unit tree h.tree (λ r refuses. none r ((at_first refuses))) made in
+changes_texts {profile} s command u fit none (installs {verb = verb} {unit = unit} {tree = tree} made) h =
+    let after = installed_fits (read_by profile s.tree) verb unit tree h.tree (λ r refuses. none r ((at_first refuses))) made in
     record { tree = after; loaded = after }

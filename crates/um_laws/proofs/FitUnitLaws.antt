@@ -3,6 +3,7 @@ use Rattle.std.proofs.Common.{ℕ, ◌≡◌, inl, inr, ◌+◌, ◌<◌, ◌≤
 use Rattle.std.specs.Prelude.{IfSome, codes}
 use Rattle.std.proofs.lemmas.Bool.{and_parts, ltb-true}
 use Rattle.std.proofs.lemmas.Option.{none-some, same_Some}
+use Rattle.um_model.specs.Profiles.{ReadTree}
 use Rattle.um_model.specs.Limit.{is_unlimited, is_over, limited, counted}
 use Rattle.std.specs.Option.{ok_or, option_map_or}
 use Rattle.std.specs.List.{flat_map}
@@ -130,11 +131,11 @@ unless_low : (reason : Option (List ℕ)) (l : LoadedUnit) → AreLow l.settings
 unless_low None l low = low
 unless_low (Some reason) l low = tt
 
-loads_low : (tree : Tree) (unit : List ℕ) → IsLowFound (load tree unit)
+loads_low : (tree : ReadTree) (unit : List ℕ) → IsLowFound (load tree unit)
 unfolding load
-loads_low tree unit = by (resolution_of tree unit)
+loads_low tree unit = by (resolution_of tree.entries unit)
   where
-    by : (r : Resolution) → IsLowFound (loading_at tree r)
+    by : (r : Resolution) → IsLowFound (loading_at tree.entries r)
     by (AtFile found path text) = unless_low _ _ (service_low (suffix_of found) found _)
     by (AtNoFile found) = service_low (suffix_of found) found _
     by (AtMask found) = tt
@@ -154,7 +155,7 @@ loadable_low NotFound low = unloadable_low
 loadable_low (BadSetting unit reason) low = unloadable_low
 
 -- those by which a unit acts
-pub settings_low : (tree : Tree) (unit : List ℕ) → AreLow (settings_in tree unit)
+pub settings_low : (tree : ReadTree) (unit : List ℕ) → AreLow (settings_in tree unit)
 settings_low tree unit = loadable_low (load tree unit) (loads_low tree unit)
 
 -- ---- one unit

@@ -2,10 +2,12 @@
 use Rattle.std.proofs.Common.{ℕ, ◌≡◌, ◌∙◌, Bool, true, false, true≢false, cond, is_some, List, [], ◌∷◌, Option, Some, None, unwrap_or, refl, sym, ap, subst, inl, inr}
 use Rattle.std.proofs.lemmas.Option.{none-some}
 use Rattle.std.specs.FinMap as map
+use Rattle.um_model.specs.Profiles.{ReadTree, read_by}
+use Rattle.um_model.specs.declared.profile.Profile.{Profile}
 use Rattle.um_model.specs.Dependencies.{IsKnown, Precedes, Mentions, extra}
 use Rattle.um_model.specs.Install.{RefusesLinks, RefusesUnits}
 use Rattle.um_model.specs.Jobs.{Job, jobs, no_jobs, jobs_of_unit, with_jobs, job_of, unless_waiting, cancelled, without_start, GoesBefore, starts, stops, stops_then_starts, stops_then_starts_before, of_one_unit, ComesBefore, IsPending, unless_running, start_left, jobs_left, state_of_job}
-use Rattle.um_model.specs.Machine.{State, Command, Happening, Event, Input, Reply, IsHeld, IsHeldOr, IsCrowded, IsBefore, changed, TakesAlong, Becomes, Carries, change_of, begins, begun, Happens, AreReset, Settles, unit_asked, jobs_asked, scene_at, CausesOfLoad, LoadsNone, Refuses, Changes, Does, units_reset, Restarts, ComesDue, Fires, FiresOne, booted, Follows, end_of, moment_of, Step, Run, isnt_put, TakesEffect}
+use Rattle.um_model.specs.Machine.{as_loaded, State, Command, Happening, Event, Input, Reply, IsHeld, IsHeldOr, IsCrowded, IsBefore, changed, TakesAlong, Becomes, Carries, change_of, begins, begun, Happens, AreReset, Settles, unit_asked, jobs_asked, scene_at, CausesOfLoad, LoadsNone, Refuses, Changes, Does, units_reset, Restarts, ComesDue, Fires, FiresOne, booted, Follows, end_of, moment_of, Step, Run, isnt_put, TakesEffect}
 use Rattle.um_model.specs.Order.{IsCycle}
 use Rattle.um_model.specs.Plan.{AreFree, Counts, restarted, started, stopped, left, Demands, IsPlan, NamesCycle, units_of}
 use Rattle.um_model.specs.Reached.{first, next}
@@ -249,24 +251,24 @@ no_circle Before pending none cycle c =
     none (ordering_cycle (units_of turned.0)) (record { cycle = turned.0; closed = turned.1; least = turned.2; refusal = refl })
 
 -- a tree that isn't refused leaves the pending jobs without a cycle
-pub loads_free : (s : State) (tree : Tree) → ((r : Refused) → ¬ CausesOfLoad s tree r) → (cycle : List Job) → ¬ IsCycle (ComesBefore (IsBefore tree) s.pending) cycle
+pub loads_free : (s : State) (tree : ReadTree) → ((r : Refused) → ¬ CausesOfLoad s tree r) → (cycle : List Job) → ¬ IsCycle (ComesBefore (IsBefore tree) s.pending) cycle
 loads_free s tree none = no_circle (IsBefore tree) s.pending (λ r circle. none r (at_second (λ q crowded. none q (at_first crowded)) circle))
 
-changes_free : (s : State) (command : Command) (u : State) → ((r : Refused) → ¬ Refuses s command r) → Changes s command u → IsFree s → IsFree u
+changes_free : {profile : Profile} (s : State) (command : Command) (u : State) → ((r : Refused) → ¬ Refuses profile s command r) → Changes profile s command u → IsFree s → IsFree u
 changes_free s command u none (Changes.puts e) free = free
 changes_free s command u none (Changes.links e) free = free
 changes_free s command u none (Changes.removes e) free = free
-changes_free s command u none Changes.reloads free = loads_free s s.tree (λ r c. none r (c))
-changes_free s command u none (Changes.installs {verb = verb} {unit = unit} {tree = tree} h) free =
-    no_circle (IsBefore tree) s.pending (λ r c. none r (at_second unlinked (at_second uncrowded (at_second untaken (record { tree = tree; installs = h; cause = c })))))
+changes_free {profile} s command u none Changes.reloads free = loads_free s (as_loaded profile s s.tree) (λ r c. none r (c))
+changes_free {profile} s command u none (Changes.installs {verb = verb} {unit = unit} {tree = tree} h) free =
+    no_circle (IsBefore (as_loaded profile s tree)) s.pending (λ r c. none r (at_second unlinked (at_second uncrowded (at_second untaken (record { tree = tree; installs = h; cause = c })))))
   where
-    unlinked : (r : Refused) → ¬ RefusesLinks s.tree verb unit r
+    unlinked : (r : Refused) → ¬ RefusesLinks (read_by profile s.tree) verb unit r
     unlinked r refuses = none r (at_first refuses)
 
-    uncrowded : (r : Refused) → ¬ LoadsNone s verb unit (λ t. IsCrowded t (IsHeld s)) r
+    uncrowded : (r : Refused) → ¬ LoadsNone profile s verb unit (λ t. IsCrowded t (IsHeld s)) r
     uncrowded r crowded = none r (at_second unlinked (at_first crowded))
 
-    untaken : (r : Refused) → ¬ RefusesUnits s.tree verb unit r
+    untaken : (r : Refused) → ¬ RefusesUnits (read_by profile s.tree) verb unit r
     untaken r refuses = none r (at_second unlinked (at_second uncrowded (at_first refuses)))
 changes_free s command u none (Changes.cancels {asked = asked}) free =
     less_free s u (record { loaded = refl; fewer = fewer_at s.pending (unit_asked s asked) _ (cancelled_fewer (jobs_asked s asked)) }) free
@@ -277,7 +279,7 @@ changes_free s command u none (Changes.plans {verb = verb} {asked = asked} {mode
     (at_second (λ q missing. none q ((at_second (λ x crowded. none x ((at_first crowded))) (at_first missing))))
     (record { demand = demand; demanded = is; after = after; plan = plan; cause = c }))))))
 
-does_free : (t : ℕ) (s : State) (command : Command) (actions : List Action) (u : State) → ((r : Refused) → ¬ Refuses s command r) → Does t s command actions u → IsFree s → IsFree u
+does_free : {profile : Profile} (t : ℕ) (s : State) (command : Command) (actions : List Action) (u : State) → ((r : Refused) → ¬ Refuses profile s command r) → Does profile t s command actions u → IsFree s → IsFree u
 does_free t s command actions u none (Does.changes h) free = changes_free s command u none h free
 does_free t s command actions u none (Does.resets {asked = asked} h) free = less_free s u (resets_less t (units_reset s asked) s actions u h) free
 
@@ -306,7 +308,7 @@ follows_free t s happening actions v (Follows.reports {first = x} {more = y} {u 
 follows_free t s happening actions v (Follows.ticks timers are h) free = fires_free t timers s actions v h free
 follows_free t s happening actions v (Follows.boots {boot = boot}) free = none_free (IsBefore (booted boot s).loaded)
 
-takes_free : (t : ℕ) (s : State) (event : Event) (actions : List Action) (v : State) → TakesEffect t s event actions v → IsFree s → IsFree v
+takes_free : {profile : Profile} (t : ℕ) (s : State) (event : Event) (actions : List Action) (v : State) → TakesEffect profile t s event actions v → IsFree s → IsFree v
 takes_free t s event actions v (TakesEffect.obeys {command = command} {first = x} {more = y} {u = u} none h k) free =
     less_free u v (settles_less t u y v k) (does_free t s command x u none h free)
 takes_free t s event actions v (TakesEffect.meets {happening = happening} effect h) free = follows_free t s happening actions v h free

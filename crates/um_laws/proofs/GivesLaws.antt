@@ -4,6 +4,7 @@ use Rattle.std.specs.FinMap as map
 use Rattle.std.proofs.lemmas.Bool.{and_parts}
 use Rattle.std.proofs.lemmas.Option.{none-some, same_Some}
 use denote.Enum.Bare.{sameb, same_true, same_false}
+use Rattle.um_model.specs.Profiles.{ReadTree}
 use Rattle.um_model.specs.Dependencies.{loadable_in, names_in, Links, has_defaults, Gives, Declares, Mentions}
 use Rattle.um_model.specs.Dependencies as model
 use Rattle.um_model.specs.Names.{is_unit_name, suffix_of, stem_of}
@@ -195,22 +196,22 @@ abbrev AreNamesIn : Loading → Type 0
 AreNamesIn (Found l) = AreNames l.settings.dependencies
 AreNamesIn other = Unit {0}
 
-names_loaded : (tree : Tree) (asked : List ℕ) → AreNamesIn (load tree asked)
+names_loaded : (tree : ReadTree) (asked : List ℕ) → AreNamesIn (load tree asked)
 unfolding load
-names_loaded tree asked = by_resolution (resolution_of tree asked)
+names_loaded tree asked = by_resolution (resolution_of tree.entries asked)
   where
     by_reason : (unit path : List ℕ) (sources : List Source) (reason : Option (List ℕ)) → AreNamesIn (found_unless reason (unit_by unit (Some path) sources))
     by_reason unit path sources None = names_of_section unit (assignments_in (suffix_of unit) sources)
     by_reason unit path sources (Some reason) = tt
 
-    by_resolution : (r : Resolution) → AreNamesIn (loading_at tree r)
-    by_resolution (AtFile unit path text) = by_reason unit path (sources_at tree (AtFile unit path text)) _
-    by_resolution (AtNoFile unit) = names_of_section unit (assignments_in (suffix_of unit) (sources_at tree (AtNoFile unit)))
+    by_resolution : (r : Resolution) → AreNamesIn (loading_at tree.entries r)
+    by_resolution (AtFile unit path text) = by_reason unit path (sources_at tree.entries (AtFile unit path text)) _
+    by_resolution (AtNoFile unit) = names_of_section unit (assignments_in (suffix_of unit) (sources_at tree.entries (AtNoFile unit)))
     by_resolution (AtMask unit) = tt
     by_resolution Nowhere = tt
 
 -- the units that the settings of one that can be loaded name have unit names
-pub names_of_loadable : (tree : Tree) (asked : List ℕ) (l : LoadedUnit) → loadable_in tree asked ≡ Some l → AreNames l.settings.dependencies
+pub names_of_loadable : (tree : ReadTree) (asked : List ℕ) (l : LoadedUnit) → loadable_in tree asked ≡ Some l → AreNames l.settings.dependencies
 names_of_loadable tree asked l loadable = subst AreNamesIn (loadable_found (load tree asked) l loadable) (names_loaded tree asked)
 
 shutdown_is_name : is_unit_name shutdown_target ≡ true
@@ -223,7 +224,7 @@ shutdown_is_name = refl
 pub of_same : (R : List ℕ → List ℕ → Type 0) {u v x y : List ℕ} → x ≡ u → y ≡ v → R u v → R x y
 of_same R {u = u} {v = v} {x = x} {y = y} first second h = subst (λ z. R z y) (sym first) (subst (R u) (sym second) h)
 
-module _ (tree : Tree) (a : List ℕ) where
+module _ (tree : ReadTree) (a : List ℕ) where
   -- the unit of the name can be loaded, and has the property
   abbrev pub IsLoadable : (LoadedUnit → Type 0) → Type 0
   IsLoadable Has = (l : LoadedUnit) × (loadable_in tree a ≡ Some l) × Has l
@@ -238,20 +239,20 @@ module _ (tree : Tree) (a : List ℕ) where
 
   -- the name is that of one in the list
   abbrev Leads : List (List ℕ) → List ℕ → Type 0
-  Leads names y = AnyOf (λ name. y ≡ unit_named tree name) names
+  Leads names y = AnyOf (λ name. y ≡ unit_named tree.entries name) names
 
   leads_or_not : (names : List (List ℕ)) (y : List ℕ) → IsDecided (Leads names y)
-  leads_or_not names y = any_decided (λ name. y ≡ unit_named tree name) (λ name. same_name y (unit_named tree name)) names
+  leads_or_not names y = any_decided (λ name. y ≡ unit_named tree.entries name) (λ name. same_name y (unit_named tree.entries name)) names
 
   abbrev IsSaid : DependencyKind → List ℕ → List ℕ → LoadedUnit → Type 0
   IsSaid kind x y l = (x ≡ l.name) × Leads (names_in kind l.settings.dependencies) y
 
   abbrev IsLinked : DependencyKind → List ℕ → List ℕ → Type 0
-  IsLinked kind x y = (x ≡ unit_named tree a) × AnyOf (λ name. Links tree kind a name × (y ≡ unit_named tree name)) names_cover.0
+  IsLinked kind x y = (x ≡ unit_named tree.entries a) × AnyOf (λ name. Links tree.entries kind a name × (y ≡ unit_named tree.entries name)) names_cover.0
 
   -- the unit is x and ends at a shutdown, and y is the shutdown's unit
   abbrev pub IsEnding : List ℕ → List ℕ → LoadedUnit → Type 0
-  IsEnding x y l = (has_defaults l ≡ true) × ((x ≡ l.name) × (y ≡ unit_named tree shutdown_target))
+  IsEnding x y l = (has_defaults l ≡ true) × ((x ≡ l.name) × (y ≡ unit_named tree.entries shutdown_target))
 
   abbrev IsGiven : DependencyKind → List ℕ → List ℕ → Type 0
   IsGiven kind x y = IsLoadable (IsSaid kind x y) ⊎ (IsLinked kind x y ⊎ ((kind ≡ kinds.Conflicts) × IsLoadable (IsEnding x y)))
@@ -259,7 +260,7 @@ module _ (tree : Tree) (a : List ℕ) where
   from_gives : (kind : DependencyKind) (x y : List ℕ) → Gives tree a kind x y → IsGiven kind x y
   from_gives kind _ _ (model.said {y = name} {l = l} loadable names) =
       inl (l, loadable, (refl, (name, among_contained (names_in kind l.settings.dependencies) name names, refl)))
-  from_gives kind _ _ (model.linked {y = name} links) = inr (inl (refl, (name, names_cover.1 name (names_of_link tree kind a name links).1, (links, refl))))
+  from_gives kind _ _ (model.linked {y = name} links) = inr (inl (refl, (name, names_cover.1 name (names_of_link tree.entries kind a name links).1, (links, refl))))
   from_gives _ _ _ (model.ends {l = l} loadable defaults) = inr (inr (refl, (l, loadable, (defaults, (refl, refl)))))
 
   to_gives : (kind : DependencyKind) (x y : List ℕ) → IsGiven kind x y → Gives tree a kind x y
@@ -274,12 +275,12 @@ module _ (tree : Tree) (a : List ℕ) where
 
   linked_or_not : (kind : DependencyKind) (x y : List ℕ) → IsDecided (IsLinked kind x y)
   linked_or_not kind x y =
-      both_decided (same_name x (unit_named tree a))
-      (any_decided (λ name. Links tree kind a name × (y ≡ unit_named tree name)) (λ name. both_decided (links_or_not tree kind a name) (same_name y (unit_named tree name))) names_cover.0)
+      both_decided (same_name x (unit_named tree.entries a))
+      (any_decided (λ name. Links tree.entries kind a name × (y ≡ unit_named tree.entries name)) (λ name. both_decided (links_or_not tree.entries kind a name) (same_name y (unit_named tree.entries name))) names_cover.0)
 
   -- it is so or not
   pub ending_or_not : (x y : List ℕ) (l : LoadedUnit) → IsDecided (IsEnding x y l)
-  ending_or_not x y l = both_decided (passes_or_not (has_defaults l) true) (both_decided (same_name x l.name) (same_name y (unit_named tree shutdown_target)))
+  ending_or_not x y l = both_decided (passes_or_not (has_defaults l) true) (both_decided (same_name x l.name) (same_name y (unit_named tree.entries shutdown_target)))
 
   -- by the name, x depends on y or not
   pub gives_or_not : (kind : DependencyKind) (x y : List ℕ) → IsDecided (Gives tree a kind x y)
@@ -315,22 +316,22 @@ module _ (tree : Tree) (a : List ℕ) where
 
   -- the unit of the name, or a unit name
   abbrev pub OwnOrName : List ℕ → Type 0
-  OwnOrName z = (z ≡ unit_named tree a) ⊎ (is_unit_name z ≡ true)
+  OwnOrName z = (z ≡ unit_named tree.entries a) ⊎ (is_unit_name z ≡ true)
 
   own_name : (l : LoadedUnit) → loadable_in tree a ≡ Some l → OwnOrName l.name
   own_name l loadable = inl (sym (name_of_loadable tree a l loadable))
 
   names_given : (kind : DependencyKind) (x y : List ℕ) → Gives tree a kind x y → OwnOrName x × OwnOrName y
   names_given kind _ _ (model.said {y = name} {l = l} loadable names) =
-      (own_name l loadable, inr (named_by_name tree name ((names_of_loadable tree a l loadable).needs kind name (among_contained (names_in kind l.settings.dependencies) name names))))
-  names_given kind _ _ (model.linked {y = name} links) = (inl refl, inr (named_by_name tree name (names_of_link tree kind a name links).1))
-  names_given kind _ _ (model.ends {l = l} loadable defaults) = (own_name l loadable, inr (named_by_name tree shutdown_target shutdown_is_name))
+      (own_name l loadable, inr (named_by_name tree.entries name ((names_of_loadable tree a l loadable).needs kind name (among_contained (names_in kind l.settings.dependencies) name names))))
+  names_given kind _ _ (model.linked {y = name} links) = (inl refl, inr (named_by_name tree.entries name (names_of_link tree.entries kind a name links).1))
+  names_given kind _ _ (model.ends {l = l} loadable defaults) = (own_name l loadable, inr (named_by_name tree.entries shutdown_target shutdown_is_name))
 
   names_declared : (x y : List ℕ) → Declares tree a x y → OwnOrName x × OwnOrName y
   names_declared _ _ (model.precedes {y = name} {l = l} loadable names) =
-      (own_name l loadable, inr (named_by_name tree name ((names_of_loadable tree a l loadable).before name (among_contained l.settings.dependencies.before name names))))
+      (own_name l loadable, inr (named_by_name tree.entries name ((names_of_loadable tree a l loadable).before name (among_contained l.settings.dependencies.before name names))))
   names_declared _ _ (model.follows {y = name} {l = l} loadable names) =
-      (inr (named_by_name tree name ((names_of_loadable tree a l loadable).after name (among_contained l.settings.dependencies.after name names))), own_name l loadable)
+      (inr (named_by_name tree.entries name ((names_of_loadable tree a l loadable).after name (among_contained l.settings.dependencies.after name names))), own_name l loadable)
 
   -- what is known along with a name is its unit or has a unit name
   pub names_mentioned : (b : List ℕ) → Mentions tree a b → OwnOrName b
@@ -340,7 +341,7 @@ module _ (tree : Tree) (a : List ℕ) where
   names_mentioned b (model.later {x = x} declares) = (names_declared x b declares).1
 
   all_ends : List (List ℕ)
-  all_ends = unit_named tree a ∷ names_cover.0
+  all_ends = unit_named tree.entries a ∷ names_cover.0
 
   among_ends : (z : List ℕ) → OwnOrName z → Among all_ends z
   unfolding all_ends

@@ -7,11 +7,12 @@ use Rattle.std.proofs.lemmas.Slice.Eq.{bytes_eq-Decides}
 use Rattle.std.proofs.lemmas.List.{take-append-drop, take-append-le, take-take, length-take, length-drop, nil_from_length, take_all}
 use Rattle.byteorder.specs.Endian.{big_number}
 use Rattle.um_model.specs.Disk.{Sector, Image}
+use Rattle.um_model.specs.declared.layout.Format.{Format}
 use Rattle.um_model.specs.declared.layout.Layout.{Layout}
 use Rattle.um_model.specs.declared.layout.Slot.{Slot}
 use Rattle.um_model.specs.declared.layout.Slot.TheVariants.{A, B}
-use Rattle.um_model.specs.Store.{log_start, log_end, record_limit, slot_start, other, body_limit, IsHeader, IsOlder, IsNewest, HasNoHeader, header_sector, is_header, header_of, Newest, held_by, newer_held, newest_of, part_count, part_of, log_sector, IsRecord, AreRecords, stops, goes_on, HasRecords, payloads, bytes_from, parts_stand, is_record, records_from, records_of}
-use Rattle.um_laws.proofs.StoreLaws.{header_says, same_newest, no_newest}
+use Rattle.um_model.specs.Store.{area_start, area_end, longest, slot_start, other, body_limit, IsHeader, IsOlder, IsNewest, HasNoHeader, header_sector, is_header, header_of, Newest, held_by, newer_held, newest_of, part_count, part_of, log_sector, IsRecord, AreRecords, stops, goes_on, HasRecords, payloads, bytes_from, parts_stand, is_record, records_from, records_of}
+use Rattle.um_laws.proofs.StoreLaws.{area_few, header_says, same_newest, no_newest}
 use Rattle.um_laws.proofs.LogLaws.{length-part, next_part, record_size, part_bytes, same_list}
 
 -- ---- headers
@@ -136,24 +137,24 @@ parts_tested generation image number at bytes zero stand = refl
 parts_tested generation image number at bytes (suc n) stand =
     and_from _ _ (parts_tested generation image number at bytes n (λ part below. stand part (omega (arith, below)))) ((bytes_eq-Decides _ _).1 (stand n (omega arith)))
 
-record_told : (layout : Layout) (generation : ℕ) (image : Image) (number at : ℕ) (bytes : List ℕ) → is_record layout generation image number at bytes ≡ true
-    → IsRecord layout generation image number at bytes
-record_told layout generation image number at bytes is =
+record_told : (format : Format) (layout : Layout) (generation : ℕ) (image : Image) (number at : ℕ) (bytes : List ℕ) → is_record format layout generation image number at bytes ≡ true
+    → IsRecord format layout generation image number at bytes
+record_told format layout generation image number at bytes is =
     let one = and_parts _ _ is in
     let two = and_parts _ _ one.1 in
     let three = and_parts _ _ two.1 in
     record {
       some = ltb-true 0 (length bytes) one.0;
-      short = leb-true (length bytes) (record_limit layout generation) two.0;
-      within = leb-true (at + part_count (length bytes)) (log_end layout generation) three.0;
+      short = leb-true (length bytes) (longest format) two.0;
+      within = leb-true (at + part_count (length bytes)) (area_end format layout generation) three.0;
       parts = parts_told generation image number at bytes (part_count (length bytes)) three.1;
     }
 
-record_tested : (layout : Layout) (generation : ℕ) (image : Image) (number at : ℕ) (bytes : List ℕ) → IsRecord layout generation image number at bytes
-    → is_record layout generation image number at bytes ≡ true
-record_tested layout generation image number at bytes is =
-    and_from _ _ (lt-ltb 0 (length bytes) is.some) (and_from _ _ (le-leb (length bytes) (record_limit layout generation) is.short)
-    (and_from _ _ (le-leb (at + part_count (length bytes)) (log_end layout generation) is.within)
+record_tested : (format : Format) (layout : Layout) (generation : ℕ) (image : Image) (number at : ℕ) (bytes : List ℕ) → IsRecord format layout generation image number at bytes
+    → is_record format layout generation image number at bytes ≡ true
+record_tested format layout generation image number at bytes is =
+    and_from _ _ (lt-ltb 0 (length bytes) is.some) (and_from _ _ (le-leb (length bytes) (longest format) is.short)
+    (and_from _ _ (le-leb (at + part_count (length bytes)) (area_end format layout generation) is.within)
     (parts_tested generation image number at bytes (part_count (length bytes)) is.parts)))
 
 -- a part's bytes, and then the rest
@@ -193,42 +194,42 @@ parts_back (suc n) bytes image at fits stands =
     (subst (λ (l : List ℕ). take (length l) (drop 32 (image (at + suc i))) ≡ l) (next_part bytes i) (stands (suc i) (omega (arith, below))))))
 
 -- so the record that stands there is read
-record_back : {layout : Layout} {generation : ℕ} {image : Image} {number at : ℕ} {bytes : List ℕ} → IsRecord layout generation image number at bytes → bytes_from image at ≡ bytes
+record_back : {format : Format} {layout : Layout} {generation : ℕ} {image : Image} {number at : ℕ} {bytes : List ℕ} → IsRecord format layout generation image number at bytes → bytes_from image at ≡ bytes
 record_back {image} {at} {bytes} is =
     let size = record_size is in
     (λ i. take (size i) (payloads (part_count (size i)) image at))
     ∙ parts_back (part_count (length bytes)) bytes image at (omega arith) (λ i below. part_bytes is i (length (part_of bytes i)) below (sym (length-part bytes i)))
 
-module _ (layout : Layout) (generation : ℕ) (image : Image) (number at turns : ℕ) where
+module _ (format : Format) (layout : Layout) (generation : ℕ) (image : Image) (number at turns : ℕ) where
   abbrev bytes : List ℕ
   bytes = bytes_from image at
 
   abbrev rest : List (List ℕ)
-  rest = records_from turns layout generation image (suc number) (at + part_count (length bytes))
+  rest = records_from turns format layout generation image (suc number) (at + part_count (length bytes))
 
   -- one record more, or none
-  one_more_record : (0 < length bytes → AreRecords layout generation image (suc number) (at + part_count (length bytes)) rest)
-      → AreRecords layout generation image number at (records_from (suc turns) layout generation image number at)
+  one_more_record : (0 < length bytes → AreRecords format layout generation image (suc number) (at + part_count (length bytes)) rest)
+      → AreRecords format layout generation image number at (records_from (suc turns) format layout generation image number at)
   one_more_record behind_it = ⊎_elim
-      (λ yes. let is = record_told layout generation image number at bytes yes in
-      subst (AreRecords layout generation image number at) (sym (cond-true _ (bytes ∷ rest) [] yes)) (goes_on is (behind_it is.some)))
-      (λ no. subst (AreRecords layout generation image number at) (sym (cond-false _ (bytes ∷ rest) [] no))
-      (stops (λ x is. false≢true (sym no ∙ record_tested layout generation image number at bytes (subst (IsRecord layout generation image number at) (sym (record_back is)) is)))))
-      (cases_Bool (is_record layout generation image number at bytes))
+      (λ yes. let is = record_told format layout generation image number at bytes yes in
+      subst (AreRecords format layout generation image number at) (sym (cond-true _ (bytes ∷ rest) [] yes)) (goes_on is (behind_it is.some)))
+      (λ no. subst (AreRecords format layout generation image number at) (sym (cond-false _ (bytes ∷ rest) [] no))
+      (stops (λ x is. false≢true (sym no ∙ record_tested format layout generation image number at bytes (subst (IsRecord format layout generation image number at) (sym (record_back is)) is)))))
+      (cases_Bool (is_record format layout generation image number at bytes))
 
 -- the records from a place on, where there are turns enough
-records_told : (turns : ℕ) (layout : Layout) (generation : ℕ) (image : Image) (number at : ℕ) → log_end layout generation ≤ at + turns
-    → AreRecords layout generation image number at (records_from turns layout generation image number at)
-records_told zero layout generation image number at enough = stops (λ bytes is. let some = is.some in let within = is.within in omega (arith, enough, some, within))
-records_told (suc turns) layout generation image number at enough =
-    one_more_record layout generation image number at turns
-    (λ some. records_told turns layout generation image (suc number) (at + part_count (length (bytes_from image at))) (omega (arith, enough, some)))
+records_told : (turns : ℕ) (format : Format) (layout : Layout) (generation : ℕ) (image : Image) (number at : ℕ) → area_end format layout generation ≤ at + turns
+    → AreRecords format layout generation image number at (records_from turns format layout generation image number at)
+records_told zero format layout generation image number at enough = stops (λ bytes is. let some = is.some in let within = is.within in omega (arith, enough, some, within))
+records_told (suc turns) format layout generation image number at enough =
+    one_more_record format layout generation image number at turns
+    (λ some. records_told turns format layout generation image (suc number) (at + part_count (length (bytes_from image at))) (omega (arith, enough, some)))
 
 -- The function tells the records that the relation does.
-pub records_are : (layout : Layout) (generation : ℕ) (image : Image) → HasRecords layout generation image (records_of layout generation image)
+pub records_are : (format : Format) (layout : Layout) (generation : ℕ) (image : Image) → HasRecords format layout generation image (records_of format layout generation image)
 unfolding records_of
-records_are layout generation image = records_told layout.log_sectors layout generation image 0 (log_start layout generation) (omega arith)
+records_are format layout generation image = records_told layout.log_sectors format layout generation image 0 (area_start format layout generation) (let few = area_few format layout in omega (arith, few))
 
 -- And only it.
-pub only_records : (layout : Layout) (generation : ℕ) (image : Image) (records : List (List ℕ)) → HasRecords layout generation image records → records_of layout generation image ≡ records
-only_records layout generation image records are = same_list 0 (log_start layout generation) (records_of layout generation image) records (records_are layout generation image) are
+pub only_records : (format : Format) (layout : Layout) (generation : ℕ) (image : Image) (records : List (List ℕ)) → HasRecords format layout generation image records → records_of format layout generation image ≡ records
+only_records format layout generation image records are = same_list 0 (area_start format layout generation) (records_of format layout generation image) records (records_are format layout generation image) are

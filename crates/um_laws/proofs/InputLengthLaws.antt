@@ -1,10 +1,11 @@
 -- An input that isn't refused is spelled in at most 66,078 bytes: the longest puts a file at a path of a tree.
-use Rattle.std.proofs.Common.{ℕ, ◌≡◌, ◌≢◌, ◌∙◌, ◌+◌, ◌-◌, ◌≤◌, nat_lt, Bool, true, false, not, List, ◌++◌, length, Option, Some, None, is_none, Ok, refl, sym, ap, length-append, arith}
+use Rattle.std.proofs.Common.{ℕ, ◌≡◌, ◌≢◌, ◌∙◌, ◌+◌, ◌≤◌, nat_lt, Bool, true, false, not, List, ◌++◌, length, Option, Some, None, is_none, Ok, refl, sym, ap, length-append, arith}
 use Rattle.std.specs.Prelude.{IfSome}
 use Rattle.std.specs.FinMap as map
 use Rattle.std.proofs.lemmas.Bool.{leb-true, ltb-false, not-false}
 use Rattle.byteorder.specs.Endian.{big_bytes}
 use Rattle.byteorder.specs.Numbers.{length-bytes_high_first}
+use Rattle.um_model.specs.declared.profile.Profile.{Profile}
 use Rattle.um_model.specs.Bytes.{text_spelling, option_spelling, tagged}
 use Rattle.um_model.specs.Refusals.{Refused, no_room, unless_refused}
 use Rattle.um_model.specs.Tree.{Tree, Entry, File, Link, IsTree, path_parts, is_served, is_fit_target, is_link, is_other_than_link, is_full_for, text_limit, put_cause, put_file, link_cause, put_link, remove_cause, remove_at}
@@ -80,7 +81,7 @@ two_long : (a b : List ℕ) → length a + length b ≤ 66060 → length (text_s
 two_long a b h = omega (arith, length-append (text_spelling a) (text_spelling b), text_long a, text_long b)
 
 -- what a command that has its effect is spelled in
-command_long : (t : ℕ) (s : State) (command : Command) (actions : List Action) (u : State) → IsTree s.tree → FitCommand command → Does t s command actions u
+command_long : {profile : Profile} (t : ℕ) (s : State) (command : Command) (actions : List Action) (u : State) → IsTree s.tree → FitCommand command → Does profile t s command actions u
     → length (command_fields command) ≤ 66068
 command_long t s (PutFile path text) actions u is fit (Does.changes (puts {tree = tree} e)) = two_long path text (put_long s path text tree e)
 command_long t s (PutLink path target) actions u is fit (Does.changes (links {tree = tree} e)) = two_long path target (link_long s path target tree e)
@@ -107,19 +108,19 @@ happening_long (Booted boot) fit = omega (arith, text_long boot, leb-true (lengt
 whole_long : (i : Input) → length (event_fields i.event) ≤ 66068 → length (input_spelling i) ≤ input_limit
 whole_long i h = omega (arith, length-append (big_bytes 8 i.moment) (event_fields i.event), number_long 8 i.moment)
 
-taken_long : (t : ℕ) (s : State) (moment : ℕ) (event : Event) (actions : List Action) (u : State) → IsTree s.tree → FitInput (record { moment = moment; event = event })
-    → TakesEffect t s event actions u → length (input_spelling (record { moment = moment; event = event })) ≤ input_limit
-taken_long t s moment event actions u is fit (obeys {command = command} {first = first} {u = v} none does settles) =
-    whole_long (record { moment = moment; event = Commanded command }) (command_long t s command first v is fit.event does)
-taken_long t s moment event actions u is fit (meets {happening = happening} effect follows) =
-    whole_long (record { moment = moment; event = Happened happening }) (happening_long happening fit.event)
+taken_long : {profile : Profile} (t : ℕ) (s : State) (moment : ℕ) (event : Event) (actions : List Action) (u : State) → IsTree s.tree → FitInput (record { profile = profile; moment = moment; event = event })
+    → TakesEffect profile t s event actions u → length (input_spelling (record { profile = profile; moment = moment; event = event })) ≤ input_limit
+taken_long {profile} t s moment event actions u is fit (obeys {command = command} {first = first} {u = v} none does settles) =
+    whole_long (record { profile = profile; moment = moment; event = Commanded command }) (command_long t s command first v is fit.event does)
+taken_long {profile} t s moment event actions u is fit (meets {happening = happening} effect follows) =
+    whole_long (record { profile = profile; moment = moment; event = Happened happening }) (happening_long happening fit.event)
 
 -- an input that isn't refused, in a state with a tree
 pub accepted_short : (size : ℕ) (s : State) (i : Input) (reply : Reply) (actions : List Action) (t : State) → IsTree s.tree → FitInput i → Step size s i reply actions t
     → ((r : Refused) → reply ≢ Refusal r) → length (input_spelling i) ≤ input_limit
 accepted_short size s i reply actions t is fit (refused {r = r} e) accepted = absurd (accepted r refl)
 accepted_short size s i reply actions t is fit (crowded_out h heavy) accepted = absurd (accepted no_room refl)
-accepted_short size s i reply actions t is fit (idle {moment = moment} {happening = happening} e) accepted =
-    whole_long (record { moment = moment; event = Happened happening }) (happening_long happening fit.event)
+accepted_short size s i reply actions t is fit (idle {profile = profile} {moment = moment} {happening = happening} e) accepted =
+    whole_long (record { profile = profile; moment = moment; event = Happened happening }) (happening_long happening fit.event)
 accepted_short size s i reply actions t is fit (taken {moment = moment} {event = event} {u = u} h room) accepted =
     taken_long (moment_of s moment) s moment event actions u is fit h

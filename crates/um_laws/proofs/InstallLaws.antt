@@ -9,6 +9,7 @@ use Rattle.std.proofs.lemmas.Bool.{cases_lt, and_parts, or_cases}
 use Rattle.std.proofs.lemmas.Option.{none-some}
 use Rattle.std.proofs.lemmas.Slice.Eq.{bytes_eq-Decides}
 use Rattle.std.specs.Str.{bytes_eq}
+use Rattle.um_model.specs.Profiles.{ReadTree}
 use Rattle.um_model.specs.Install.{LinkAt, link_at, install_of, linked_name, links_of, IsAlso, also, IsTaken, IsAskedFor, IsEnabled, IsUnfit, IsOccupied, stands, differs, HasTooMany, too_many, CannotEnable, isnt_found, is_masked, has_bad_setting, lacks_instance, IsBarred, CausesOfLinks, IsMeant, IsUnlinked, IsDisabled, unmasked, Installs, enables, disables, masks, unmasks, RefusesLinks, enables_none, masks_none, RefusesUnits, takes_none, RefusesInstall, enabling_of, IsEnabledAs}
 use Rattle.um_model.specs.Least.{IsNamedBefore, NamesLeast}
 use Rattle.um_model.specs.Names.{is_unit_name}
@@ -60,42 +61,42 @@ removed_apart tree path at apart =
 
 -- ---- what is taken, and what is meant
 
-pub also_any : (tree : Tree) (unit other : List ℕ) → IsAlso tree unit other → AnyOf (λ name. other ≡ unit_named tree name) (install_of (load tree unit)).also
+pub also_any : (tree : ReadTree) (unit other : List ℕ) → IsAlso tree unit other → AnyOf (λ name. other ≡ unit_named tree.entries name) (install_of (load tree unit)).also
 also_any tree unit other (also {name = name} among) = (name, among_contained (install_of (load tree unit)).also name among, refl)
 
-pub any_also : (tree : Tree) (unit other : List ℕ) → AnyOf (λ name. other ≡ unit_named tree name) (install_of (load tree unit)).also → IsAlso tree unit other
+pub any_also : (tree : ReadTree) (unit other : List ℕ) → AnyOf (λ name. other ≡ unit_named tree.entries name) (install_of (load tree unit)).also → IsAlso tree unit other
 any_also tree unit other any = subst (IsAlso tree unit) (sym any.2) (also (contains_among (install_of (load tree unit)).also any.0 any.1))
 
-also_or_not : (tree : Tree) (unit other : List ℕ) → IsDecided (IsAlso tree unit other)
+also_or_not : (tree : ReadTree) (unit other : List ℕ) → IsDecided (IsAlso tree unit other)
 also_or_not tree unit other =
     decided_as (any_also tree unit other) (also_any tree unit other)
-    (any_decided (λ name. other ≡ unit_named tree name) (λ name. same_name other (unit_named tree name)) (install_of (load tree unit)).also)
+    (any_decided (λ name. other ≡ unit_named tree.entries name) (λ name. same_name other (unit_named tree.entries name)) (install_of (load tree unit)).also)
 
 -- what is taken is the unit that was asked for, or has a unit name
-taken_covered : (tree : Tree) (asked unit : List ℕ) → IsTaken tree asked unit → Among (unit_named tree asked ∷ names_cover.0) unit
+taken_covered : (tree : ReadTree) (asked unit : List ℕ) → IsTaken tree asked unit → Among (unit_named tree.entries asked ∷ names_cover.0) unit
 taken_covered tree asked unit (first is) = inl is
 taken_covered tree asked unit (next {a = taker} reached step) =
     let any = also_any tree taker unit step in
-    inr (names_cover.1 unit (subst (λ n. is_unit_name n ≡ true) (sym any.2) (named_by_name tree any.0 (also_names tree taker any.0 any.1))))
+    inr (names_cover.1 unit (subst (λ n. is_unit_name n ≡ true) (sym any.2) (named_by_name tree.entries any.0 (also_names tree taker any.0 any.1))))
 
 -- a list has just what is taken
-pub taken_list : (tree : Tree) (asked : List ℕ) → (units : List (List ℕ)) × IsListOf (IsTaken tree asked) units
+pub taken_list : (tree : ReadTree) (asked : List ℕ) → (units : List (List ℕ)) × IsListOf (IsTaken tree asked) units
 taken_list tree asked =
-    reached_list (λ unit. unit ≡ unit_named tree asked) (IsAlso tree) (unit_named tree asked ∷ names_cover.0) (taken_covered tree asked)
-    (λ unit. same_name unit (unit_named tree asked)) (also_or_not tree)
+    reached_list (λ unit. unit ≡ unit_named tree.entries asked) (IsAlso tree) (unit_named tree.entries asked ∷ names_cover.0) (taken_covered tree asked)
+    (λ unit. same_name unit (unit_named tree.entries asked)) (also_or_not tree)
 
-written_or_not : (tree : Tree) (unit name : List ℕ) → IsDecided (Contains (install_of (load tree unit)).also name)
+written_or_not : (tree : ReadTree) (unit name : List ℕ) → IsDecided (Contains (install_of (load tree unit)).also name)
 written_or_not tree unit name =
     let names = (install_of (load tree unit)).also in
     decided_as (contains_among names name) (among_contained names name) (among_or_not same_name names name)
 
-meant_covered : (tree : Tree) (asked name : List ℕ) → IsMeant tree asked name → Among (asked ∷ names_cover.0) name
+meant_covered : (tree : ReadTree) (asked name : List ℕ) → IsMeant tree asked name → Among (asked ∷ names_cover.0) name
 meant_covered tree asked name (first is) = inl is
 meant_covered tree asked name (next {a = unit} reached step) =
     inr (names_cover.1 name (also_names tree unit name (among_contained (install_of (load tree unit)).also name step)))
 
 -- a list has just what is meant
-pub meant_list : (tree : Tree) (asked : List ℕ) → (names : List (List ℕ)) × IsListOf (IsMeant tree asked) names
+pub meant_list : (tree : ReadTree) (asked : List ℕ) → (names : List (List ℕ)) × IsListOf (IsMeant tree asked) names
 meant_list tree asked =
     reached_list (λ name. name ≡ asked) (λ unit name. Contains (install_of (load tree unit)).also name) (asked ∷ names_cover.0) (meant_covered tree asked) (λ name. same_name name asked) (written_or_not tree)
 
@@ -117,8 +118,8 @@ is_link_of name (Some p) (Some (Link target)) = is_link_for name p target
 is_link_of name parts entry = false
 
 -- by the test the link is removed
-pub unlinked_by : (tree : Tree) (asked path name : List ℕ) → IsMeant tree asked name → is_link_of name (path_parts path) (map.get tree path) ≡ true → IsUnlinked tree asked path
-unlinked_by tree asked path name meant = by (path_parts path) refl (map.get tree path) refl
+pub unlinked_by : (tree : ReadTree) (asked path name : List ℕ) → IsMeant tree asked name → is_link_of name (path_parts path) (map.get tree.entries path) ≡ true → IsUnlinked tree asked path
+unlinked_by tree asked path name meant = by (path_parts path) refl (map.get tree.entries path) refl
   where
     etc : (layer : Layer) → is_etc layer ≡ true → layer ≡ Etc
     etc Etc is = refl
@@ -140,7 +141,7 @@ unlinked_by tree asked path name meant = by (path_parts path) refl (map.get tree
         either (inl wants) = inl wants
         either (inr requires) = inr (inl requires)
 
-    by : (parts : Option PathParts) → path_parts path ≡ parts → (entry : Option Entry) → map.get tree path ≡ entry → is_link_of name parts entry ≡ true → IsUnlinked tree asked path
+    by : (parts : Option PathParts) → path_parts path ≡ parts → (entry : Option Entry) → map.get tree.entries path ≡ entry → is_link_of name parts entry ≡ true → IsUnlinked tree asked path
     by None served entry at is = absurd (true≢false (sym is))
     by (Some p) served None at is = absurd (true≢false (sym is))
     by (Some p) served (Some (File text)) at is = absurd (true≢false (sym is))
@@ -158,9 +159,9 @@ unlinked_by tree asked path name meant = by (path_parts path) refl (map.get tree
         }
 
 -- and the test tells each link that is removed
-pub unlinked_test : (tree : Tree) (asked path : List ℕ) (h : IsUnlinked tree asked path) → is_link_of h.name (path_parts path) (map.get tree path) ≡ true
+pub unlinked_test : (tree : ReadTree) (asked path : List ℕ) (h : IsUnlinked tree asked path) → is_link_of h.name (path_parts path) (map.get tree.entries path) ≡ true
 unlinked_test tree asked path h =
-    ap (λ parts. is_link_of h.name parts (map.get tree path)) h.served
+    ap (λ parts. is_link_of h.name parts (map.get tree.entries path)) h.served
     ∙ (ap (is_link_of h.name (Some h.parts)) h.link
     ∙ (ap (λ layer. is_etc layer && (pulls_in h.parts.place h.name || bytes_eq (unit_in_target h.target) h.name)) h.in_etc ∙ by h.leads))
   where
@@ -179,7 +180,7 @@ unlinked_test tree asked path h =
 
 -- ---- the links that are asked for
 
-module _ (tree : Tree) (asked : List ℕ) where
+module _ (tree : ReadTree) (asked : List ℕ) where
   links_from : List (List ℕ) → List LinkAt
   links_from = flat_map (λ unit. links_of (load tree unit))
 
@@ -226,10 +227,10 @@ module _ (tree : Tree) (asked : List ℕ) where
       ]
 
   with_links : List LinkAt → Tree
-  with_links [] = tree
+  with_links [] = tree.entries
   with_links (link ∷ links) = map.insert (with_links links) link.path (Link link.target)
 
-  links_kept : (links : List LinkAt) (path : List ℕ) → ¬ (AnyOf (λ link. path ≡ link.path) links) → map.get (with_links links) path ≡ map.get tree path
+  links_kept : (links : List LinkAt) (path : List ℕ) → ¬ (AnyOf (λ link. path ≡ link.path) links) → map.get (with_links links) path ≡ map.get tree.entries path
   unfolding with_links
   links_kept [] path none = refl
   links_kept (link ∷ links) path none =
@@ -273,7 +274,7 @@ module _ (tree : Tree) (asked : List ℕ) where
 
   -- ---- the drop-ins in the enabled tree
 
-  no_file_linked : (links : List LinkAt) (path : List ℕ) → HasNoFile (map.get tree path) → HasNoFile (map.get (with_links links) path)
+  no_file_linked : (links : List LinkAt) (path : List ℕ) → HasNoFile (map.get tree.entries path) → HasNoFile (map.get (with_links links) path)
   unfolding with_links
   no_file_linked [] path none text = none text
   no_file_linked (link ∷ links) path none text = elim (same_name path link.path) as (λ _. map.get (map.insert (with_links links) link.path (Link link.target)) path ≢ Some (File text)) [
@@ -284,8 +285,8 @@ module _ (tree : Tree) (asked : List ℕ) where
       link_or_file : (target : List ℕ) → Some (Link target) ≢ Some (File text)
       link_or_file target e = cc
 
-  same_drop_ins : (links : List LinkAt) → ((link : LinkAt) → Among links link → HasNoFile (map.get tree link.path)) → (folder : List ℕ)
-      → drop_ins_in (with_links links) folder ≡ drop_ins_in tree folder
+  same_drop_ins : (links : List LinkAt) → ((link : LinkAt) → Among links link → HasNoFile (map.get tree.entries link.path)) → (folder : List ℕ)
+      → drop_ins_in (with_links links) folder ≡ drop_ins_in tree.entries folder
   unfolding with_links
   same_drop_ins [] none folder = refl
   same_drop_ins (link ∷ links) none folder =
@@ -293,15 +294,15 @@ module _ (tree : Tree) (asked : List ℕ) where
       ∙ same_drop_ins links (λ other among. none other (inr among)) folder
 
   -- they are those of the tree
-  pub enabled_drop_ins : IsFree → (u : Tree) → IsEnabled tree asked u → (folder : List ℕ) → drop_ins_in u folder ≡ drop_ins_in tree folder
+  pub enabled_drop_ins : IsFree → (u : Tree) → IsEnabled tree asked u → (folder : List ℕ) → drop_ins_in u folder ≡ drop_ins_in tree.entries folder
   unfolding an_enabled
   enabled_drop_ins free u made folder =
       ap (λ t. drop_ins_in t folder) (one_enabled u (an_enabled free).0 made (an_enabled free).1) ∙ same_links
     where
-      none : (link : LinkAt) → Among asked_list.0 link → HasNoFile (map.get tree link.path)
+      none : (link : LinkAt) → Among asked_list.0 link → HasNoFile (map.get tree.entries link.path)
       none link among text e = free link.path (stands (asked_list.1.has link among) (ap (λ o. is_other_than_link o link.target) e))
 
-      same_links : drop_ins_in (an_enabled free).0 folder ≡ drop_ins_in tree folder
+      same_links : drop_ins_in (an_enabled free).0 folder ≡ drop_ins_in tree.entries folder
       same_links = same_drop_ins asked_list.0 none folder
 
   -- ---- why a unit isn't enabled
@@ -332,12 +333,12 @@ module _ (tree : Tree) (asked : List ℕ) where
   -- something stands where the link would, or another link would
   abbrev Occupies : List ℕ → LinkAt → Type 0
   Occupies path link =
-      (path ≡ link.path) × ((is_other_than_link (map.get tree path) link.target ≡ true) ⊎ AnyOf (λ other. (path ≡ other.path) × (link.target ≢ other.target)) asked_list.0)
+      (path ≡ link.path) × ((is_other_than_link (map.get tree.entries path) link.target ≡ true) ⊎ AnyOf (λ other. (path ≡ other.path) × (link.target ≢ other.target)) asked_list.0)
 
   occupies_or_not : (path : List ℕ) (link : LinkAt) → IsDecided (Occupies path link)
   occupies_or_not path link =
       both_decided (same_name path link.path)
-      (either_decided (passes_or_not (is_other_than_link (map.get tree path) link.target) true)
+      (either_decided (passes_or_not (is_other_than_link (map.get tree.entries path) link.target) true)
       (any_decided (λ other. (path ≡ other.path) × (link.target ≢ other.target))
       (λ other. both_decided (same_name path other.path) (not_decided (same_name link.target other.target))) asked_list.0))
 
@@ -484,21 +485,21 @@ module _ (tree : Tree) (asked : List ℕ) where
   pub unlinked_or_not : (path : List ℕ) → IsDecided (IsUnlinked tree asked path)
   unlinked_or_not path =
       decided_as there back
-      (any_decided (λ name. is_link_of name (path_parts path) (map.get tree path) ≡ true) (λ name. passes_or_not (is_link_of name (path_parts path) (map.get tree path)) true)
+      (any_decided (λ name. is_link_of name (path_parts path) (map.get tree.entries path) ≡ true) (λ name. passes_or_not (is_link_of name (path_parts path) (map.get tree.entries path)) true)
       (meant_list tree asked).0)
     where
-      there : AnyOf (λ name. is_link_of name (path_parts path) (map.get tree path) ≡ true) (meant_list tree asked).0 → IsUnlinked tree asked path
+      there : AnyOf (λ name. is_link_of name (path_parts path) (map.get tree.entries path) ≡ true) (meant_list tree asked).0 → IsUnlinked tree asked path
       there any = unlinked_by tree asked path any.0 ((meant_list tree asked).1.has any.0 any.1) any.2
 
-      back : IsUnlinked tree asked path → AnyOf (λ name. is_link_of name (path_parts path) (map.get tree path) ≡ true) (meant_list tree asked).0
+      back : IsUnlinked tree asked path → AnyOf (λ name. is_link_of name (path_parts path) (map.get tree.entries path) ≡ true) (meant_list tree asked).0
       back h = (h.name, (meant_list tree asked).1.all h.name h.meant, unlinked_test tree asked path h)
 
-  unlinked_held : (path : List ℕ) → IsUnlinked tree asked path → Among (map.keys tree) path
-  unlinked_held path h = among_keys tree path (ap is_some h.link)
+  unlinked_held : (path : List ℕ) → IsUnlinked tree asked path → Among (map.keys tree.entries) path
+  unlinked_held path h = among_keys tree.entries path (ap is_some h.link)
 
   -- a list has just the paths at which something is removed
   unlinked_list : (paths : List (List ℕ)) × IsListOf (IsUnlinked tree asked) paths
-  unlinked_list = list_of (IsUnlinked tree asked) unlinked_or_not (map.keys tree) unlinked_held
+  unlinked_list = list_of (IsUnlinked tree asked) unlinked_or_not (map.keys tree.entries) unlinked_held
 
   one_disabled : (u v : Tree) → IsDisabled tree asked u → IsDisabled tree asked v → u ≡ v
   one_disabled u v h k = same_tree u v at
@@ -510,7 +511,7 @@ module _ (tree : Tree) (asked : List ℕ) where
       ]
 
   without_paths : List (List ℕ) → Tree
-  without_paths [] = tree
+  without_paths [] = tree.entries
   without_paths (path ∷ paths) = map.remove (without_paths paths) path
 
   paths_gone : (paths : List (List ℕ)) (path : List ℕ) → Among paths path → map.get (without_paths paths) path ≡ None
@@ -522,7 +523,7 @@ module _ (tree : Tree) (asked : List ℕ) where
     | inr apart ↦ removed_apart (without_paths paths) other path apart ∙ paths_gone paths path later
   ]
 
-  paths_kept : (paths : List (List ℕ)) (path : List ℕ) → ¬ (Among paths path) → map.get (without_paths paths) path ≡ map.get tree path
+  paths_kept : (paths : List (List ℕ)) (path : List ℕ) → ¬ (Among paths path) → map.get (without_paths paths) path ≡ map.get tree.entries path
   unfolding without_paths
   paths_kept [] path none = refl
   paths_kept (other ∷ paths) path none =
@@ -558,7 +559,7 @@ module _ (tree : Tree) (asked : List ℕ) where
         | inr apart ↦ sym (inserted_apart (map.remove t path) path (Link target) q apart ∙ removed_apart t path q apart)
       ]
 
-  no_file_left : (paths : List (List ℕ)) (path : List ℕ) → HasNoFile (map.get tree path) → HasNoFile (map.get (without_paths paths) path)
+  no_file_left : (paths : List (List ℕ)) (path : List ℕ) → HasNoFile (map.get tree.entries path) → HasNoFile (map.get (without_paths paths) path)
   unfolding without_paths
   no_file_left [] path none text = none text
   no_file_left (other ∷ paths) path none text = elim (same_name path other) as (λ _. map.get (map.remove (without_paths paths) other) path ≢ Some (File text)) [
@@ -566,8 +567,8 @@ module _ (tree : Tree) (asked : List ℕ) where
     | inr apart ↦ λ e. no_file_left paths path none text (sym (removed_apart (without_paths paths) other path apart) ∙ e)
   ]
 
-  drop_ins_left : (paths : List (List ℕ)) → ((path : List ℕ) → Among paths path → HasNoFile (map.get tree path)) → (folder : List ℕ)
-      → drop_ins_in (without_paths paths) folder ≡ drop_ins_in tree folder
+  drop_ins_left : (paths : List (List ℕ)) → ((path : List ℕ) → Among paths path → HasNoFile (map.get tree.entries path)) → (folder : List ℕ)
+      → drop_ins_in (without_paths paths) folder ≡ drop_ins_in tree.entries folder
   unfolding without_paths
   drop_ins_left [] none folder = refl
   drop_ins_left (path ∷ paths) none folder =
@@ -575,51 +576,51 @@ module _ (tree : Tree) (asked : List ℕ) where
       ∙ drop_ins_left paths (λ other among. none other (inr among)) folder
 
   -- what is removed is a link
-  no_file_unlinked : (path : List ℕ) → IsUnlinked tree asked path → HasNoFile (map.get tree path)
+  no_file_unlinked : (path : List ℕ) → IsUnlinked tree asked path → HasNoFile (map.get tree.entries path)
   no_file_unlinked path h text e = isnt_file h.target (sym h.link ∙ e)
     where
       isnt_file : (target : List ℕ) → Some (Link target) ≢ Some (File text)
       isnt_file target same = cc
 
   -- so the drop-ins are those of the tree
-  pub disabled_drop_ins : (v : Tree) → IsDisabled tree asked v → (folder : List ℕ) → drop_ins_in v folder ≡ drop_ins_in tree folder
+  pub disabled_drop_ins : (v : Tree) → IsDisabled tree asked v → (folder : List ℕ) → drop_ins_in v folder ≡ drop_ins_in tree.entries folder
   unfolding a_disabled
   disabled_drop_ins v left folder = ap (λ t. drop_ins_in t folder) (one_disabled v a_disabled.0 left a_disabled.1) ∙ same_left
     where
-      same_left : drop_ins_in a_disabled.0 folder ≡ drop_ins_in tree folder
+      same_left : drop_ins_in a_disabled.0 folder ≡ drop_ins_in tree.entries folder
       same_left = drop_ins_left unlinked_list.0 (λ path among. no_file_unlinked path (unlinked_list.1.has path among)) folder
 
   -- whether disabling removes anything
   linked_or_not : IsDecided ((path : List ℕ) × IsUnlinked tree asked path)
   linked_or_not =
-      decided_as (λ any. (any.0, any.2)) (λ found. (found.0, unlinked_held found.0 found.1, found.1)) (any_decided (IsUnlinked tree asked) unlinked_or_not (map.keys tree))
+      decided_as (λ any. (any.0, any.2)) (λ found. (found.0, unlinked_held found.0 found.1, found.1)) (any_decided (IsUnlinked tree asked) unlinked_or_not (map.keys tree.entries))
 
 -- ---- all four
 
 -- a verb makes one tree
-pub one_install : (tree : Tree) (verb : InstallVerb) (unit : List ℕ) (u v : Tree) → Installs tree verb unit u → Installs tree verb unit v → u ≡ v
+pub one_install : (tree : ReadTree) (verb : InstallVerb) (unit : List ℕ) (u v : Tree) → Installs tree verb unit u → Installs tree verb unit v → u ≡ v
 one_install tree verb unit u v (enables {unit = x} {enabled = a} h) (enables {enabled = b} k) = one_enabled tree x a b h k
 one_install tree verb unit u v (disables {unit = x} {disabled = a} h) (disables {disabled = b} k) = one_disabled tree x a b h k
-one_install tree verb unit u v (masks {unit = x} {changed = a} e) (masks {changed = b} f) = same_ok (put_link tree (unit_path Etc x) (codes "/dev/null")) a b e f
+one_install tree verb unit u v (masks {unit = x} {changed = a} e) (masks {changed = b} f) = same_ok (put_link tree.entries (unit_path Etc x) (codes "/dev/null")) a b e f
 one_install tree verb unit u v unmasks unmasks = refl
 
 -- and has one refusal for its links, and one for its units
-pub one_link_refusal : (tree : Tree) (verb : InstallVerb) (unit : List ℕ) (r q : Refused) → RefusesLinks tree verb unit r → RefusesLinks tree verb unit q → r ≡ q
+pub one_link_refusal : (tree : ReadTree) (verb : InstallVerb) (unit : List ℕ) (r q : Refused) → RefusesLinks tree verb unit r → RefusesLinks tree verb unit q → r ≡ q
 one_link_refusal tree verb unit r q (enables_none {unit = x} {r = a} h) (enables_none {r = b} k) = one_links_refusal tree x a b h k
-one_link_refusal tree verb unit r q (masks_none {unit = x} {r = a} e) (masks_none {r = b} f) = same_err (put_link tree (unit_path Etc x) (codes "/dev/null")) a b e f
+one_link_refusal tree verb unit r q (masks_none {unit = x} {r = a} e) (masks_none {r = b} f) = same_err (put_link tree.entries (unit_path Etc x) (codes "/dev/null")) a b e f
 
-pub one_unit_refusal : (tree : Tree) (verb : InstallVerb) (unit : List ℕ) (r q : Refused) → RefusesUnits tree verb unit r → RefusesUnits tree verb unit q → r ≡ q
+pub one_unit_refusal : (tree : ReadTree) (verb : InstallVerb) (unit : List ℕ) (r q : Refused) → RefusesUnits tree verb unit r → RefusesUnits tree verb unit q → r ≡ q
 one_unit_refusal tree verb unit r q (takes_none {unit = x} {r = a} h) (takes_none {r = b} k) = one_bars_refusal tree x a b h k
 
-pub one_install_refusal : (tree : Tree) (verb : InstallVerb) (unit : List ℕ) (r q : Refused) → RefusesInstall tree verb unit r → RefusesInstall tree verb unit q → r ≡ q
+pub one_install_refusal : (tree : ReadTree) (verb : InstallVerb) (unit : List ℕ) (r q : Refused) → RefusesInstall tree verb unit r → RefusesInstall tree verb unit q → r ≡ q
 one_install_refusal tree verb unit = one_first _ _ (one_link_refusal tree verb unit) (one_unit_refusal tree verb unit)
 
 -- it is refused for its links, or makes a tree
-abbrev Becomes : Tree → InstallVerb → List ℕ → Type 0
+abbrev Becomes : ReadTree → InstallVerb → List ℕ → Type 0
 Becomes tree verb unit =
     ((r : Refused) × RefusesLinks tree verb unit r) ⊎ (((r : Refused) → ¬ (RefusesLinks tree verb unit r)) × ((u : Tree) × Installs tree verb unit u))
 
-enable_becomes : (tree : Tree) (unit : List ℕ) → OneOrNone (CausesOfLinks tree unit) → Becomes tree verbs.Enable unit
+enable_becomes : (tree : ReadTree) (unit : List ℕ) → OneOrNone (CausesOfLinks tree unit) → Becomes tree verbs.Enable unit
 enable_becomes tree unit (inl found) = inl (found.0, enables_none found.1)
 enable_becomes tree unit (inr none) =
     let made = an_enabled tree unit (free_of_causes tree unit none) in
@@ -628,13 +629,13 @@ enable_becomes tree unit (inr none) =
     obeyed : (r : Refused) → ¬ (RefusesLinks tree verbs.Enable unit r)
     obeyed r (enables_none h) = none r h
 
-disable_obeys : (tree : Tree) (unit : List ℕ) (r : Refused) → ¬ (RefusesLinks tree verbs.Disable unit r)
+disable_obeys : (tree : ReadTree) (unit : List ℕ) (r : Refused) → ¬ (RefusesLinks tree verbs.Disable unit r)
 disable_obeys tree unit r h = elim h [ ]
 
-unmask_obeys : (tree : Tree) (unit : List ℕ) (r : Refused) → ¬ (RefusesLinks tree verbs.Unmask unit r)
+unmask_obeys : (tree : ReadTree) (unit : List ℕ) (r : Refused) → ¬ (RefusesLinks tree verbs.Unmask unit r)
 unmask_obeys tree unit r h = elim h [ ]
 
-mask_becomes : (tree : Tree) (unit : List ℕ) (result : Result Tree Refused) → put_link tree (unit_path Etc unit) (codes "/dev/null") ≡ result → Becomes tree verbs.Mask unit
+mask_becomes : (tree : ReadTree) (unit : List ℕ) (result : Result Tree Refused) → put_link tree.entries (unit_path Etc unit) (codes "/dev/null") ≡ result → Becomes tree verbs.Mask unit
 mask_becomes tree unit (Err r) e = inl (r, masks_none e)
 mask_becomes tree unit (Ok changed) e = inr (obeyed, (changed, masks e))
   where
@@ -642,20 +643,20 @@ mask_becomes tree unit (Ok changed) e = inr (obeyed, (changed, masks e))
     isnt_refused result r e f = cc
 
     obeyed : (r : Refused) → ¬ (RefusesLinks tree verbs.Mask unit r)
-    obeyed r (masks_none f) = isnt_refused (put_link tree (unit_path Etc unit) (codes "/dev/null")) r e f
+    obeyed r (masks_none f) = isnt_refused (put_link tree.entries (unit_path Etc unit) (codes "/dev/null")) r e f
 
 -- each verb is refused for its links, or makes a tree
-pub a_tree_installed : (tree : Tree) (verb : InstallVerb) (unit : List ℕ)
+pub a_tree_installed : (tree : ReadTree) (verb : InstallVerb) (unit : List ℕ)
     → ((r : Refused) × RefusesLinks tree verb unit r) ⊎ (((r : Refused) → ¬ RefusesLinks tree verb unit r) × ((u : Tree) × Installs tree verb unit u))
 a_tree_installed tree verbs.Enable unit = enable_becomes tree unit (links_cause tree unit)
 a_tree_installed tree verbs.Disable unit =
     let made = a_disabled tree unit in
     inr (disable_obeys tree unit, (made.0, disables made.1))
-a_tree_installed tree verbs.Mask unit = mask_becomes tree unit (put_link tree (unit_path Etc unit) (codes "/dev/null")) refl
-a_tree_installed tree verbs.Unmask unit = inr (unmask_obeys tree unit, (unmasked tree unit, unmasks))
+a_tree_installed tree verbs.Mask unit = mask_becomes tree unit (put_link tree.entries (unit_path Etc unit) (codes "/dev/null")) refl
+a_tree_installed tree verbs.Unmask unit = inr (unmask_obeys tree unit, (unmasked tree.entries unit, unmasks))
 
 -- and for its units, or not
-pub units_refused_or_not : (tree : Tree) (verb : InstallVerb) (unit : List ℕ) → OneOrNone (RefusesUnits tree verb unit)
+pub units_refused_or_not : (tree : ReadTree) (verb : InstallVerb) (unit : List ℕ) → OneOrNone (RefusesUnits tree verb unit)
 units_refused_or_not tree verbs.Enable unit = by_cause (bars_cause tree unit)
   where
     none_taken : ((r : Refused) → ¬ NamesLeast (IsBarred tree unit) (λ other r. CannotEnable other (load tree other) r) r) → (r : Refused)
@@ -670,7 +671,7 @@ units_refused_or_not tree verbs.Mask unit = inr (λ r h. elim h [ ])
 units_refused_or_not tree verbs.Unmask unit = inr (λ r h. elim h [ ])
 
 -- so each is refused, or makes a tree
-pub an_install : (tree : Tree) (verb : InstallVerb) (unit : List ℕ) → ((r : Refused) × RefusesInstall tree verb unit r) ⊎ (((r : Refused) → ¬ RefusesInstall tree verb unit r) × ((u : Tree) × Installs tree verb unit u))
+pub an_install : (tree : ReadTree) (verb : InstallVerb) (unit : List ℕ) → ((r : Refused) × RefusesInstall tree verb unit r) ⊎ (((r : Refused) → ¬ RefusesInstall tree verb unit r) × ((u : Tree) × Installs tree verb unit u))
 an_install tree verb unit = by_links (a_tree_installed tree verb unit)
   where
     neither : ((r : Refused) → ¬ RefusesLinks tree verb unit r) → ((r : Refused) → ¬ RefusesUnits tree verb unit r) → (r : Refused) → ¬ RefusesInstall tree verb unit r
@@ -690,11 +691,11 @@ an_install tree verb unit = by_links (a_tree_installed tree verb unit)
 -- ---- how a unit is enabled
 
 -- there is one answer
-pub one_enabling : (tree : Tree) (asked : List ℕ) (a b : Enabling) → IsEnabledAs tree asked a → IsEnabledAs tree asked b → a ≡ b
+pub one_enabling : (tree : ReadTree) (asked : List ℕ) (a b : Enabling) → IsEnabledAs tree asked a → IsEnabledAs tree asked b → a ≡ b
 one_enabling tree asked a b h k =
     h.fits ∙ (ap (enabling_of asked (load tree asked)) (one_answer h.linked k.linked h.decides k.decides) ∙ sym k.fits)
 
-pub an_enabling : (tree : Tree) (asked : List ℕ) → (e : Enabling) × IsEnabledAs tree asked e
+pub an_enabling : (tree : ReadTree) (asked : List ℕ) → (e : Enabling) × IsEnabledAs tree asked e
 an_enabling tree asked =
     let told = test_of (linked_or_not tree asked) in
     (enabling_of asked (load tree asked) told.0, record { linked = told.0; decides = told.1; fits = refl })

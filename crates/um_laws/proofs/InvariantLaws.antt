@@ -2,6 +2,7 @@
 use Rattle.std.proofs.Common.{ℕ, Bool, true, false, cond, List, ◌∷◌, ◌++◌}
 use Rattle.std.specs.Prelude.{⊤}
 use Rattle.std.specs.FinMap as map
+use Rattle.um_model.specs.declared.profile.Profile.{Profile}
 use Rattle.um_model.specs.InputSpellings.{FitEvent}
 use Rattle.um_model.specs.Jobs.{Job}
 use Rattle.um_model.specs.Machine.{State, Command, Event, Carries, FallDown, all_told, told_next, Happens, begins, begun, Settles, rests, begins_next, Changes, AreReset, all_reset, reset_next, units_reset, Does, end_of, with_start_alone, Restarts, isnt_put, ComesDue, Fires, FiresOne, none_due, booted, ends, reports, ticks, boots, TakesEffect, obeys, meets}
@@ -50,7 +51,7 @@ module _ (t : ℕ) (Inv : State → Type 0)
   kept_settling s actions v (begins_next {u = u} {first = first} {more = more} j next h later) inv =
       kept_settling u more v later (kept_happening j.unit (begins j.kind) (begun s j) first u (begins_fit j.kind) h (begins_so s j inv))
 
-  module _ (restarts_so : (s : State) (unit : List ℕ) → Inv s → Inv (with_start_alone s unit)) (changes_so : (s : State) (command : Command) (u : State) → Changes s command u → Inv s → Inv u)
+  module _ (restarts_so : (s : State) (unit : List ℕ) → Inv s → Inv (with_start_alone s unit)) (changes_so : (profile : Profile) (s : State) (command : Command) (u : State) → Changes profile s command u → Inv s → Inv u)
       (boots_so : (s : State) (boot : List ℕ) → Inv s → Inv (booted boot s)) where
     kept_restart : (s : State) (unit : List ℕ) (v : State) → Restarts s unit v → Inv s → Inv v
     kept_restart s unit v (Restarts.puts none free) inv = restarts_so s unit inv
@@ -66,12 +67,12 @@ module _ (t : ℕ) (Inv : State → Type 0)
         kept_firing (map.remove timers n) p z v l (kept_settling u y p k (kept_due s n x u h inv))
     kept_firing timers s actions v (Fires.fires_next {more = z} d n least due (FiresOne.is_gone isnt) l) inv = kept_firing (map.remove timers n) s z v l inv
 
-    kept_doing : (s : State) (command : Command) (actions : List Action) (u : State) → Does t s command actions u → Inv s → Inv u
-    kept_doing s command actions u (Does.changes h) inv = changes_so s command u h inv
+    kept_doing : {profile : Profile} (s : State) (command : Command) (actions : List Action) (u : State) → Does profile t s command actions u → Inv s → Inv u
+    kept_doing s command actions u (Does.changes h) inv = changes_so _ s command u h inv
     kept_doing s command actions u (Does.resets {asked = asked} h) inv = kept_resets (units_reset s asked) s actions u h inv
 
     -- all that an input has for its effect
-    pub kept_taking : (s : State) (event : Event) (actions : List Action) (v : State) → FitEvent event → TakesEffect t s event actions v → Inv s → Inv v
+    pub kept_taking : {profile : Profile} (s : State) (event : Event) (actions : List Action) (v : State) → FitEvent event → TakesEffect profile t s event actions v → Inv s → Inv v
     kept_taking s event actions v fit (obeys {command = command} {first = first} {more = more} {u = u} none does h) inv = kept_settling u more v h (kept_doing s command first u does inv)
     kept_taking s event actions v fit (meets {happening = happening} effect (ends {number = number} {end = end} {first = x} {more = y} {u = u} unit is h k)) inv =
         kept_settling u y v k (kept_happening unit (end_of (state_of_unit s.units unit) number end) s x u (end_fit (is_number number (state_of_unit s.units unit).main) end fit.1) h inv)

@@ -4,6 +4,7 @@ use Rattle.std.specs.FinMap as map
 use Rattle.std.proofs.lemmas.Bool.{cases_lt, and_parts, cond-true}
 use Rattle.std.proofs.lemmas.List.Elements.{All-contains}
 use Rattle.std.proofs.lemmas.Option.{none-some, same_Some}
+use Rattle.um_model.specs.Profiles.{ReadTree}
 use Rattle.um_model.specs.Dependencies.{Links, HasEntry, Gives, Declares, Mentions, IsNamed, IsKnown, unit_limit, KnowsTooMany, Depends, IsDeclared, Declines, PullsIn, Orders, Precedes}
 use Rattle.um_model.specs.Dependencies as model
 use Rattle.um_model.specs.Names.{is_template, is_unit_name, suffix_of}
@@ -39,7 +40,7 @@ target_suffix unit = (by (suffix_of unit), λ e. ap is_target_type e)
 
 -- ---- more is known where more is named
 
-module _ (tree : Tree) (Other Extra : List ℕ → Type 0) (within : (x : List ℕ) → Other x → IsKnown tree Extra x) where
+module _ (tree : ReadTree) (Other Extra : List ℕ → Type 0) (within : (x : List ℕ) → Other x → IsKnown tree Extra x) where
   named_grows : (x : List ℕ) → IsNamed tree Other x → IsKnown tree Extra x
   named_grows x (model.has entry) = first (model.has entry)
   named_grows x (model.holder links) = first (model.holder links)
@@ -97,49 +98,49 @@ there_entered tree x h =
     not_true true e = sym e
     not_true false e = refl
 
-module _ (tree : Tree) (x : List ℕ) where
+module _ (tree : ReadTree) (x : List ℕ) where
   itself_or_not : (place : Place) → IsDecided (place ≡ Itself)
   itself_or_not Itself = inl refl
   itself_or_not (DropIn name) = inr (λ is. cc)
   itself_or_not (Wants other) = inr (λ is. cc)
   itself_or_not (Requires other) = inr (λ is. cc)
 
-  entry_at_or_not : (path : List ℕ) → IsDecided (IsEntryAt tree x path)
+  entry_at_or_not : (path : List ℕ) → IsDecided (IsEntryAt tree.entries x path)
   entry_at_or_not path = by_parts (path_parts path) refl
     where
-      by_parts : (o : Option PathParts) → path_parts path ≡ o → IsDecided (IsEntryAt tree x path)
+      by_parts : (o : Option PathParts) → path_parts path ≡ o → IsDecided (IsEntryAt tree.entries x path)
       by_parts None served = inr (λ h. none-some h.parts (sym served ∙ h.served))
       by_parts (Some parts) served =
-          decided_as (λ (h : (is_some (map.get tree path) ≡ true) × ((parts.place ≡ Itself) × ((parts.unit ≡ x) × (is_template x ≡ false)))).
+          decided_as (λ (h : (is_some (map.get tree.entries path) ≡ true) × ((parts.place ≡ Itself) × ((parts.unit ≡ x) × (is_template x ≡ false)))).
           record { parts = parts; held = h.0; served = served; own = h.1.0; named = h.1.1.0; single = h.1.1.1 })
           (λ h. let same = same_Some h.parts parts (sym h.served ∙ served) in
           (h.held, (subst (λ (p : PathParts). p.place ≡ Itself) same h.own, (subst (λ (p : PathParts). p.unit ≡ x) same h.named, h.single))))
-          (both_decided (passes_or_not (is_some (map.get tree path)) true)
+          (both_decided (passes_or_not (is_some (map.get tree.entries path)) true)
           (both_decided (itself_or_not parts.place) (both_decided (same_name parts.unit x) (passes_or_not (is_template x) false))))
 
-  has_entry_or_not : IsDecided (HasEntry tree x)
+  has_entry_or_not : IsDecided (HasEntry tree.entries x)
   has_entry_or_not =
-      decided_as (λ any. entry_there tree x any.0 any.2)
-      (λ h. let found = there_entered tree x h in (found.0, among_keys tree found.0 found.1.held, found.1))
-      (any_decided (IsEntryAt tree x) entry_at_or_not (map.keys tree))
+      decided_as (λ any. entry_there tree.entries x any.0 any.2)
+      (λ h. let found = there_entered tree.entries x h in (found.0, among_keys tree.entries found.0 found.1.held, found.1))
+      (any_decided (IsEntryAt tree.entries x) entry_at_or_not (map.keys tree.entries))
 
   -- x holds a link of this kind
   abbrev Holds : DependencyKind → Type 0
-  Holds kind = AnyOf (λ y. Links tree kind x y) names_cover.0
+  Holds kind = AnyOf (λ y. Links tree.entries kind x y) names_cover.0
 
   -- a link of this kind names x
   abbrev IsHeld : DependencyKind → Type 0
-  IsHeld kind = AnyOf (λ holder. Links tree kind holder x) names_cover.0
+  IsHeld kind = AnyOf (λ holder. Links tree.entries kind holder x) names_cover.0
 
   holds_or_not : IsDecided (AnyOf Holds all_kinds)
-  holds_or_not = any_decided Holds (λ kind. any_decided (λ y. Links tree kind x y) (λ y. links_or_not tree kind x y) names_cover.0) all_kinds
+  holds_or_not = any_decided Holds (λ kind. any_decided (λ y. Links tree.entries kind x y) (λ y. links_or_not tree.entries kind x y) names_cover.0) all_kinds
 
   held_or_not : IsDecided (AnyOf IsHeld all_kinds)
-  held_or_not = any_decided IsHeld (λ kind. any_decided (λ holder. Links tree kind holder x) (λ holder. links_or_not tree kind holder x) names_cover.0) all_kinds
+  held_or_not = any_decided IsHeld (λ kind. any_decided (λ holder. Links tree.entries kind holder x) (λ holder. links_or_not tree.entries kind holder x) names_cover.0) all_kinds
 
   module _ (Extra : List ℕ → Type 0) where
     abbrev NamedBy : Type 0
-    NamedBy = HasEntry tree x ⊎ (AnyOf Holds all_kinds ⊎ (AnyOf IsHeld all_kinds ⊎ Extra x))
+    NamedBy = HasEntry tree.entries x ⊎ (AnyOf Holds all_kinds ⊎ (AnyOf IsHeld all_kinds ⊎ Extra x))
 
     to_named : NamedBy → IsNamed tree Extra x
     to_named (inl h) = model.has h
@@ -153,31 +154,31 @@ module _ (tree : Tree) (x : List ℕ) where
       where
         from_named : IsNamed tree Extra x → NamedBy
         from_named (model.has h) = inl h
-        from_named (model.holder {kind = kind} {y = y} links) = inr (inl (kind, among_kinds kind, (y, names_cover.1 y (names_of_link tree kind x y links).1, links)))
+        from_named (model.holder {kind = kind} {y = y} links) = inr (inl (kind, among_kinds kind, (y, names_cover.1 y (names_of_link tree.entries kind x y links).1, links)))
         from_named (model.link {kind = kind} {x = holder} links) =
-            inr (inr (inl (kind, among_kinds kind, (holder, names_cover.1 holder (names_of_link tree kind holder x links).0, links))))
+            inr (inr (inl (kind, among_kinds kind, (holder, names_cover.1 holder (names_of_link tree.entries kind holder x links).0, links))))
         from_named (model.extra more) = inr (inr (inr more))
 
 -- ---- what is known is decided, where a list has just what is named besides the tree
 
-module _ (tree : Tree) (Extra : List ℕ → Type 0) (extras : List (List ℕ)) where
+module _ (tree : ReadTree) (Extra : List ℕ → Type 0) (extras : List (List ℕ)) where
   -- among those, or a unit name
   abbrev ExtraOrName : List ℕ → Type 0
   ExtraOrName x = Among extras x ⊎ (is_unit_name x ≡ true)
 
   named_covered : ((x : List ℕ) → Extra x → Among extras x) → (x : List ℕ) → IsNamed tree Extra x → ExtraOrName x
   named_covered within x (model.has h) = inr (and_parts (is_unit_name x) (not (is_template x)) h.plain).0
-  named_covered within x (model.holder {kind = kind} {y = y} links) = inr (names_of_link tree kind x y links).0
-  named_covered within x (model.link {kind = kind} {x = holder} links) = inr (names_of_link tree kind holder x links).1
+  named_covered within x (model.holder {kind = kind} {y = y} links) = inr (names_of_link tree.entries kind x y links).0
+  named_covered within x (model.link {kind = kind} {x = holder} links) = inr (names_of_link tree.entries kind holder x links).1
   named_covered within x (model.extra more) = inl (within x more)
 
-  own_covered : (a : List ℕ) → ExtraOrName a → ExtraOrName (unit_named tree a)
-  own_covered a (inl among) = by_name (named_or_asked tree a)
+  own_covered : (a : List ℕ) → ExtraOrName a → ExtraOrName (unit_named tree.entries a)
+  own_covered a (inl among) = by_name (named_or_asked tree.entries a)
     where
-      by_name : AskedOrName a (unit_named tree a) → ExtraOrName (unit_named tree a)
+      by_name : AskedOrName a (unit_named tree.entries a) → ExtraOrName (unit_named tree.entries a)
       by_name (inl asked) = inl (subst (Among extras) (sym asked) among)
       by_name (inr is) = inr is
-  own_covered a (inr is) = inr (named_by_name tree a is)
+  own_covered a (inr is) = inr (named_by_name tree.entries a is)
 
   mentioned_covered : (a b : List ℕ) → ExtraOrName a → Mentions tree a b → ExtraOrName b
   mentioned_covered a b covered mentions = by_name (names_mentioned tree a b mentions)

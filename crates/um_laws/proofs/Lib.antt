@@ -33,6 +33,7 @@ pub mod TransitionLaws
 pub mod StoreLaws
 pub mod LogLaws
 pub mod ImageLaws
+pub mod CountedLaws
 pub mod StandsLaws
 pub mod LivesLaws
 pub mod UnreadLaws

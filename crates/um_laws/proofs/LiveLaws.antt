@@ -1,6 +1,7 @@
 -- The machine is never stuck: after any inputs a pending job waits for a live process.
 use Rattle.std.proofs.Common.{ℕ, ◌≡◌, ◌≢◌, ◌⊎◌, ◌∙◌, ◌||◌, Bool, true, false, true≢false, cond, is_some, List, ◌∷◌, ◌++◌, Option, Some, None, unwrap_or, refl, sym, ap, subst, subst₂, inl, inr}
 use Rattle.std.specs.FinMap as map
+use Rattle.um_model.specs.declared.profile.Profile.{Profile}
 use Rattle.um_model.specs.Service.{Action, ByUnit, is_number, active_state_of, dead_unit, state_of_unit}
 use Rattle.um_model.specs.Settings.{ServiceSettings}
 use Rattle.um_model.specs.Ends.{is_starting, is_stopping}
@@ -180,7 +181,7 @@ plan_fits s named demand after plan fits unit =
     (command_fits u j (jobs_for c.0 (active_state_of u.sub) j) (counted_keeps c.0 (active_state_of u.sub) j) (fits unit))
 
 -- what a command does leaves all fitting
-changed_fits : (s : State) (command : Command) (u : State) → Changes s command u → AllFit s → AllFit u
+changed_fits : {profile : Profile} (s : State) (command : Command) (u : State) → Changes profile s command u → AllFit s → AllFit u
 changed_fits s command u (puts e) fits = fits
 changed_fits s command u (links e) fits = fits
 changed_fits s command u (removes e) fits = fits
@@ -354,11 +355,11 @@ module _ (keeps : (s : ServiceSettings) (c : Around) (u : UnitState) (e : UnitEv
   followed_fits t s happening actions v (ticks timers are h) calm = fired_fits t timers s actions v h calm
   followed_fits t s happening actions v (boots {boot = boot}) calm = (nothing_fits, nothing_ready (IsBefore (booted boot s).loaded) map.empty)
 
-  does_fit : (t : ℕ) (s : State) (command : Command) (actions : List Action) (u : State) → Does t s command actions u → AllFit s → AllFit u
+  does_fit : {profile : Profile} (t : ℕ) (s : State) (command : Command) (actions : List Action) (u : State) → Does profile t s command actions u → AllFit s → AllFit u
   does_fit t s command actions u (Does.changes h) fits = changed_fits s command u h fits
   does_fit t s command actions u (Does.resets {asked = asked} h) fits = reset_fits t (units_reset s asked) s actions u h fits
 
-  taken_fits : (t : ℕ) (s : State) (event : Event) (actions : List Action) (v : State) → TakesEffect t s event actions v → AllFit s × IsStill s → AllFit v × IsStill v
+  taken_fits : {profile : Profile} (t : ℕ) (s : State) (event : Event) (actions : List Action) (v : State) → TakesEffect profile t s event actions v → AllFit s × IsStill s → AllFit v × IsStill v
   taken_fits t s event actions v (obeys {command = command} {first = first} {more = more} {u = u} free h k) calm =
       settled_fits t u more v k (does_fit t s command first u h calm.0)
   taken_fits t s event actions v (meets {happening = happening} effect h) calm = followed_fits t s happening actions v h calm

@@ -9,6 +9,8 @@ use Rattle.um_model.specs.Names.{is_unit_name, suffix_of, instance_of, template_
 use Rattle.um_model.specs.Resolution.{Resolution, AtFile, AtNoFile, AtMask, Nowhere, unit_path, held_in, first_held, unless_to_template, held, is_mask, is_of_same_type, is_served_type, next_name, resolution_at, resolved, hop_limit, resolution_of, UnitFile, drop_in_folders, drop_in_at, drop_ins_in, drop_ins_of, files_at}
 use Rattle.um_model.specs.Tree.{Tree, Entry, File, Link, behind}
 use Rattle.um_model.specs.Units.{Found, source_of, loading_by_file, unit_by, loading_at, load}
+use Rattle.um_model.specs.Profiles.{read_by}
+use Rattle.um_model.specs.declared.profile.Profile.{Profile}
 use Rattle.um_model.specs.declared.tree.Layer.{Layer}
 use Rattle.um_model.specs.declared.tree.Layer.TheVariants.{Etc, Run, Lib}
 use Rattle.um_model.proofs.NamesLaws.{is_unit_name-template}
@@ -129,7 +131,7 @@ module _ (u tree : Tree) (same : LooksAs u tree) where
   same_loading (AtMask unit) = refl
   same_loading Nowhere = refl
 
-  -- each unit loads as in the other
-  pub loads_as : (unit : List ℕ) → is_unit_name unit ≡ true → load u unit ≡ load tree unit
+  -- each unit loads as in the other, by whatever profile both are read
+  pub loads_as : (profile : Profile) (unit : List ℕ) → is_unit_name unit ≡ true → load (read_by profile u) unit ≡ load (read_by profile tree) unit
   unfolding load
-  loads_as unit is = ap (loading_at u) (same_resolution unit is) ∙ same_loading (resolution_of tree unit)
+  loads_as profile unit is = ap (loading_at u) (same_resolution unit is) ∙ same_loading (resolution_of tree unit)

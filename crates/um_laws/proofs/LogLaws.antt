@@ -5,10 +5,11 @@ use Rattle.std.proofs.lemmas.Bool.{cases_eq}
 use Rattle.std.proofs.lemmas.List.{take-append-drop, length-drop, length-take, nil_from_length, drop-drop}
 use Rattle.byteorder.specs.Endian.{big_number}
 use Rattle.um_model.specs.Disk.{Sector, Image}
+use Rattle.um_model.specs.declared.layout.Format.{Format}
 use Rattle.um_model.specs.declared.layout.Layout.{Layout}
 use Rattle.um_model.specs.declared.layout.Slot.TheVariants.{A, B}
-use Rattle.um_model.specs.Store.{log_start, part_count, part_of, IsRecord, AreRecords, stops, goes_on, sectors_of, placed, IsPart, IsLogRead, begins, part_behind, record_behind, IsSlotRead, head, behind}
-use Rattle.um_laws.proofs.StoreLaws.{log_size, log_payload, same_record, body_within}
+use Rattle.um_model.specs.Store.{first_log_sector, part_count, part_of, IsRecord, AreRecords, stops, goes_on, sectors_of, placed, IsPart, IsLogRead, begins, part_behind, record_behind, IsSlotRead, head, behind}
+use Rattle.um_laws.proofs.StoreLaws.{log_size, log_payload, longest_few, same_record, body_within}
 
 -- ---- one reading
 
@@ -32,22 +33,22 @@ same_parts (suc n) x y fx fy same =
     sym (take-append-drop 480 x) ∙ (λ i. front i ++ rest i) ∙ take-append-drop 480 y
 
 -- a record's first sector tells its length
-pub record_size : {layout : Layout} {generation number at : ℕ} {image : Image} {bytes : List ℕ} → IsRecord layout generation image number at bytes → big_number 4 (drop 28 (image at)) ≡ length bytes
-record_size {generation} {number} {at} {image} {bytes} is =
+pub record_size : {format : Format} {layout : Layout} {generation number at : ℕ} {image : Image} {bytes : List ℕ} → IsRecord format layout generation image number at bytes → big_number 4 (drop 28 (image at)) ≡ length bytes
+record_size {format} {generation} {number} {at} {image} {bytes} is =
     let here : at ≡ at + 0 = omega arith in
     let some = is.some in
     let short = is.short in
-    ap (λ (s : Sector). big_number 4 (drop 28 s)) (ap image here ∙ is.parts 0 (omega (arith, some))) ∙ log_size generation number 0 (length bytes) (part_of bytes 0) (omega (arith, short))
+    ap (λ (s : Sector). big_number 4 (drop 28 s)) (ap image here ∙ is.parts 0 (omega (arith, some))) ∙ log_size generation number 0 (length bytes) (part_of bytes 0) (omega (arith, short, longest_few format))
 
 -- a part's sector tells its bytes
-pub part_bytes : {layout : Layout} {generation number at : ℕ} {image : Image} {bytes : List ℕ} → IsRecord layout generation image number at bytes
+pub part_bytes : {format : Format} {layout : Layout} {generation number at : ℕ} {image : Image} {bytes : List ℕ} → IsRecord format layout generation image number at bytes
     → (part n : ℕ) → part < part_count (length bytes) → min 480 (length bytes - 480 * part) ≡ n → take n (drop 32 (image (at + part))) ≡ part_of bytes part
 part_bytes {generation} {number} {at} {image} {bytes} is part n below long =
     let size : n ≡ length (part_of bytes part) = sym long ∙ sym (length-part bytes part) in
     (λ i. take (size i) (drop 32 (is.parts part below i))) ∙ log_payload generation number part (length bytes) (part_of bytes part)
 
 -- one record at most stands at a place
-pub one_record : {layout : Layout} {generation number at : ℕ} {image : Image} {x y : List ℕ} → IsRecord layout generation image number at x → IsRecord layout generation image number at y → x ≡ y
+pub one_record : {format : Format} {layout : Layout} {generation number at : ℕ} {image : Image} {x y : List ℕ} → IsRecord format layout generation image number at x → IsRecord format layout generation image number at y → x ≡ y
 one_record {x} {y} a b =
     let size : length x ≡ length y = sym (record_size a) ∙ record_size b in
     same_parts (part_count (length x)) x y (omega arith) (omega (arith, size))
@@ -55,25 +56,25 @@ one_record {x} {y} a b =
     ∙ part_bytes b part (min 480 (length x - 480 * part)) (omega (arith, below, size)) (ap (λ (n : ℕ). min 480 (n - 480 * part)) (sym size)))
 
 -- The records from a place on have one reading.
-pub same_list : {layout : Layout} {generation : ℕ} {image : Image} (number at : ℕ) (xs ys : List (List ℕ)) → AreRecords layout generation image number at xs → AreRecords layout generation image number at ys → xs ≡ ys
+pub same_list : {format : Format} {layout : Layout} {generation : ℕ} {image : Image} (number at : ℕ) (xs ys : List (List ℕ)) → AreRecords format layout generation image number at xs → AreRecords format layout generation image number at ys → xs ≡ ys
 same_list number at [] [] (stops nothing) (stops more) = refl
 same_list number at [] (y ∷ ys) (stops nothing) (goes_on is rest) = absurd (nothing y is)
 same_list number at (x ∷ xs) [] (goes_on is rest) (stops nothing) = absurd (nothing x is)
-same_list {layout} {generation} {image} number at (x ∷ xs) (y ∷ ys) (goes_on is rest) (goes_on there behind_it) =
+same_list {format} {layout} {generation} {image} number at (x ∷ xs) (y ∷ ys) (goes_on is rest) (goes_on there behind_it) =
     let same = one_record is there in
-    let tail = same_list (suc number) (at + part_count (length x)) xs ys rest (subst (λ (b : List ℕ). AreRecords layout generation image (suc number) (at + part_count (length b)) ys) (sym same) behind_it) in
+    let tail = same_list (suc number) (at + part_count (length x)) xs ys rest (subst (λ (b : List ℕ). AreRecords format layout generation image (suc number) (at + part_count (length b)) ys) (sym same) behind_it) in
     λ i. same i ∷ tail i
 
 -- ---- what the reading of the records doesn't look at
 
 -- a record's sector is one of its parts
-is_part : {layout : Layout} {generation number at : ℕ} {image : Image} {bytes : List ℕ} → IsRecord layout generation image number at bytes → (part : ℕ) → part < part_count (length bytes)
+is_part : {format : Format} {layout : Layout} {generation number at : ℕ} {image : Image} {bytes : List ℕ} → IsRecord format layout generation image number at bytes → (part : ℕ) → part < part_count (length bytes)
     → IsPart generation number part (length bytes) (image (at + part))
 is_part {bytes} is part below = record { payload = part_of bytes part; long = length-part bytes part; is = is.parts part below }
 
-module _ (layout : Layout) (generation : ℕ) (a b : Image) where
+module _ (format : Format) (layout : Layout) (generation : ℕ) (a b : Image) where
   -- all sectors of a record are read
-  record_read : {number at : ℕ} {bytes : List ℕ} → IsRecord layout generation a number at bytes → ((j : ℕ) → IsLogRead layout generation a number at j → b j ≡ a j)
+  record_read : {number at : ℕ} {bytes : List ℕ} → IsRecord format layout generation a number at bytes → ((j : ℕ) → IsLogRead format layout generation a number at j → b j ≡ a j)
       → (part : ℕ) → part < part_count (length bytes) → b (at + part) ≡ a (at + part)
   record_read {number} {at} {bytes} is same zero below =
       let here : at + 0 ≡ at = omega arith in
@@ -83,7 +84,7 @@ module _ (layout : Layout) (generation : ℕ) (a b : Image) where
       same (at + suc part) (part_behind (length bytes) part is.short below is.within (λ i low. is_part is i (omega (arith, low, below))))
 
   -- and where the other image has a record, it was read to its end
-  read_along : {number at : ℕ} {bytes : List ℕ} → IsRecord layout generation b number at bytes → ((j : ℕ) → IsLogRead layout generation a number at j → b j ≡ a j)
+  read_along : {number at : ℕ} {bytes : List ℕ} → IsRecord format layout generation b number at bytes → ((j : ℕ) → IsLogRead format layout generation a number at j → b j ≡ a j)
       → (most part : ℕ) → part ≤ most → part < part_count (length bytes) → a (at + part) ≡ b (at + part)
   read_along {number} {at} {bytes} is same most zero low below =
       let here : at + 0 ≡ at = omega arith in
@@ -95,8 +96,8 @@ module _ (layout : Layout) (generation : ℕ) (a b : Image) where
       (λ i small. subst (IsPart generation number i (length bytes)) (sym (read_along is same most i (omega (arith, small, low)) (omega (arith, small, below)))) (is_part is i (omega (arith, small, below))))))
 
   -- Images that agree in all sectors that the reading looks at have the same records.
-  pub unread_records : (number at : ℕ) (records : List (List ℕ)) → ((j : ℕ) → IsLogRead layout generation a number at j → b j ≡ a j)
-      → AreRecords layout generation a number at records → AreRecords layout generation b number at records
+  pub unread_records : (number at : ℕ) (records : List (List ℕ)) → ((j : ℕ) → IsLogRead format layout generation a number at j → b j ≡ a j)
+      → AreRecords format layout generation a number at records → AreRecords format layout generation b number at records
   unread_records number at [] same (stops nothing) =
       stops (λ bytes is. nothing bytes (same_record is (λ part below. read_along is same part part (omega arith) below)))
   unread_records number at (bytes ∷ records) same (goes_on is rest) =
@@ -105,11 +106,11 @@ module _ (layout : Layout) (generation : ℕ) (a b : Image) where
 -- ---- a record more
 
 -- the slots lie before the log
-pub read_below : (layout : Layout) (generation : ℕ) (image : Image) (j : ℕ) → IsSlotRead layout image j → j < log_start layout generation
-read_below layout generation image j (head A) = omega (arith, layout.slot_least)
-read_below layout generation image j (head B) = omega (arith, layout.slot_least)
-read_below layout generation image j (behind {slot = A} newest i below) = let inside = body_within layout newest.size i newest.header.fits below in omega (arith, inside)
-read_below layout generation image j (behind {slot = B} newest i below) = let inside = body_within layout newest.size i newest.header.fits below in omega (arith, inside)
+pub read_below : (layout : Layout) (image : Image) (j : ℕ) → IsSlotRead layout image j → j < first_log_sector layout
+read_below layout image j (head A) = omega (arith, layout.slot_least)
+read_below layout image j (head B) = omega (arith, layout.slot_least)
+read_below layout image j (behind {slot = A} newest i below) = let inside = body_within layout newest.size i newest.header.fits below in omega (arith, inside)
+read_below layout image j (behind {slot = B} newest i below) = let inside = body_within layout newest.size i newest.header.fits below in omega (arith, inside)
 
 -- all of them, or one that isn't
 pub all_or_one : (n : ℕ) (P Q : ℕ → Type 0) → ((i : ℕ) → i < n → P i ⊎ Q i) → ((i : ℕ) → i < n → P i) ⊎ ((i : ℕ) × (i < n) × Q i)
@@ -123,13 +124,13 @@ all_or_one (suc n) P Q each = ⊎_elim
     (all_or_one n P Q (λ i below. each i (omega (arith, below))))
 
 -- what agrees up to the end of records has them, and behind them what it has there
-pub records_front : {layout : Layout} {generation : ℕ} {a b : Image} (number at : ℕ) (records : List (List ℕ)) (more : List (List ℕ)) (count next : ℕ) → AreRecords layout generation a number at records
+pub records_front : {format : Format} {layout : Layout} {generation : ℕ} {a b : Image} (number at : ℕ) (records : List (List ℕ)) (more : List (List ℕ)) (count next : ℕ) → AreRecords format layout generation a number at records
     → ((j : ℕ) → at ≤ j → j < at + sectors_of records → b j ≡ a j) → count ≡ number + length records → next ≡ at + sectors_of records
-    → AreRecords layout generation b count next more → AreRecords layout generation b number at (records ++ more)
-records_front {layout} {generation} {a} {b} number at [] more count next (stops nothing) same counts place behind_it =
+    → AreRecords format layout generation b count next more → AreRecords format layout generation b number at (records ++ more)
+records_front {format} {layout} {generation} {a} {b} number at [] more count next (stops nothing) same counts place behind_it =
     let k : count ≡ number = omega (arith, counts) in
     let m : next ≡ at = omega (arith, place) in
-    subst (λ (n : ℕ). AreRecords layout generation b n at more) k (subst (λ (n : ℕ). AreRecords layout generation b count n more) m behind_it)
+    subst (λ (n : ℕ). AreRecords format layout generation b n at more) k (subst (λ (n : ℕ). AreRecords format layout generation b count n more) m behind_it)
 records_front number at (bytes ∷ records) more count next (goes_on is rest) same counts place behind_it =
     goes_on (same_record is (λ part below. same (at + part) (omega arith) (omega (arith, below))))
     (records_front (suc number) (at + part_count (length bytes)) records more count next rest (λ j low high. same j (omega (arith, low)) (omega (arith, high))) (omega (arith, counts)) (omega (arith, place)) behind_it)

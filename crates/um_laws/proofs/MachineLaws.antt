@@ -4,6 +4,8 @@ use Rattle.std.proofs.lemmas.Option.{none-some, same_Some}
 use Rattle.std.specs.FinMap as map
 use Rattle.std.specs.FinMap.{slice_cmp-IsAntisymmetric, nat_cmp-IsAntisymmetric}
 use Rattle.std.specs.Cmp.Lexicographic.{nat_list_cmp_total}
+use Rattle.um_model.specs.Profiles.{ReadTree, read_by, current}
+use Rattle.um_model.specs.declared.profile.Profile.{Profile}
 use Rattle.um_model.specs.Refusals.{Refused, FirstCause, at_first, at_second, too_large}
 use Rattle.um_model.specs.Tree.{Tree, put_file, put_link, remove_at}
 use Rattle.um_model.specs.Least.{IsNamedBefore}
@@ -12,7 +14,7 @@ use Rattle.um_model.specs.Jobs.{Job, IsReady, IsToldBefore, by_name, stop_first,
 use Rattle.um_model.specs.Plan.{IsPlan, CausesOfPlan, NamesCycle, units_of}
 use Rattle.um_model.specs.Timers.{Timers}
 use Rattle.um_model.specs.Transitions.{HasNumber}
-use Rattle.um_model.specs.Machine.{State, Command, PutFile, PutLink, Remove, DaemonReload, ForUnit, Cancel, ResetFailed, Install, Happening, ProcessEnded, ProcessExecuted, Tick, Booted, Event, Input, Reply, EnabledAs, Listed, Refusal, Query, IsReplyTo, shows, tells_activity, tells_failure, tells_files, tells_enabling, unit_listed, lists_units, lists_jobs, Becomes, alone, along, Carries, change_of, settings_in, around, FallsWith, AreByName, FallDown, all_told, told_next, Happens, happens, begins, begun, IsBefore, Settles, begins_next, IsProcessOf, AreDeadlines, end_of, Restarts, isnt_put, ComesDue, restarts, Fires, FiresOne, none_due, AwaitsReport, IsHeld, scene_at, IsCrowded, IsNotThere, IsMissing, PlansTooMany, by_name, by_jobs, HasNoPlan, HasNoneWaiting, CausesOfLoad, LoadsNone, active_asked, demand_of, unit_asked, Refuses, Changes, puts, links, removes, reloads, plans, demands_nothing, cancels, installs, units_reset, AreReset, all_reset, reset_next, Does, changes, resets, Follows, ends, reports, ticks, boots, HasNoEffect, is_over, isnt_awaited, is_idle, is_known, TakesEffect, obeys, meets, HasNoRoom, moment_of, Step, refused, crowded_out, idle, taken, reply_after, Run, goes}
+use Rattle.um_model.specs.Machine.{as_loaded, State, Command, PutFile, PutLink, Remove, DaemonReload, ForUnit, Cancel, ResetFailed, Install, Happening, ProcessEnded, ProcessExecuted, Tick, Booted, Event, Input, Reply, EnabledAs, Listed, Refusal, Query, IsReplyTo, shows, tells_activity, tells_failure, tells_files, tells_enabling, unit_listed, lists_units, lists_jobs, Becomes, alone, along, Carries, change_of, settings_in, around, FallsWith, AreByName, FallDown, all_told, told_next, Happens, happens, begins, begun, IsBefore, Settles, begins_next, IsProcessOf, AreDeadlines, end_of, Restarts, isnt_put, ComesDue, restarts, Fires, FiresOne, none_due, AwaitsReport, IsHeld, scene_at, IsCrowded, IsNotThere, IsMissing, PlansTooMany, by_name, by_jobs, HasNoPlan, HasNoneWaiting, CausesOfLoad, LoadsNone, active_asked, demand_of, unit_asked, Refuses, Changes, puts, links, removes, reloads, plans, demands_nothing, cancels, installs, units_reset, AreReset, all_reset, reset_next, Does, changes, resets, Follows, ends, reports, ticks, boots, HasNoEffect, is_over, isnt_awaited, is_idle, is_known, TakesEffect, obeys, meets, HasNoRoom, moment_of, Step, refused, crowded_out, idle, taken, reply_after, Run, goes}
 use Rattle.um_model.specs.Outcomes.{NamesACycle, AlikeBut, the_same, both_name, IsSameOutcome}
 use Rattle.um_model.specs.declared.commands.JobMode.{JobMode}
 use Rattle.um_model.specs.declared.commands.UnitVerb.{UnitVerb}
@@ -181,7 +183,7 @@ one_fired t timers s a b v w (Fires.fires_next {u = p} {first = x} {more = z} d 
 
 -- ---- a command has one refusal, and changes the state in one way
 
-one_crowded : (tree : Tree) (Extra : List ℕ → Type 0) → AreOneBut (IsCrowded tree Extra)
+one_crowded : (tree : ReadTree) (Extra : List ℕ → Type 0) → AreOneBut (IsCrowded tree Extra)
 one_crowded tree Extra r q h k = inl (h.refusal ∙ sym k.refusal)
 
 one_cycle : (Before : List ℕ → List ℕ → Type 0) (pending : ByUnit UnitJobs) → AreOneBut (NamesCycle Before pending)
@@ -224,41 +226,42 @@ module _ (s : State) (verb : UnitVerb) (asked : List ℕ) where
   too_many_told r (by_name h) = h.refusal
   too_many_told r (by_jobs demanded plan h) = h.refusal
 
-one_planned : (s : State) (verb : UnitVerb) (asked : List ℕ) (mode : JobMode) → AreOneBut (Refuses s (ForUnit verb asked mode))
-one_planned s verb asked mode =
+one_planned : (profile : Profile) (s : State) (verb : UnitVerb) (asked : List ℕ) (mode : JobMode) → AreOneBut (Refuses profile s (ForUnit verb asked mode))
+one_planned profile s verb asked mode =
     first_but (PlansTooMany s verb asked) _ (λ r q h k. inl (too_many_told s verb asked r h ∙ sym (too_many_told s verb asked q k)))
     (first_but (IsNotThere s verb asked) (HasNoPlan s verb asked mode) (λ r q h k. inl ((missing_there h).refusal ∙ sym (missing_there k).refusal)) (refused_in_one_way s verb asked mode))
 
-one_loaded : (s : State) (tree : Tree) → AreOneBut (CausesOfLoad s tree)
+one_loaded : (s : State) (tree : ReadTree) → AreOneBut (CausesOfLoad s tree)
 one_loaded s tree = first_but _ _ (one_crowded tree (IsHeld s)) (one_cycle (IsBefore tree) s.pending)
 
-one_unloaded : (s : State) (verb : InstallVerb) (unit : List ℕ) (Cause : Tree → Refused → Type 0) → ((tree : Tree) → AreOneBut (Cause tree))
-    → AreOneBut (LoadsNone s verb unit Cause)
-one_unloaded s verb unit Cause one r q h k =
-    one h.tree r q h.cause (subst (λ x. Cause x q) (one_install s.tree verb unit k.tree h.tree k.installs h.installs) k.cause)
+one_unloaded : (profile : Profile) (s : State) (verb : InstallVerb) (unit : List ℕ) (Cause : ReadTree → Refused → Type 0) → ((tree : ReadTree) → AreOneBut (Cause tree))
+    → AreOneBut (LoadsNone profile s verb unit Cause)
+one_unloaded profile s verb unit Cause one r q h k =
+    one (as_loaded profile s h.tree) r q h.cause
+    (subst (λ x. Cause (as_loaded profile s x) q) (one_install (read_by profile s.tree) verb unit k.tree h.tree k.installs h.installs) k.cause)
 
-one_cancelled : (s : State) (asked : List ℕ) (r q : Refused) → Refuses s (Cancel asked) r → Refuses s (Cancel asked) q → r ≡ q
-one_cancelled s asked =
+one_cancelled : (profile : Profile) (s : State) (asked : List ℕ) (r q : Refused) → Refuses profile s (Cancel asked) r → Refuses profile s (Cancel asked) q → r ≡ q
+one_cancelled profile s asked =
     one_first (IsMissing s asked) (HasNoneWaiting s asked) (λ r q h k. h.refusal ∙ sym k.refusal) (λ r q h k. h.refusal ∙ sym k.refusal)
 
 -- a command has one refusal, but for the cycle that it names
-pub one_refusal : (s : State) (command : Command) (r q : Refused) → Refuses s command r → Refuses s command q → (r ≡ q) ⊎ (NamesACycle r × NamesACycle q)
-one_refusal s (PutFile path text) r q e f = inl (same_err (put_file s.tree path text) r q e f)
-one_refusal s (PutLink path target) r q e f = inl (same_err (put_link s.tree path target) r q e f)
-one_refusal s (Remove path) r q e f = inl (same_err (remove_at s.tree path) r q e f)
-one_refusal s DaemonReload r q h k = one_loaded s s.tree r q h k
-one_refusal s (ForUnit verb asked mode) r q h k = one_planned s verb asked mode r q h k
-one_refusal s (Cancel asked) r q h k = inl (one_cancelled s asked r q h k)
-one_refusal s (ResetFailed (Some asked)) r q h k = inl (h.refusal ∙ sym k.refusal)
-one_refusal s (ResetFailed None) r q h k = absurd h
-one_refusal s (Install verb unit) r q h k =
-    first_but _ _ (λ x y g l. inl (one_link_refusal s.tree verb unit x y g l))
-    (first_but _ _ (one_unloaded s verb unit (λ tree. IsCrowded tree (IsHeld s)) (λ tree. one_crowded tree (IsHeld s)))
-    (first_but _ _ (λ x y g l. inl (one_unit_refusal s.tree verb unit x y g l))
-    (one_unloaded s verb unit (λ tree. NamesCycle (IsBefore tree) s.pending) (λ tree. one_cycle (IsBefore tree) s.pending)))) r q h k
+pub one_refusal : (profile : Profile) (s : State) (command : Command) (r q : Refused) → Refuses profile s command r → Refuses profile s command q → (r ≡ q) ⊎ (NamesACycle r × NamesACycle q)
+one_refusal profile s (PutFile path text) r q e f = inl (same_err (put_file s.tree path text) r q e f)
+one_refusal profile s (PutLink path target) r q e f = inl (same_err (put_link s.tree path target) r q e f)
+one_refusal profile s (Remove path) r q e f = inl (same_err (remove_at s.tree path) r q e f)
+one_refusal profile s DaemonReload r q h k = one_loaded s (as_loaded profile s s.tree) r q h k
+one_refusal profile s (ForUnit verb asked mode) r q h k = one_planned profile s verb asked mode r q h k
+one_refusal profile s (Cancel asked) r q h k = inl (one_cancelled profile s asked r q h k)
+one_refusal profile s (ResetFailed (Some asked)) r q h k = inl (h.refusal ∙ sym k.refusal)
+one_refusal profile s (ResetFailed None) r q h k = absurd h
+one_refusal profile s (Install verb unit) r q h k =
+    first_but _ _ (λ x y g l. inl (one_link_refusal (read_by profile s.tree) verb unit x y g l))
+    (first_but _ _ (one_unloaded profile s verb unit (λ tree. IsCrowded tree (IsHeld s)) (λ tree. one_crowded tree (IsHeld s)))
+    (first_but _ _ (λ x y g l. inl (one_unit_refusal (read_by profile s.tree) verb unit x y g l))
+    (one_unloaded profile s verb unit (λ tree. NamesCycle (IsBefore tree) s.pending) (λ tree. one_cycle (IsBefore tree) s.pending)))) r q h k
 
 -- and changes the state in one way
-pub one_change : (s : State) (command : Command) (u v : State) → Changes s command u → Changes s command v → u ≡ v
+pub one_change : {profile : Profile} (s : State) (command : Command) (u v : State) → Changes profile s command u → Changes profile s command v → u ≡ v
 one_change s command u v (puts {path = path} {text = text} {tree = tree} e) (puts {tree = other} f) =
     ap (λ (x : Tree). record s { tree = x }) (same_ok (put_file s.tree path text) tree other e f)
 one_change s command u v (links {path = path} {target = target} {tree = tree} e) (links {tree = other} f) =
@@ -272,8 +275,8 @@ one_change s command u v (plans {demand = d} f h) (demands_nothing none) = absur
 one_change s command u v (demands_nothing none) (plans {demand = d} f h) = absurd (none-some d (sym none ∙ f))
 one_change s command u v (demands_nothing none) (demands_nothing too) = refl
 one_change s command u v cancels cancels = refl
-one_change s command u v (installs {verb = verb} {unit = unit} {tree = tree} h) (installs {tree = other} k) =
-    ap (λ (x : Tree). record s { tree = x; loaded = x }) (one_install s.tree verb unit tree other h k)
+one_change {profile} s command u v (installs {verb = verb} {unit = unit} {tree = tree} h) (installs {tree = other} k) =
+    ap (λ (x : Tree). record s { tree = x; loaded = as_loaded profile s x }) (one_install (read_by profile s.tree) verb unit tree other h k)
 
 -- failures are forgotten to one end, with one list of actions
 pub one_reset : (t : ℕ) (units : List (List ℕ)) (s : State) (a b : List Action) (v w : State)
@@ -285,11 +288,11 @@ one_reset t (unit ∷ units) s a b v w (reset_next {u = u} {first = first} {more
     (ap (λ q. q ++ more) both.0 ∙ ap (λ q. other ++ q) later.0, later.1)
 
 -- to forget failures changes nothing by itself
-no_change : (s : State) (asked : Option (List ℕ)) (u : State) → ¬ Changes s (ResetFailed asked) u
+no_change : {profile : Profile} (s : State) (asked : Option (List ℕ)) (u : State) → ¬ Changes profile s (ResetFailed asked) u
 no_change s asked u h = elim h [ ]
 
 -- a command does one thing, with one list of actions
-pub one_done : (t : ℕ) (s : State) (command : Command) (a b : List Action) (v w : State) → Does t s command a v → Does t s command b w → (a ≡ b) × (v ≡ w)
+pub one_done : {profile : Profile} (t : ℕ) (s : State) (command : Command) (a b : List Action) (v w : State) → Does profile t s command a v → Does profile t s command b w → (a ≡ b) × (v ≡ w)
 one_done t s command a b v w (changes h) (changes k) = (refl, one_change s command v w h k)
 one_done t s command a b v w (changes h) (resets {asked = asked} k) = absurd (no_change s asked v h)
 one_done t s command a b v w (resets {asked = asked} h) (changes k) = absurd (no_change s asked w k)
@@ -301,7 +304,7 @@ one_reply_to s query r q shows shows = refl
 one_reply_to s query r q tells_activity tells_activity = refl
 one_reply_to s query r q tells_failure tells_failure = refl
 one_reply_to s query r q tells_files tells_files = refl
-one_reply_to s query r q (tells_enabling {asked = asked} {answer = a} h) (tells_enabling {answer = b} k) = ap EnabledAs (one_enabling s.tree asked a b h k)
+one_reply_to s query r q (tells_enabling {asked = asked} {answer = a} h) (tells_enabling {answer = b} k) = ap EnabledAs (one_enabling (read_by current s.tree) asked a b h k)
 one_reply_to s query r q (lists_units {names = xs} h) (lists_units {names = ys} k) = ap (λ names. Listed (each (unit_listed s) names)) (one_list_of_known s xs ys h k)
 one_reply_to s query r q lists_jobs lists_jobs = refl
 
@@ -345,7 +348,7 @@ pub boot_has_effect : (t : ℕ) (s : State) (boot : List ℕ) → boot ≢ s.boo
 boot_has_effect t s boot other (is_known same) = other same
 
 -- an event has one effect, with one list of actions
-pub one_taken : (t : ℕ) (s : State) (event : Event) (a b : List Action) (v w : State) → TakesEffect t s event a v → TakesEffect t s event b w → (a ≡ b) × (v ≡ w)
+pub one_taken : {profile : Profile} (t : ℕ) (s : State) (event : Event) (a b : List Action) (v w : State) → TakesEffect profile t s event a v → TakesEffect profile t s event b w → (a ≡ b) × (v ≡ w)
 one_taken t s event a b v w (obeys {command = command} {first = first} {more = more} {u = u} free h k) (obeys {first = other} {more = rest} {u = x} also g l) =
     let done = one_done t s command first other u x h g in
     let later = one_settled t u more rest v w k (subst (λ i. Settles t i rest w) (sym done.1) l) in
@@ -359,8 +362,8 @@ alike_refusals r q (inr both) = both_name both.0 both.1
 -- a step has one outcome, but for the cycle that a refusal names
 pub one_outcome : (size : ℕ) (s : State) (input : Input) (r q : Reply) (a b : List Action) (t u : State)
     → Step size s input r a t → Step size s input q b u → IsSameOutcome r q a b t u
-one_outcome size s input r q a b t u (refused {command = command} {r = x} e) (refused {r = y} f) =
-    record { reply = alike_refusals x y (one_refusal s command x y e f); actions = refl; state = refl }
+one_outcome size s input r q a b t u (refused {profile = profile} {command = command} {r = x} e) (refused {r = y} f) =
+    record { reply = alike_refusals x y (one_refusal profile s command x y e f); actions = refl; state = refl }
 one_outcome size s input r q a b t u (refused {r = x} e) (crowded_out (obeys free h k) heavy) = absurd (free x e)
 one_outcome size s input r q a b t u (refused {r = x} e) (taken (obeys free h k) fits) = absurd (free x e)
 one_outcome size s input r q a b t u (idle e) (idle f) = record { reply = the_same refl; actions = refl; state = refl }

@@ -4,6 +4,7 @@ use Rattle.std.specs.Option.{option_map_or}
 use Rattle.std.proofs.lemmas.Bool.{and_parts}
 use Rattle.std.proofs.lemmas.Option.{none-some, same_Some}
 use Rattle.std.specs.Str.{bytes_eq}
+use Rattle.um_model.specs.Profiles.{ReadTree}
 use Rattle.um_model.specs.Install.{install_of}
 use Rattle.um_model.specs.Names.{suffix_of, is_unit_name, named}
 use Rattle.std.specs.Result.{result_ok}
@@ -123,20 +124,20 @@ names_of_section unit assigned = record {
 }
 
 -- also in that of a unit
-pub names_installed : (tree : Tree) (unit : List ℕ) → AreNames (install_of (load tree unit))
+pub names_installed : (tree : ReadTree) (unit : List ℕ) → AreNames (install_of (load tree unit))
 unfolding load
-names_installed tree unit = by_resolution (resolution_of tree unit)
+names_installed tree unit = by_resolution (resolution_of tree.entries unit)
   where
     by_reason : (unit path : List ℕ) (sources : List Source) (reason : Option (List ℕ)) → AreNames (install_of (found_unless reason (unit_by unit (Some path) sources)))
     by_reason unit path sources None = names_of_section unit (assignments_in (suffix_of unit) sources)
     by_reason unit path sources (Some reason) = none_named
 
-    by_resolution : (r : Resolution) → AreNames (install_of (loading_at tree r))
-    by_resolution (AtFile unit path text) = by_reason unit path (sources_at tree (AtFile unit path text)) _
+    by_resolution : (r : Resolution) → AreNames (install_of (loading_at tree.entries r))
+    by_resolution (AtFile unit path text) = by_reason unit path (sources_at tree.entries (AtFile unit path text)) _
     by_resolution (AtNoFile unit) = none_named
     by_resolution (AtMask unit) = none_named
     by_resolution Nowhere = none_named
 
 -- the names in Also= of a unit are unit names
-pub also_names : (tree : Tree) (unit name : List ℕ) → Among (install_of (load tree unit)).also name → is_unit_name name ≡ true
+pub also_names : (tree : ReadTree) (unit name : List ℕ) → Among (install_of (load tree unit)).also name → is_unit_name name ≡ true
 also_names tree unit = (names_installed tree unit).also

@@ -2,6 +2,7 @@
 use Rattle.std.proofs.Common.{ℕ, zero, suc, ◌≡◌, ◌+◌, ◌<◌, ◌≤◌, List, [], ◌∷◌, ◌++◌, map, Some, slice_get, refl, sym, ap, subst, arith}
 use Rattle.std.proofs.lemmas.Option.{none-some, same_Some}
 use Rattle.std.specs.FinMap as maps
+use Rattle.um_model.specs.declared.profile.Profile.{Profile}
 use Rattle.um_model.specs.Service.{Action, SpawnProcess, SendSignal, state_of_unit}
 use Rattle.um_model.specs.Settings.{ServiceSettings}
 use Rattle.um_model.specs.Timers.{Timers}
@@ -115,7 +116,7 @@ fired_counts t timers s actions v (Fires.fires_next {more = z} d n first due (Fi
 fired_counts t timers s actions v (Fires.fires_next {more = z} d n first due (FiresOne.is_gone isnt) l) = fired_counts t (maps.remove timers n) s z v l
 
 -- what a command changes starts nothing by itself
-same_next : (s : State) (command : Command) (u : State) → Changes s command u → u.next ≡ s.next
+same_next : {profile : Profile} (s : State) (command : Command) (u : State) → Changes profile s command u → u.next ≡ s.next
 same_next s command u (puts e) = refl
 same_next s command u (links e) = refl
 same_next s command u (removes e) = refl
@@ -125,7 +126,7 @@ same_next s command u (demands_nothing none) = refl
 same_next s command u cancels = refl
 same_next s command u (installs h) = refl
 
-done_counts : (t : ℕ) (s : State) (command : Command) (actions : List Action) (u : State) → Does t s command actions u → Counts s actions u
+done_counts : {profile : Profile} (t : ℕ) (s : State) (command : Command) (actions : List Action) (u : State) → Does profile t s command actions u → Counts s actions u
 done_counts t s command actions u (Does.changes h) = subst (CountsUp s.next []) (sym (same_next s command u h)) no_more
 done_counts t s command actions u (Does.resets {asked = asked} h) = reset_counts t (units_reset s asked) s actions u h
 
@@ -136,7 +137,7 @@ followed_counts t s happening actions v (reports {first = first} {more = more} {
 followed_counts t s happening actions v (ticks timers are h) = fired_counts t timers s actions v h
 followed_counts t s happening actions v boots = no_more
 
-taken_counts : (t : ℕ) (s : State) (event : Event) (actions : List Action) (v : State) → TakesEffect t s event actions v → Counts s actions v
+taken_counts : {profile : Profile} (t : ℕ) (s : State) (event : Event) (actions : List Action) (v : State) → TakesEffect profile t s event actions v → Counts s actions v
 taken_counts t s event actions v (obeys {command = command} {first = first} {more = more} {u = u} free does h) =
     both_count s u v first more (done_counts t s command first u does) (settled_counts t u more v h)
 taken_counts t s event actions v (meets {happening = happening} effect h) = followed_counts t s happening actions v h

@@ -3,9 +3,11 @@ use Rattle.std.proofs.Common.{ℕ, nat_lt, ◌≡◌, ◌⊎◌, inl, inr, ◌�
 use Rattle.std.specs.FinMap as map
 use Rattle.std.proofs.lemmas.Option.{none-some, same_Some}
 use Rattle.std.specs.Prelude.{cond}
+use Rattle.um_model.specs.Profiles.{ReadTree, read_by}
+use Rattle.um_model.specs.declared.profile.Profile.{Profile}
 use Rattle.um_model.specs.Install.{HasTooMany, too_many, CannotEnable, isnt_found, is_masked, has_bad_setting, lacks_instance, RefusesLinks, enables_none, masks_none, RefusesUnits, takes_none}
 use Rattle.um_model.specs.Machine as model
-use Rattle.um_model.specs.Machine.{State, Command, PutFile, PutLink, Remove, DaemonReload, ForUnit, Cancel, ResetFailed, Install, IsMissing, IsCrowded, CannotStart, PlansTooMany, by_name, by_jobs, HasNoPlan, CausesOfLoad, Refuses, IsNotThere, to_stop, to_try_restart}
+use Rattle.um_model.specs.Machine.{as_loaded, State, Command, PutFile, PutLink, Remove, DaemonReload, ForUnit, Cancel, ResetFailed, Install, IsMissing, IsCrowded, CannotStart, PlansTooMany, by_name, by_jobs, HasNoPlan, CausesOfLoad, Refuses, IsNotThere, to_stop, to_try_restart}
 use Rattle.um_model.specs.Refusals.{Refused, bad_path, exists_at, too_large, no_room, FirstCause, at_first, at_second, unless_refused}
 use Rattle.um_model.specs.Tree.{Tree, File, Link, path_parts, is_served, is_link, is_other_than_link, is_fit_target, is_full_for, text_limit, put_cause, put_file, link_cause, put_link, remove_cause, remove_at}
 use Rattle.um_model.specs.Units.{Loading}
@@ -72,7 +74,7 @@ remove_of tree path r e = by_cause (is_none (map.get tree path)) (bad_path path)
 
 -- ---- units
 
-crowded_of : (tree : Tree) (Extra : List ℕ → Type 0) (r : Refused) → IsCrowded tree Extra r → IsOfCommand r
+crowded_of : (tree : ReadTree) (Extra : List ℕ → Type 0) (r : Refused) → IsCrowded tree Extra r → IsOfCommand r
 crowded_of tree Extra r h = told (too_large Units) r (inl (omega arith)) h.refusal
 
 start_of : (asked : List ℕ) (l : Loading) (r : Refused) → CannotStart asked l r → IsOfCommand r
@@ -87,13 +89,13 @@ enable_of unit _ _ is_masked = inl (omega arith)
 enable_of unit _ _ has_bad_setting = inl (omega arith)
 enable_of unit _ _ (lacks_instance none) = inl (omega arith)
 
-many_of : (tree : Tree) (asked : List ℕ) (r : Refused) → HasTooMany tree asked r → IsOfCommand r
+many_of : (tree : ReadTree) (asked : List ℕ) (r : Refused) → HasTooMany tree asked r → IsOfCommand r
 many_of tree asked r (too_many all many) = inl (omega arith)
 
 missing_of : (s : State) (asked : List ℕ) (r : Refused) → IsMissing s asked r → IsOfCommand r
 missing_of s asked r h = told _ r (inl (omega arith)) h.refusal
 
-load_of : (s : State) (tree : Tree) (r : Refused) → CausesOfLoad s tree r → IsOfCommand r
+load_of : (s : State) (tree : ReadTree) (r : Refused) → CausesOfLoad s tree r → IsOfCommand r
 load_of s tree r = by_either _ _ r (crowded_of tree _ r) (λ h. told _ r (inl (omega arith)) h.refusal)
 
 plan_of : (s : State) (verb : UnitVerb) (asked : List ℕ) (mode : JobMode) (r : Refused) → HasNoPlan s verb asked mode r → IsOfCommand r
@@ -110,39 +112,39 @@ pub missing_there : {s : State} {verb : UnitVerb} {asked : List ℕ} {r : Refuse
 missing_there (to_stop h) = h
 missing_there (to_try_restart h) = h
 
-unit_of : (s : State) (verb : UnitVerb) (asked : List ℕ) (mode : JobMode) (r : Refused) → Refuses s (ForUnit verb asked mode) r → IsOfCommand r
-unit_of s verb asked mode r = by_either _ _ r (too_many_of s verb asked r) (by_either _ _ r (λ h. missing_of s asked r (missing_there h)) (plan_of s verb asked mode r))
+unit_of : (profile : Profile) (s : State) (verb : UnitVerb) (asked : List ℕ) (mode : JobMode) (r : Refused) → Refuses profile s (ForUnit verb asked mode) r → IsOfCommand r
+unit_of profile s verb asked mode r = by_either _ _ r (too_many_of s verb asked r) (by_either _ _ r (λ h. missing_of s asked r (missing_there h)) (plan_of s verb asked mode r))
 
-cancel_of : (s : State) (asked : List ℕ) (r : Refused) → Refuses s (Cancel asked) r → IsOfCommand r
-cancel_of s asked r = by_either _ _ r (missing_of s asked r) (λ h. told _ r (inr refl) h.refusal)
+cancel_of : (profile : Profile) (s : State) (asked : List ℕ) (r : Refused) → Refuses profile s (Cancel asked) r → IsOfCommand r
+cancel_of profile s asked r = by_either _ _ r (missing_of s asked r) (λ h. told _ r (inr refl) h.refusal)
 
-links_of : (tree : Tree) (verb : InstallVerb) (unit : List ℕ) (r : Refused) → RefusesLinks tree verb unit r → IsOfCommand r
+links_of : (tree : ReadTree) (verb : InstallVerb) (unit : List ℕ) (r : Refused) → RefusesLinks tree verb unit r → IsOfCommand r
 links_of tree _ unit r (enables_none causes) =
     by_either _ _ r (λ unfit. told _ r (inl (omega arith)) unfit.told)
     (by_either _ _ r (λ occupied. told _ r (inl (omega arith)) occupied.told) (many_of tree _ r)) causes
-links_of tree _ unit r (masks_none e) = link_of tree _ _ r e
+links_of tree _ unit r (masks_none e) = link_of tree.entries _ _ r e
 
-units_of : (tree : Tree) (verb : InstallVerb) (unit : List ℕ) (r : Refused) → RefusesUnits tree verb unit r → IsOfCommand r
+units_of : (tree : ReadTree) (verb : InstallVerb) (unit : List ℕ) (r : Refused) → RefusesUnits tree verb unit r → IsOfCommand r
 units_of tree _ unit r (takes_none barred) = enable_of _ _ r barred.told
 
-install_of : (s : State) (verb : InstallVerb) (unit : List ℕ) (r : Refused) → Refuses s (Install verb unit) r → IsOfCommand r
-install_of s verb unit r =
-    by_either _ _ r (links_of s.tree verb unit r)
-    (by_either _ _ r (λ h. crowded_of h.tree _ r h.cause)
-    (by_either _ _ r (units_of s.tree verb unit r) (λ h. told _ r (inl (omega arith)) h.cause.refusal)))
+install_of : (profile : Profile) (s : State) (verb : InstallVerb) (unit : List ℕ) (r : Refused) → Refuses profile s (Install verb unit) r → IsOfCommand r
+install_of profile s verb unit r =
+    by_either _ _ r (links_of (read_by profile s.tree) verb unit r)
+    (by_either _ _ r (λ h. crowded_of (as_loaded profile s h.tree) _ r h.cause)
+    (by_either _ _ r (units_of (read_by profile s.tree) verb unit r) (λ h. told _ r (inl (omega arith)) h.cause.refusal)))
 
 -- ---- all commands
 
-pub refused_of_command : (s : State) (command : Command) (r : Refused) → Refuses s command r → IsOfCommand r
-refused_of_command s (PutFile path text) r e = put_of s.tree _ _ r e
-refused_of_command s (PutLink path target) r e = link_of s.tree _ _ r e
-refused_of_command s (Remove path) r e = remove_of s.tree _ r e
-refused_of_command s DaemonReload r causes = load_of s s.tree r causes
-refused_of_command s (ForUnit verb asked mode) r causes = unit_of s verb asked mode r causes
-refused_of_command s (Cancel asked) r causes = cancel_of s asked r causes
-refused_of_command s (ResetFailed (Some asked)) r missing = missing_of s asked r missing
-refused_of_command s (ResetFailed None) r none = absurd none
-refused_of_command s (Install verb unit) r causes = install_of s verb unit r causes
+pub refused_of_command : (profile : Profile) (s : State) (command : Command) (r : Refused) → Refuses profile s command r → IsOfCommand r
+refused_of_command profile s (PutFile path text) r e = put_of s.tree _ _ r e
+refused_of_command profile s (PutLink path target) r e = link_of s.tree _ _ r e
+refused_of_command profile s (Remove path) r e = remove_of s.tree _ r e
+refused_of_command profile s DaemonReload r causes = load_of s (as_loaded profile s s.tree) r causes
+refused_of_command profile s (ForUnit verb asked mode) r causes = unit_of profile s verb asked mode r causes
+refused_of_command profile s (Cancel asked) r causes = cancel_of profile s asked r causes
+refused_of_command profile s (ResetFailed (Some asked)) r missing = missing_of s asked r missing
+refused_of_command profile s (ResetFailed None) r none = absurd none
+refused_of_command profile s (Install verb unit) r causes = install_of profile s verb unit r causes
 
 -- nor is want of room
 pub no_room_of_command : IsOfCommand no_room

@@ -1,5 +1,5 @@
 -- The unit of a process number, as a scan by the names of units finds it.
-use Rattle.std.proofs.Common.{ℕ, ◌≡◌, true, List, Option, Some, None, is_some, unwrap_or, refl, inl, inr, true≢false}
+use Rattle.std.proofs.Common.{ℕ, ◌≡◌, true, List, Option, Some, None, is_some, unwrap_or, refl, inl, inr}
 use Rattle.std.specs.FinMap as map
 use Rattle.um_model.specs.Service.{ByUnit, state_of_unit, dead_unit}
 use Rattle.um_model.specs.Transitions.{HasNumber}

@@ -9,7 +9,7 @@ use Rattle.um_model.specs.Names.{is_template}
 use Rattle.um_model.specs.Reached.{next}
 use Rattle.um_model.specs.Refusals.{Refused}
 use Rattle.um_model.specs.Service.{ByUnit}
-use Rattle.um_model.specs.Tree.{Tree, without_run}
+use Rattle.um_model.specs.Profiles.{ReadTree, lasting_tree}
 use Rattle.um_model.specs.Units.{LoadedUnit, Loading, Found, Masked, NotFound, BadSetting, load}
 use Rattle.um_laws.proofs.AmongLaws.{among_contained, among_left, among_right, contains_among, either_decided, IsListOf, list_of}
 use Rattle.um_laws.proofs.CausesLaws.{OneOrNone}
@@ -149,15 +149,15 @@ pub one_list_of_known : (s : State) (xs ys : List (List ℕ)) → AreByName (IsK
 one_list_of_known s xs ys h k = one_list_by_name (IsKnown s.loaded (IsHeld s)) xs ys h.each k.each h.sorted k.sorted
 
 -- just one number of units is known
-one_number : (tree : Tree) (Extra : List ℕ → Type 0) (n m : ℕ) → KnowsSoMany tree Extra n → KnowsSoMany tree Extra m → n ≡ m
+one_number : (tree : ReadTree) (Extra : List ℕ → Type 0) (n m : ℕ) → KnowsSoMany tree Extra n → KnowsSoMany tree Extra m → n ≡ m
 one_number tree Extra n m h k =
     let few = no_more h.names k.names h.apart (λ z there. among_contained k.names z ((k.whole z).1 ((h.whole z).0 (contains_among h.names z there)))) in
     let many = no_more k.names h.names k.apart (λ z there. among_contained h.names z ((h.whole z).1 ((k.whole z).0 (contains_among k.names z there)))) in
     omega (arith, few, many, h.long, k.long)
 
 -- a tree counts for one number of units
-pub one_count : (tree : Tree) (Extra : List ℕ → Type 0) (n m : ℕ) → CountsFor tree Extra n → CountsFor tree Extra m → n ≡ m
+pub one_count : (tree : ReadTree) (Extra : List ℕ → Type 0) (n m : ℕ) → CountsFor tree Extra n → CountsFor tree Extra m → n ≡ m
 one_count tree Extra n m h k =
     let held = one_number tree Extra h.held k.held h.by_tree k.by_tree in
-    let lasting = one_number (without_run tree) Extra h.lasting k.lasting h.by_rest k.by_rest in
+    let lasting = one_number (lasting_tree tree) Extra h.lasting k.lasting h.by_rest k.by_rest in
     h.greater ∙ ((λ i. max (held i) (lasting i)) ∙ sym k.greater)

@@ -6,6 +6,9 @@ use Rattle.std.specs.Cmp.Lexicographic.{slice_cmp}
 use Rattle.std.specs.FinMap as map
 use Rattle.std.specs.Ordering.{nat_cmp}
 use mathlib.Core.HLevel.{Π_prop, ×₃_prop, ⊥_prop}
+use Rattle.um_model.specs.Profiles.{ReadTree, read_by}
+use Rattle.um_model.specs.Tree.{without_run}
+use Rattle.um_model.specs.declared.profile.Profile.{Profile}
 use Rattle.um_model.specs.Dependencies.{IsKnown, KnowsSoMany, CountsFor}
 use Rattle.um_model.specs.Machine.{State, Commanded, Happening, Happened, Event, Input, Reply, IsHeld, CausesOfLoad, IsTooHeavy, HasNoRoom, reply_after, moment_of, Step, taken, TakesEffect}
 use Rattle.um_model.specs.Refusals.{Refused, at_first, at_second}
@@ -47,19 +50,19 @@ refused_unservable size s r (at_second none circle) h = h.free circle.cycle circ
 
 -- ---- a state in which nothing is held
 
--- no unit counts for the empty tree where nothing is held
-module _ (Extra : List ℕ → Type 0) (none : (x : List ℕ) → ¬ Extra x) where
-  none_long : (n : ℕ) → KnowsSoMany map.empty Extra n → n ≡ 0
+-- no unit counts for an empty tree where nothing is held
+module _ (tree : ReadTree) (empty : tree.entries ≡ map.empty) (Extra : List ℕ → Type 0) (none : (x : List ℕ) → ¬ Extra x) where
+  none_long : (n : ℕ) → KnowsSoMany tree Extra n → n ≡ 0
   none_long n k = sym k.long ∙ by k.names (λ x is. (k.whole x).0 is)
     where
-      by : (names : List (List ℕ)) → ((x : List ℕ) → Contains names x → IsKnown map.empty Extra x) → length names ≡ 0
+      by : (names : List (List ℕ)) → ((x : List ℕ) → Contains names x → IsKnown tree Extra x) → length names ≡ 0
       by [] known = refl
-      by (x ∷ xs) known = absurd (reached_in (λ _. ⊥) (none_named Extra none) (λ a b is mentions. is) x (known x (contains_among (x ∷ xs) x (inl refl))))
+      by (x ∷ xs) known = absurd (reached_in (λ _. ⊥) (none_named tree empty Extra none) (λ a b is mentions. is) x (known x (contains_among (x ∷ xs) x (inl refl))))
 
-  none_counted : (n : ℕ) → CountsFor map.empty Extra n → n ≡ 0
+  none_counted : (n : ℕ) → CountsFor tree Extra n → n ≡ 0
   none_counted n k =
       let held = none_long k.held k.by_tree in
-      let lasting = none_long k.lasting (subst (λ tree. KnowsSoMany tree Extra k.lasting) empty_same k.by_rest) in
+      let lasting = none_long k.lasting (subst (λ entries. KnowsSoMany (read_by tree.profile entries) Extra k.lasting) (ap without_run empty ∙ (empty_same ∙ sym empty)) k.by_rest) in
       omega (arith, held, lasting, k.greater)
 
 none_weighs : (es : List (List ℕ × Entry)) → length es ≡ 0 → sum (each (λ e. entry_weight e.0 e.1) es) ≡ 0
@@ -71,9 +74,9 @@ empty_weight = none_weighs (map.entries map.empty) (sym (map.len-entries map.emp
 
 blank_light : (size : ℕ) (s : State) → 256 ≤ size → IsBlank s → ¬ IsTooHeavy size s
 blank_light size s room blank h =
-    let units = none_counted (IsHeld s) (blank_none s blank) h.units (subst (λ tree. CountsFor tree (IsHeld s) h.units) blank.loaded h.count) in
+    let units = none_counted s.loaded blank.loaded (IsHeld s) (blank_none s blank) h.units h.count in
     let tree : tree_weight s.tree ≡ 0 = ap tree_weight blank.tree ∙ empty_weight in
-    let loaded : tree_weight s.loaded ≡ 0 = ap tree_weight blank.loaded ∙ empty_weight in
+    let loaded : tree_weight s.loaded.entries ≡ 0 = ap tree_weight blank.loaded ∙ empty_weight in
     omega (arith, h.heavy, units, tree, loaded, room)
 
 -- a store of 256 bytes or more may hold a state in which nothing is held
@@ -83,8 +86,8 @@ blank_servable size s room blank = record { light = blank_light size s room blan
 -- ---- a step
 
 -- what happens leaves room: the state weighs no more after it
-happening_keeps_light : (size : ℕ) (s : State) (moment : ℕ) (happening : Happening) (reply : Reply) (actions : List Action) (t : State)
-    → Step size s (record { moment = moment; event = Happened happening }) reply actions t → ¬ IsTooHeavy size s → ¬ IsTooHeavy size t
+happening_keeps_light : {profile : Profile} (size : ℕ) (s : State) (moment : ℕ) (happening : Happening) (reply : Reply) (actions : List Action) (t : State)
+    → Step size s (record { profile = profile; moment = moment; event = Happened happening }) reply actions t → ¬ IsTooHeavy size s → ¬ IsTooHeavy size t
 happening_keeps_light size s moment happening reply actions t step light h = by (a_count (IsHeld s) (held_list s).0 (held_list s).1 s.loaded)
   where
     by : (n : ℕ) × CountsFor s.loaded (IsHeld s) n → ⊥
@@ -98,9 +101,9 @@ step_light : (size : ℕ) (s : State) (input : Input) (reply : Reply) (actions :
 step_light size s input reply actions t (Step.refused e) light = light
 step_light size s input reply actions t (Step.crowded_out h heavy) light = light
 step_light size s input reply actions t (Step.idle e) light = light
-step_light size s input reply actions t (taken {moment = moment} {event = event} {u = u} takes room) light = by event takes room
+step_light size s input reply actions t (taken {profile = profile} {moment = moment} {event = event} {u = u} takes room) light = by event takes room
   where
-    by : (e : Event) → TakesEffect (moment_of s moment) s e actions u → ¬ HasNoRoom size e u → ¬ IsTooHeavy size (record u { clock = moment_of s moment })
+    by : (e : Event) → TakesEffect profile (moment_of s moment) s e actions u → ¬ HasNoRoom size e u → ¬ IsTooHeavy size (record u { clock = moment_of s moment })
     by (Commanded command) takes room h = room (record { units = h.units; count = h.count; heavy = h.heavy })
     by (Happened happening) takes room h =
         happening_keeps_light size s moment happening (reply_after (Happened happening) s.tree u.tree) actions (record u { clock = moment_of s moment }) (taken takes room) light h

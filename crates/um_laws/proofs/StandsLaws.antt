@@ -1,13 +1,13 @@
 -- What an image of a store stands for is one state at most, of one layout; and what the sectors of a store say as its state.
 use Rattle.std.specs.Prelude.{drop, map}
 use Rattle.std.specs.List.{AllByRecursion}
-use Rattle.std.proofs.Common.{◌≡◌, ◌∙◌, ℕ, ◌+◌, ◌≤◌, List, [], ◌∷◌, ◌++◌, Option, Some, None, refl, sym, ap, subst, arith}
+use Rattle.std.proofs.Common.{◌≡◌, ◌∙◌, ℕ, ◌≤◌, List, [], ◌∷◌, ◌++◌, Option, Some, None, refl, sym, ap, subst, arith}
 use Rattle.std.proofs.Math.Bridge.{le_prop}
-use Rattle.std.proofs.lemmas.Bool.{false≢true}
 use Rattle.std.proofs.lemmas.List.{append-nil}
 use Rattle.std.proofs.lemmas.Option.{same_Some, none-some}
 use Rattle.byteorder.specs.Endian.{big_number}
 use mathlib.Core.HLevel.{×_prop}
+use Rattle.um_model.specs.Profiles.{current}
 use Rattle.um_model.specs.Bytes.{◌>>=◌, nothing_left}
 use Rattle.um_model.specs.Disk.{Sector, Image}
 use Rattle.um_model.specs.InputSpellings.{input_spelling, input_at, FitInput}
@@ -16,29 +16,32 @@ use Rattle.um_model.specs.Servable.{IsServable}
 use Rattle.um_model.specs.Service.{Action}
 use Rattle.um_model.specs.Stands.{inputs_of, Contents, contents_of, StandsFor, IsStoreOf}
 use Rattle.um_model.specs.StateSpellings.{state_spelling, state_at, FitState}
-use Rattle.um_model.specs.Store.{superblock, other, body_limit, log_start, Newest, newest_of, records_of, IsNewest, IsFree, IsStore}
+use Rattle.um_model.specs.Store.{superblock, other, body_limit, Newest, newest_of, top, all_records, IsNewest, IsNoneAbove, IsStore}
+use Rattle.um_model.specs.declared.layout.Format.{Format}
 use Rattle.um_model.specs.declared.layout.Layout.{Layout}
 use Rattle.um_model.specs.declared.layout.Slot.{Slot}
 use Rattle.um_laws.proofs.FewLaws.{empty_blank}
 use Rattle.um_laws.proofs.FitStateLaws.{empty_fit}
-use Rattle.um_laws.proofs.ImageLaws.{newest_some, records_are, only_records}
+use Rattle.um_laws.proofs.ImageLaws.{newest_some}
 use Rattle.um_model.proofs.InputSpellingsLaws.{canonical_input}
 use Rattle.um_laws.proofs.MachineLaws.{one_run, run-append}
 use Rattle.um_laws.proofs.ServableLaws.{blank_servable}
 use Rattle.um_model.proofs.StateSpellingsLaws.{canonical_state}
-use Rattle.um_laws.proofs.StoreLaws.{superblock_says}
+use Rattle.um_laws.proofs.StoreLaws.{superblock_says, one_format}
 use Rattle.um_laws.proofs.TotalLaws.{a_step}
 
 -- ---- one state
 
 -- an image holds one store at most
-pub one_contents : (layout : Layout) (image : Image) (c d : Contents) → contents_of layout image ≡ Some c → contents_of layout image ≡ Some d → c ≡ d
-one_contents layout image c d one two = same_Some c d (sym one ∙ two)
+pub one_contents : (format : Format) (layout : Layout) (image : Image) (c d : Contents) → contents_of format layout image ≡ Some c → contents_of format layout image ≡ Some d → c ≡ d
+one_contents format layout image c d one two = same_Some c d (sym one ∙ two)
 
 -- An image stands for one state at most.
 pub one_state : (layout : Layout) (image : Image) (s t : State) → StandsFor layout image s → StandsFor layout image t → s ≡ t
 one_state layout image s t one two =
-    let same = one_contents layout image two.contents one.contents two.holds one.holds in
+    let format = one_format two.format one.format layout layout (sym two.first ∙ one.first) in
+    let holds : contents_of one.format layout image ≡ Some two.contents = subst (λ f. contents_of f layout image ≡ Some two.contents) format two.holds in
+    let same = one_contents one.format layout image two.contents one.contents holds one.holds in
     one_run (body_limit layout) one.contents.start s t one.contents.inputs one.run (subst (λ (c : Contents). Run (body_limit layout) c.start c.inputs t) same two.run)
 
 -- ---- one layout
@@ -67,11 +70,11 @@ same_layout l m slot log = by m.slot_sectors m.log_sectors (bounds m) slot log
         (λ b. ap (of_sizes l.slot_sectors l.log_sectors) (bounds_once l.slot_sectors l.log_sectors (bounds l) b))) b
 
 -- An image is of one layout at most.
-pub one_layout : (l m : Layout) (image : Image) → image 0 ≡ superblock l → image 0 ≡ superblock m → l ≡ m
-one_layout l m image one two =
-    let same : superblock l ≡ superblock m = sym one ∙ two in
-    let a = superblock_says l in
-    let b = superblock_says m in
+pub one_layout : (f g : Format) (l m : Layout) (image : Image) → image 0 ≡ superblock f l → image 0 ≡ superblock g m → l ≡ m
+one_layout f g l m image one two =
+    let same : superblock f l ≡ superblock g m = sym one ∙ two in
+    let a = superblock_says f l in
+    let b = superblock_says g m in
     same_layout l m (sym a.0 ∙ ap (λ (s : Sector). big_number 4 (drop 8 s)) same ∙ b.0)
     (sym a.1 ∙ ap (λ (s : Sector). big_number 4 (drop 12 s)) same ∙ b.1)
 
@@ -140,19 +143,19 @@ pub record ComesTo (size : ℕ) (body : List ℕ) (records : List (List ℕ)) (s
   pub servable : IsServable size start
   pub run : Run size start inputs s
 
-module _ {layout : Layout} {image : Image} {slot : Slot} {generation : ℕ} {body : List ℕ} {records : List (List ℕ)} (store : IsStore layout image slot generation body records) where
+module _ {format : Format} {layout : Layout} {image : Image} {slot : Slot} {generation : ℕ} {body : List ℕ} {records : List (List ℕ)} (store : IsStore format layout image slot generation body records) where
   -- its newest slot and its records, as functions of the image
   pub newest_told : newest_of layout image ≡ Some (record { slot = slot; generation = generation; body = body })
   newest_told = (newest_some layout image _).1 store.newest
 
-  pub records_told : records_of layout generation image ≡ records
-  records_told = only_records layout generation image records store.records_are
+  pub records_told : all_records format layout generation image ≡ records
+  records_told = sym store.records_are
 
   -- what a store holds
   pub contents_are : {start : State} {inputs : List Input} → nothing_left (state_at body) ≡ Some start → inputs_of records ≡ Some inputs
-      → contents_of layout image ≡ Some (contents slot generation start inputs)
+      → contents_of format layout image ≡ Some (contents slot generation start inputs)
   contents_are {start} {inputs} start_is inputs_are =
-      (λ k. newest_told k >>= λ n. nothing_left (state_at n.body) >>= λ s. inputs_of (records_of layout n.generation image) >>= λ is. Some (contents n.slot n.generation s is))
+      (λ k. newest_told k >>= λ n. nothing_left (state_at n.body) >>= λ s. inputs_of (all_records format layout n.generation image) >>= λ is. Some (contents n.slot n.generation s is))
       ∙ (λ k. start_is k >>= λ s. inputs_of (records_told k) >>= λ is. Some (contents slot generation s is))
       ∙ (λ k. inputs_are k >>= λ is. Some (contents slot generation start is))
 
@@ -160,6 +163,7 @@ module _ {layout : Layout} {image : Image} {slot : Slot} {generation : ℕ} {bod
   pub store_of : {start : State} {inputs : List Input} {s : State} → ComesTo (body_limit layout) body records start inputs s → IsStoreOf layout image s
   store_of {start} {inputs} comes = record {
     stands = record {
+      format = format;
       first = store.first;
       contents = contents slot generation start inputs;
       holds = contents_are comes.start_is comes.inputs_are;
@@ -170,34 +174,34 @@ module _ {layout : Layout} {image : Image} {slot : Slot} {generation : ℕ} {bod
   }
 
 -- what an image holds, told by its parts
-pub record HasContents (layout : Layout) (image : Image) (c : Contents) : Type 0 where
+pub record HasContents (format : Format) (layout : Layout) (image : Image) (c : Contents) : Type 0 where
   pub body : List ℕ
   pub newest : IsNewest layout image c.slot c.generation body
   pub start_is : nothing_left (state_at body) ≡ Some c.start
-  pub inputs_are : inputs_of (records_of layout c.generation image) ≡ Some c.inputs
+  pub inputs_are : inputs_of (all_records format layout c.generation image) ≡ Some c.inputs
 
-from_parts : (layout : Layout) (image : Image) (n : Newest) (s : State) (inputs : List Input) → newest_of layout image ≡ Some n → nothing_left (state_at n.body) ≡ Some s
-    → inputs_of (records_of layout n.generation image) ≡ Some inputs → HasContents layout image (contents n.slot n.generation s inputs)
-from_parts layout image n s inputs newest start are = record { body = n.body; newest = (newest_some layout image n).0 newest; start_is = start; inputs_are = are }
+from_parts : (format : Format) (layout : Layout) (image : Image) (n : Newest) (s : State) (inputs : List Input) → newest_of layout image ≡ Some n → nothing_left (state_at n.body) ≡ Some s
+    → inputs_of (all_records format layout n.generation image) ≡ Some inputs → HasContents format layout image (contents n.slot n.generation s inputs)
+from_parts format layout image n s inputs newest start are = record { body = n.body; newest = (newest_some layout image n).0 newest; start_is = start; inputs_are = are }
 
-pub has_contents : (layout : Layout) (image : Image) (c : Contents) → contents_of layout image ≡ Some c → HasContents layout image c
-has_contents layout image c is =
+pub has_contents : (format : Format) (layout : Layout) (image : Image) (c : Contents) → contents_of format layout image ≡ Some c → HasContents format layout image c
+has_contents format layout image c is =
     let (n, newest, more) = bound (newest_of layout image) _ c is in
     let (s, start, others) = bound (nothing_left (state_at n.body)) _ c more in
-    let (inputs, are, same) = bound (inputs_of (records_of layout n.generation image)) _ c others in
-    subst (HasContents layout image) (same_Some _ c same) (from_parts layout image n s inputs newest start are)
+    let (inputs, are, same) = bound (inputs_of (all_records format layout n.generation image)) _ c others in
+    subst (HasContents format layout image) (same_Some _ c same) (from_parts format layout image n s inputs newest start are)
 
 -- The sectors of a store of a state, and what they come to.
-pub record IsHeld (layout : Layout) (image : Image) (s : State) : Type 0 where
+pub record IsHeld (format : Format) (layout : Layout) (image : Image) (s : State) : Type 0 where
   pub slot : Slot
   pub generation : ℕ
   pub body : List ℕ
   pub records : List (List ℕ)
   pub start : State
   pub inputs : List Input
-  pub store : IsStore layout image slot generation body records
+  pub store : IsStore format layout image slot generation body records
   pub comes : ComesTo (body_limit layout) body records start inputs s
-  pub holds : contents_of layout image ≡ Some (contents slot generation start inputs)
+  pub holds : contents_of format layout image ≡ Some (contents slot generation start inputs)
 
 -- ---- what a keeper makes of a store
 
@@ -216,40 +220,42 @@ pub comes_anew : {size : ℕ} {s : State} → nothing_left (state_at (state_spel
 comes_anew is may = record { start_is = is; inputs_are = refl; servable = may; run = rests }
 
 -- With one record more it is a store of the state after the step.
-pub one_more : {layout : Layout} {image : Image} {slot : Slot} {generation : ℕ} {body : List ℕ} {records : List (List ℕ)} {start : State} {inputs : List Input} {s t : State} {input : Input} {reply : Reply}
-    {actions : List Action} → IsStore layout image slot generation body (records ++ input_spelling input ∷ []) → ComesTo (body_limit layout) body records start inputs s
+pub one_more : {format : Format} {layout : Layout} {image : Image} {slot : Slot} {generation : ℕ} {body : List ℕ} {records : List (List ℕ)} {start : State} {inputs : List Input} {s t : State} {input : Input} {reply : Reply}
+    {actions : List Action} → IsStore format layout image slot generation body (records ++ input_spelling input ∷ []) → ComesTo (body_limit layout) body records start inputs s
     → FitInput input → Step (body_limit layout) s input reply actions t → IsStoreOf layout image t
 one_more store comes fit step = store_of store (comes_further comes fit step)
 
 -- With a state's own spelling and no record it is a store of that state.
-pub anew : {layout : Layout} {image : Image} {slot : Slot} {generation : ℕ} {s : State} → IsStore layout image slot generation (state_spelling s) []
+pub anew : {format : Format} {layout : Layout} {image : Image} {slot : Slot} {generation : ℕ} {s : State} → IsStore format layout image slot generation (state_spelling s) []
     → nothing_left (state_at (state_spelling s)) ≡ Some s → IsServable (body_limit layout) s → IsStoreOf layout image s
 anew store is may = store_of store (comes_anew is may)
 
 -- the empty state has bytes, and any store may hold it
 pub empty_back : nothing_left (state_at (state_spelling empty_state)) ≡ Some empty_state
-empty_back = state_back empty_state empty_fit
+empty_back = state_back empty_state (empty_fit current)
 
 pub empty_may : (layout : Layout) → IsServable (body_limit layout) empty_state
-empty_may layout = blank_servable (body_limit layout) empty_state (omega (arith, layout.slot_least)) empty_blank
+empty_may layout = blank_servable (body_limit layout) empty_state (omega (arith, layout.slot_least)) (empty_blank current)
 
 -- With the empty state's spelling and no record it is a store of the empty state.
-pub empty_store : {layout : Layout} {image : Image} {slot : Slot} {generation : ℕ} → IsStore layout image slot generation (state_spelling empty_state) [] → IsStoreOf layout image empty_state
-empty_store {layout} store = anew store empty_back (empty_may layout)
+pub empty_store : {format : Format} {layout : Layout} {image : Image} {slot : Slot} {generation : ℕ} → IsStore format layout image slot generation (state_spelling empty_state) [] → IsStoreOf layout image empty_state
+empty_store {format} {layout} store = anew store empty_back (empty_may layout)
 
 -- From what a keeper knows of an image without a run: no run over what it holds ends elsewhere.
-pub stands_by_ends : {layout : Layout} {image : Image} {c : Contents} {s : State} → image 0 ≡ superblock layout → contents_of layout image ≡ Some c → IsServable (body_limit layout) c.start
+pub stands_by_ends : (format : Format) {layout : Layout} {image : Image} {c : Contents} {s : State} → image 0 ≡ superblock format layout → contents_of format layout image ≡ Some c → IsServable (body_limit layout) c.start
     → ((t : State) → Run (body_limit layout) c.start c.inputs t → t ≡ s) → StandsFor layout image s
-stands_by_ends {c} first holds may only = record { first = first; contents = c; holds = holds; servable = may; run = run_to only }
+stands_by_ends format {c} first holds may only = record { format = format; first = first; contents = c; holds = holds; servable = may; run = run_to only }
 
-pub store_by_ends : {layout : Layout} {image : Image} {c : Contents} {s : State} → image 0 ≡ superblock layout → contents_of layout image ≡ Some c → IsServable (body_limit layout) c.start
-    → ((t : State) → Run (body_limit layout) c.start c.inputs t → t ≡ s) → IsFree layout (c.generation + 1) image (log_start layout (c.generation + 1)) → IsStoreOf layout image s
+pub store_by_ends : (format : Format) {layout : Layout} {image : Image} {c : Contents} {s : State} → image 0 ≡ superblock format layout → contents_of format layout image ≡ Some c → IsServable (body_limit layout) c.start
+    → ((t : State) → Run (body_limit layout) c.start c.inputs t → t ≡ s) → IsNoneAbove layout image (top format c.generation) → IsStoreOf layout image s
 unfolding stands_by_ends
-store_by_ends first holds may only free = record { stands = stands_by_ends first holds may only; none_later = free }
+store_by_ends format first holds may only free = record { stands = stands_by_ends format first holds may only; none_later = free }
 
 -- and back: of whatever is told as its contents
-pub ends_of : {layout : Layout} {image : Image} {c : Contents} {s : State} → StandsFor layout image s → contents_of layout image ≡ Some c
+pub ends_of : (format : Format) {layout : Layout} {image : Image} {c : Contents} {s : State} → StandsFor layout image s → image 0 ≡ superblock format layout → contents_of format layout image ≡ Some c
     → IsServable (body_limit layout) c.start × ((t : State) → Run (body_limit layout) c.start c.inputs t → t ≡ s)
-ends_of {layout} {image} {c} {s} one holds =
+ends_of format {layout} {image} {c} {s} one first holds =
+    let same = one_format one.format format layout layout (sym one.first ∙ first) in
+    let told : contents_of format layout image ≡ Some one.contents = subst (λ f. contents_of f layout image ≡ Some one.contents) same one.holds in
     subst (λ (d : Contents). IsServable (body_limit layout) d.start × ((t : State) → Run (body_limit layout) d.start d.inputs t → t ≡ s))
-    (one_contents layout image one.contents c one.holds holds) (one.servable, only_end one.run)
+    (one_contents format layout image one.contents c told holds) (one.servable, only_end one.run)

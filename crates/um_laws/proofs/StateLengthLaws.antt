@@ -180,18 +180,18 @@ pending_long s fit names held =
     let long = jobs_long (jobs_shown s.pending) fit.pending.jobs.1 in
     omega (arith, list_long job_spelling (jobs_shown s.pending), few, long, shown_few (map.entries s.pending))
 
-whole_long : (s : State) (a b c f g : ℕ) → length (tree_spelling s.tree) ≤ a → length (tree_spelling s.loaded) ≤ b → length (text_spelling s.boot) ≤ c
+whole_long : (s : State) (a b c f g : ℕ) → length (tree_spelling s.tree) ≤ a → length (tree_spelling s.loaded.entries) ≤ b → length (text_spelling s.boot) ≤ c
     → length (units_spelling s.units) ≤ f → length (pending_spelling s.pending) ≤ g → length (state_spelling s) ≤ 17 + a + b + c + f + g
 whole_long s a b c f g tree loaded boot units pending =
     let behind_next = units_spelling s.units ++ pending_spelling s.pending in
     let behind_clock = big_bytes 8 s.next ++ behind_next in
     let behind_boot = big_bytes 8 s.clock ++ behind_clock in
     let behind_loaded = text_spelling s.boot ++ behind_boot in
-    let behind_tree = tree_spelling s.loaded ++ behind_loaded in
+    let behind_tree = tree_spelling s.loaded.entries ++ behind_loaded in
     omega (
       arith,
       length-append (tree_spelling s.tree) behind_tree,
-      length-append (tree_spelling s.loaded) behind_loaded,
+      length-append (tree_spelling s.loaded.entries) behind_loaded,
       length-append (text_spelling s.boot) behind_boot,
       length-append (big_bytes 8 s.clock) behind_clock,
       length-append (big_bytes 8 s.next) behind_next,
@@ -201,12 +201,12 @@ whole_long s a b c f g tree loaded boot units pending =
     )
 
 -- where so many units count as known by its loaded tree
-pub spelled_short : (s : State) (n : ℕ) → FitState s → CountsFor s.loaded (IsHeld s) n → length (state_spelling s) ≤ weight_of s.tree s.loaded n
+pub spelled_short : (s : State) (n : ℕ) → FitState s → CountsFor s.loaded (IsHeld s) n → length (state_spelling s) ≤ weight_of s.tree s.loaded.entries n
 spelled_short s n fit counts =
     let known = counts.by_tree in
     let held : (unit : List ℕ) → IsHeld s unit → Among known.names unit = λ unit is. among_contained known.names unit ((known.whole unit).1 (first (extra is))) in
     let few : length known.names ≤ n = omega (arith, known.long, counts.greater) in
     let boot : length (text_spelling s.boot) ≤ 68 = omega (arith, text_long s.boot, leb-true (length s.boot) boot_limit fit.boot.1) in
-    let whole = whole_long s (4 + tree_weight s.tree) (4 + tree_weight s.loaded) 68 (4 + 309 * length known.names) (4 + 522 * length known.names)
-    (tree_long s.tree) (tree_long s.loaded) boot (units_long s fit known.names held) (pending_long s fit known.names held) in
+    let whole = whole_long s (4 + tree_weight s.tree) (4 + tree_weight s.loaded.entries) 68 (4 + 309 * length known.names) (4 + 522 * length known.names)
+    (tree_long s.tree) (tree_long s.loaded.entries) boot (units_long s fit known.names held) (pending_long s fit known.names held) in
     omega (arith, whole, few)

@@ -6,10 +6,25 @@ use Rattle.std.proofs.lemmas.List.{append-nil}
 use Rattle.byteorder.specs.Endian.{big_number, big_bytes}
 use Rattle.byteorder.specs.Numbers.{big_number-reads_back}
 use Rattle.um_model.specs.Disk.{Sector, Image}
+use Rattle.um_model.specs.declared.layout.Format.{Format}
+use Rattle.um_model.specs.declared.layout.Format.TheVariants.{One}
 use Rattle.um_model.specs.declared.layout.Layout.{Layout}
 use Rattle.um_model.specs.declared.layout.Slot.{Slot}
 use Rattle.um_model.specs.declared.layout.Slot.TheVariants.{A, B}
-use Rattle.um_model.specs.Store.{log_start, log_end, IsRecord, AreRecords, stops, goes_on, IsOf, IsFree, IsStore, filled, superblock, slot_start, other, body_limit, header_sector, IsHeader, sector_count, joined, body_at, IsNewest, HasNoHeader, IsSlotRead, head, behind, log_sector, part_count, part_of}
+use Rattle.um_model.specs.Store.{current, first_log_sector, area_sectors, area_start, area_end, store_sectors, longest, IsRecord, AreRecords, HasRecords, stops, goes_on, IsOf, IsNoneAbove, IsFree, filled, format_name, superblock, slot_start, other, body_limit, header_sector, IsHeader, sector_count, joined, body_at, IsNewest, HasNoHeader, IsSlotRead, head, behind, log_sector, part_count, part_of}
+
+-- ---- the places of a format
+
+-- each area lies in the log
+pub area_within : (format : Format) (layout : Layout) (generation : ℕ) → (first_log_sector layout ≤ area_start format layout generation) × (area_end format layout generation ≤ store_sectors layout)
+area_within One layout generation = (omega arith, omega arith)
+
+pub area_few : (format : Format) (layout : Layout) → area_sectors format layout ≤ layout.log_sectors
+area_few One layout = omega arith
+
+-- the longest record is far below the last value of its field
+pub longest_few : (format : Format) → longest format ≤ 131072
+longest_few One = omega arith
 
 -- ---- headers
 
@@ -97,7 +112,7 @@ module _ (layout : Layout) (a b : Image) (same : (j : ℕ) → IsSlotRead layout
   unread_none none slot generation size header = none slot generation size (subst (λ (s : Sector). IsHeader layout s generation size) (same _ (head slot)) header)
 
 -- sector 0 isn't one of them
-read_from_one : (layout : Layout) (image : Image) (j : ℕ) → IsSlotRead layout image j → 1 ≤ j
+pub read_from_one : (layout : Layout) (image : Image) (j : ℕ) → IsSlotRead layout image j → 1 ≤ j
 read_from_one layout image j (head A) = omega arith
 read_from_one layout image j (head B) = omega arith
 read_from_one layout image j (behind newest i below) = omega arith
@@ -138,9 +153,9 @@ apart layout A j low high = inl (omega (arith, high))
 apart layout B j low high = inr (omega (arith, low))
 
 -- the log lies behind both
-pub behind_slot : (layout : Layout) (slot : Slot) (generation j : ℕ) → log_start layout generation ≤ j → slot_start layout slot + layout.slot_sectors ≤ j
-behind_slot layout A generation j low = omega (arith, low)
-behind_slot layout B generation j low = omega (arith, low)
+pub behind_slot : (layout : Layout) (slot : Slot) (j : ℕ) → first_log_sector layout ≤ j → slot_start layout slot + layout.slot_sectors ≤ j
+behind_slot layout A j low = omega (arith, low)
+behind_slot layout B j low = omega (arith, low)
 
 -- sector 0 lies before both
 pub before_slot : (layout : Layout) (slot : Slot) → 0 < slot_start layout slot
@@ -172,30 +187,48 @@ module _ {layout : Layout} {old image : Image} {slot : Slot} {generation : ℕ} 
 pub is_of : (generation number part size : ℕ) (payload : List ℕ) → generation < 2 ^ 64 → IsOf generation (log_sector generation number part size payload)
 is_of generation number part size payload last = record { name = log_name generation number part size payload; generation_is = log_generation generation number part size payload last }
 
--- where nothing is of a generation, no record of it begins
-pub none_of : {layout : Layout} {generation : ℕ} {image : Image} {next : ℕ} → generation < 2 ^ 64 → IsFree layout generation image next
-    → (number at : ℕ) (bytes : List ℕ) → next ≤ at → IsRecord layout generation image number at bytes → ⊥
-none_of {layout} {generation} {image} {next} last free number at bytes low is =
+-- where no sector is of a generation, no record of it begins
+none_from : {format : Format} {layout : Layout} {generation : ℕ} {image : Image} {next : ℕ} → generation < 2 ^ 64
+    → ((j : ℕ) → next ≤ j → j < area_end format layout generation → IsOf generation (image j) → ⊥)
+    → (number at : ℕ) (bytes : List ℕ) → next ≤ at → IsRecord format layout generation image number at bytes → ⊥
+none_from {generation} {image} last none number at bytes low is =
     let some = is.some in
     let within = is.within in
     let first = is.parts 0 (omega (arith, some)) in
-    let below : generation < generation = free generation (at + 0) (omega (arith, low)) (omega (arith, some, within))
-    (subst (IsOf generation) (sym first) (is_of generation number 0 (length bytes) (part_of bytes 0) last)) in
-    omega (arith, below)
+    none (at + 0) (omega (arith, low)) (omega (arith, some, within)) (subst (IsOf generation) (sym first) (is_of generation number 0 (length bytes) (part_of bytes 0) last))
+
+pub none_of : {layout : Layout} {generation : ℕ} {image : Image} {next : ℕ} → generation < 2 ^ 64 → IsFree layout generation image next
+    → (number at : ℕ) (bytes : List ℕ) → next ≤ at → IsRecord current layout generation image number at bytes → ⊥
+none_of {generation} last free = none_from last (λ j low high is. let below : generation < generation = free generation j low high is in omega (arith, below))
+
+-- and a generation above all that stand in the log has no record
+pub none_above : (format : Format) (layout : Layout) (generation last : ℕ) (image : Image) → generation < 2 ^ 64 → last < generation → IsNoneAbove layout image last
+    → HasRecords format layout generation image []
+none_above format layout generation last image fits above none =
+    let within = area_within format layout generation in
+    stops (λ bytes. none_from {next = area_start format layout generation} fits
+    (λ j low high is. let below : generation ≤ last = none generation j (omega (arith, low, within.0)) (omega (arith, high, within.1)) is in omega (arith, below, above))
+    0 (area_start format layout generation) bytes (omega arith))
 
 -- what agrees on a record's sectors has the record
-pub same_record : {layout : Layout} {generation number at : ℕ} {bytes : List ℕ} {a b : Image} → IsRecord layout generation a number at bytes
-    → ((i : ℕ) → i < part_count (length bytes) → b (at + i) ≡ a (at + i)) → IsRecord layout generation b number at bytes
+pub same_record : {format : Format} {layout : Layout} {generation number at : ℕ} {bytes : List ℕ} {a b : Image} → IsRecord format layout generation a number at bytes
+    → ((i : ℕ) → i < part_count (length bytes) → b (at + i) ≡ a (at + i)) → IsRecord format layout generation b number at bytes
 same_record is same = record { some = is.some; short = is.short; within = is.within; parts = λ part below. same part below ∙ is.parts part below }
 
 -- what agrees from a place on has the same records
-pub same_records : {layout : Layout} {generation : ℕ} {a b : Image} (number at : ℕ) (records : List (List ℕ)) → ((j : ℕ) → at ≤ j → j < log_end layout generation → b j ≡ a j)
-    → AreRecords layout generation a number at records → AreRecords layout generation b number at records
+pub same_records : {format : Format} {layout : Layout} {generation : ℕ} {a b : Image} (number at : ℕ) (records : List (List ℕ))
+    → ((j : ℕ) → at ≤ j → j < area_end format layout generation → b j ≡ a j)
+    → AreRecords format layout generation a number at records → AreRecords format layout generation b number at records
 same_records number at [] same (stops nothing) =
     stops (λ bytes is. nothing bytes (same_record is (λ i below. let within = is.within in sym (same (at + i) (omega arith) (omega (arith, within, below))))))
 same_records number at (bytes ∷ records) same (goes_on is rest) =
     goes_on (same_record is (λ i below. let within = is.within in same (at + i) (omega arith) (omega (arith, within, below))))
     (same_records (suc number) (at + part_count (length bytes)) records (λ j low high. same j (omega (arith, low)) high) rest)
+
+-- a log in which no sector changes stays without a later generation
+pub same_above : (layout : Layout) {a b : Image} {generation : ℕ} → ((j : ℕ) → first_log_sector layout ≤ j → j < store_sectors layout → b j ≡ a j)
+    → IsNoneAbove layout a generation → IsNoneAbove layout b generation
+same_above layout same none theirs j low high is = none theirs j low high (subst (IsOf theirs) (same j low high) is)
 
 -- ---- the first snapshot of a store
 
@@ -210,32 +243,29 @@ blank_log generation is = no_name is.name
     no_name : 0 ∷ 0 ∷ 0 ∷ 0 ∷ [] ≡ codes "UMLG" → ⊥
     no_name e = absurd (cc)
 
--- With sector 0 it is a store without records.
-pub made_store : {layout : Layout} {old image : Image} {slot : Slot} {generation : ℕ} {body : List ℕ} → IsNewest layout old slot generation body → generation < 2 ^ 64 → IsFree layout generation old (log_start layout generation)
-    → ((j : ℕ) → 1 ≤ j → image j ≡ old j) → image 0 ≡ superblock layout → IsStore layout image slot generation body []
-made_store {layout} {old} {image} {slot} {generation} {body} newest last free same first = record {
-  first = first;
-  newest = unread_newest layout old image (λ j read. same j (read_from_one layout old j read)) newest;
-  records_are = stops (λ bytes. none_of last (λ theirs j low high is. free theirs j low high (subst (IsOf theirs) (same j (omega (arith, low))) is)) 0 (log_start layout generation) bytes (omega arith));
-  none_later = λ theirs j low high is. let below = free theirs j low high (subst (IsOf theirs) (same j (omega (arith, low))) is) in omega (arith, below);
-}
-
 -- ---- sector 0
 
 -- sector 0 tells the layout's sizes
-pub superblock_says : (layout : Layout) → (big_number 4 (drop 8 (superblock layout)) ≡ layout.slot_sectors) × (big_number 4 (drop 12 (superblock layout)) ≡ layout.log_sectors)
+pub superblock_says : (format : Format) (layout : Layout) → (big_number 4 (drop 8 (superblock format layout)) ≡ layout.slot_sectors) × (big_number 4 (drop 12 (superblock format layout)) ≡ layout.log_sectors)
 unfolding superblock filled
-superblock_says layout = (
+superblock_says One layout = (
   big_number-reads_back 4 layout.slot_sectors (big_bytes 4 layout.log_sectors ++ replicate 496 0) (omega (arith, layout.slot_most)),
   big_number-reads_back 4 layout.log_sectors (replicate 496 0) (omega (arith, layout.log_most)),
 )
 
 -- layouts of the same sizes have the same sector 0
-pub same_superblock : (a b : Layout) → a.slot_sectors ≡ b.slot_sectors → a.log_sectors ≡ b.log_sectors → superblock a ≡ superblock b
+pub same_superblock : (format : Format) (a b : Layout) → a.slot_sectors ≡ b.slot_sectors → a.log_sectors ≡ b.log_sectors → superblock format a ≡ superblock format b
 unfolding superblock
-same_superblock a b slots log = λ i. filled (codes "UMDISK01" ++ (big_bytes 4 (slots i) ++ big_bytes 4 (log i)))
+same_superblock format a b slots log = λ i. filled (format_name format ++ (big_bytes 4 (slots i) ++ big_bytes 4 (log i)))
 
 -- it begins with its name
-pub superblock_name : (layout : Layout) → take 8 (superblock layout) ≡ codes "UMDISK01"
+pub superblock_name : (format : Format) (layout : Layout) → take 8 (superblock format layout) ≡ format_name format
 unfolding superblock filled
-superblock_name layout = refl
+superblock_name One layout = refl
+
+-- which tells the format
+pub one_format : (f g : Format) (l m : Layout) → superblock f l ≡ superblock g m → f ≡ g
+one_format One One l m same = refl
+
+pub same_name : (f g : Format) → format_name f ≡ format_name g → f ≡ g
+same_name One One same = refl

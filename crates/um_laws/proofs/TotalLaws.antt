@@ -2,6 +2,8 @@
 use Rattle.std.proofs.Common.{ℕ, ◌≡◌, ◌≢◌, ◌⊎◌, ◌∙◌, Bool, true, false, true≢false, List, [], ◌∷◌, ◌++◌, Option, Some, None, Result, Ok, Err, refl, sym, ap, subst, inl, inr}
 use Rattle.std.proofs.lemmas.Option.{none-some, same_Some}
 use Rattle.std.specs.FinMap as map
+use Rattle.um_model.specs.Profiles.{ReadTree, read_by}
+use Rattle.um_model.specs.declared.profile.Profile.{Profile}
 use Rattle.um_model.specs.Least.{IsNamedBefore}
 use Rattle.um_model.specs.Refusals.{Refused, FirstCause, at_first, at_second, no_room, no_such_job, not_loaded}
 use Rattle.um_model.specs.Tree.{Tree, put_file, put_link, remove_at}
@@ -11,7 +13,7 @@ use Rattle.um_model.specs.Service.{Action, ByUnit, state_of_unit}
 use Rattle.um_model.specs.Plan.{IsPlan, CausesOfPlan, NamesCycle}
 use Rattle.um_model.specs.Ends.{waits_for_report, has_one_command}
 use Rattle.um_model.specs.Transitions.{HasNumber}
-use Rattle.um_model.specs.Machine.{State, Command, PutFile, PutLink, Remove, DaemonReload, ForUnit, Cancel, ResetFailed, Install, Happening, ProcessEnded, ProcessExecuted, Tick, Booted, Event, Commanded, Happened, Input, Reply, Done, Refusal, IsHeld, IsHeldOr, IsBefore, IsProcessOf, IsOver, end_of, settings_in, AwaitsReport, booted, Follows, ends, reports, ticks, boots, HasNoEffect, is_over, isnt_awaited, is_idle, is_known, active_asked, demand_of, jobs_asked, unit_asked, scene_at, IsCrowded, IsNotThere, to_stop, to_try_restart, IsMissing, PlansTooMany, by_name, by_jobs, HasNoPlan, HasNoneWaiting, CausesOfLoad, LoadsNone, Refuses, Changes, puts, links, removes, reloads, plans, demands_nothing, cancels, installs, units_reset, Does, changes, resets, TakesEffect, obeys, meets, moment_of, HasNoRoom, Step, refused, crowded_out, idle, taken}
+use Rattle.um_model.specs.Machine.{as_loaded, State, Command, PutFile, PutLink, Remove, DaemonReload, ForUnit, Cancel, ResetFailed, Install, Happening, ProcessEnded, ProcessExecuted, Tick, Booted, Event, Commanded, Happened, Input, Reply, Done, Refusal, IsHeld, IsHeldOr, IsBefore, IsProcessOf, IsOver, end_of, settings_in, AwaitsReport, booted, Follows, ends, reports, ticks, boots, HasNoEffect, is_over, isnt_awaited, is_idle, is_known, active_asked, demand_of, jobs_asked, unit_asked, scene_at, IsCrowded, IsNotThere, to_stop, to_try_restart, IsMissing, PlansTooMany, by_name, by_jobs, HasNoPlan, HasNoneWaiting, CausesOfLoad, LoadsNone, Refuses, Changes, puts, links, removes, reloads, plans, demands_nothing, cancels, installs, units_reset, Does, changes, resets, TakesEffect, obeys, meets, moment_of, HasNoRoom, Step, refused, crowded_out, idle, taken}
 use Rattle.um_model.specs.declared.commands.JobMode.{JobMode}
 use Rattle.um_model.specs.declared.commands.UnitVerb.{UnitVerb}
 use Rattle.um_model.specs.declared.commands.UnitVerb.TheVariants as verbs
@@ -180,160 +182,161 @@ module _ (s : State) (verb : UnitVerb) (asked : List ℕ) (mode : JobMode) where
       by_demand (Some demand) e = plan_refused_or_not demand e
 
   -- where nothing refuses the command, a state follows
-  a_planned : (u : State) × Changes s (ForUnit verb asked mode) u
-  a_planned = by_demand (demand_of verb (active_asked s asked)) refl
+  a_planned : (profile : Profile) → (u : State) × Changes profile s (ForUnit verb asked mode) u
+  a_planned profile = by_demand (demand_of verb (active_asked s asked)) refl
     where
-      by_demand : (o : Option Demand) → demand_of verb (active_asked s asked) ≡ o → (u : State) × Changes s (ForUnit verb asked mode) u
+      by_demand : (o : Option Demand) → demand_of verb (active_asked s asked) ≡ o → (u : State) × Changes profile s (ForUnit verb asked mode) u
       by_demand None e = (s, demands_nothing e)
       by_demand (Some demand) e =
           let made = a_plan_made demand e in
           (record s { pending = made.0 }, plans e made.1)
 
   -- and so of all causes
-  planned_or_not : OneOrNone (Refuses s (ForUnit verb asked mode))
-  planned_or_not = first_or_none _ _ too_many_or_none (first_or_none _ _ (there_or_not s verb asked) plan_or_none)
+  planned_or_not : (profile : Profile) → OneOrNone (Refuses profile s (ForUnit verb asked mode))
+  planned_or_not profile = first_or_none _ _ too_many_or_none (first_or_none _ _ (there_or_not s verb asked) plan_or_none)
 
 -- ---- a command is refused or changes the state
 
--- what becomes of a command: it is refused, or changes the state
-abbrev Becomes : State → Command → Type 0
-Becomes s command = ((r : Refused) × Refuses s command r) ⊎ (((r : Refused) → ¬ (Refuses s command r)) × ((u : State) × Changes s command u))
+module _ (profile : Profile) where
+  -- what becomes of a command: it is refused, or changes the state
+  abbrev Becomes : State → Command → Type 0
+  Becomes s command = ((r : Refused) × Refuses profile s command r) ⊎ (((r : Refused) → ¬ (Refuses profile s command r)) × ((u : State) × Changes profile s command u))
 
-isnt_refused : (result : Result Tree Refused) (tree : Tree) (r : Refused) → result ≡ Ok tree → ¬ (result ≡ Err r)
-isnt_refused result tree r e f = cc
+  isnt_refused : (result : Result Tree Refused) (tree : Tree) (r : Refused) → result ≡ Ok tree → ¬ (result ≡ Err r)
+  isnt_refused result tree r e f = cc
 
-put_becomes : (s : State) (path text : List ℕ) (result : Result Tree Refused) → put_file s.tree path text ≡ result → Becomes s (PutFile path text)
-put_becomes s path text (Err r) e = inl (r, e)
-put_becomes s path text (Ok tree) e = inr (free, (_, puts e))
-  where
-    free : (r : Refused) → ¬ (Refuses s (PutFile path text) r)
-    free r f = isnt_refused (put_file s.tree path text) tree r e f
+  put_becomes : (s : State) (path text : List ℕ) (result : Result Tree Refused) → put_file s.tree path text ≡ result → Becomes s (PutFile path text)
+  put_becomes s path text (Err r) e = inl (r, e)
+  put_becomes s path text (Ok tree) e = inr (free, (_, puts e))
+    where
+      free : (r : Refused) → ¬ (Refuses profile s (PutFile path text) r)
+      free r f = isnt_refused (put_file s.tree path text) tree r e f
 
-link_becomes : (s : State) (path target : List ℕ) (result : Result Tree Refused) → put_link s.tree path target ≡ result → Becomes s (PutLink path target)
-link_becomes s path target (Err r) e = inl (r, e)
-link_becomes s path target (Ok tree) e = inr (free, (_, links e))
-  where
-    free : (r : Refused) → ¬ (Refuses s (PutLink path target) r)
-    free r f = isnt_refused (put_link s.tree path target) tree r e f
+  link_becomes : (s : State) (path target : List ℕ) (result : Result Tree Refused) → put_link s.tree path target ≡ result → Becomes s (PutLink path target)
+  link_becomes s path target (Err r) e = inl (r, e)
+  link_becomes s path target (Ok tree) e = inr (free, (_, links e))
+    where
+      free : (r : Refused) → ¬ (Refuses profile s (PutLink path target) r)
+      free r f = isnt_refused (put_link s.tree path target) tree r e f
 
-removal_becomes : (s : State) (path : List ℕ) (result : Result Tree Refused) → remove_at s.tree path ≡ result → Becomes s (Remove path)
-removal_becomes s path (Err r) e = inl (r, e)
-removal_becomes s path (Ok tree) e = inr (free, (_, removes e))
-  where
-    free : (r : Refused) → ¬ (Refuses s (Remove path) r)
-    free r f = isnt_refused (remove_at s.tree path) tree r e f
+  removal_becomes : (s : State) (path : List ℕ) (result : Result Tree Refused) → remove_at s.tree path ≡ result → Becomes s (Remove path)
+  removal_becomes s path (Err r) e = inl (r, e)
+  removal_becomes s path (Ok tree) e = inr (free, (_, removes e))
+    where
+      free : (r : Refused) → ¬ (Refuses profile s (Remove path) r)
+      free r f = isnt_refused (remove_at s.tree path) tree r e f
 
--- one cause keeps a tree from being loaded, or none does
-load_or_none : (s : State) (tree : Tree) → OneOrNone (CausesOfLoad s tree)
-load_or_none s tree =
-    let held = held_list s in
-    first_or_none _ _ (crowded_or_none (IsHeld s) held.0 held.1 tree) (cycle_or_no_refusal (IsBefore tree) (before_or_not tree) s.pending)
+  -- one cause keeps a tree from being loaded, or none does
+  load_or_none : (s : State) (tree : ReadTree) → OneOrNone (CausesOfLoad s tree)
+  load_or_none s tree =
+      let held = held_list s in
+      first_or_none _ _ (crowded_or_none (IsHeld s) held.0 held.1 tree) (cycle_or_no_refusal (IsBefore tree) (before_or_not tree) s.pending)
 
-reload_becomes : (s : State) → OneOrNone (CausesOfLoad s s.tree) → Becomes s DaemonReload
-reload_becomes s (inl found) = inl (found.0, found.1)
-reload_becomes s (inr none) = inr (free, (_, reloads))
-  where
-    free : (r : Refused) → ¬ (Refuses s DaemonReload r)
-    free r h = none r h
+  reload_becomes : (s : State) → OneOrNone (CausesOfLoad s (as_loaded profile s s.tree)) → Becomes s DaemonReload
+  reload_becomes s (inl found) = inl (found.0, found.1)
+  reload_becomes s (inr none) = inr (free, (_, reloads))
+    where
+      free : (r : Refused) → ¬ (Refuses profile s DaemonReload r)
+      free r h = none r h
 
-plan_becomes : (s : State) (verb : UnitVerb) (asked : List ℕ) (mode : JobMode) → OneOrNone (Refuses s (ForUnit verb asked mode)) → Becomes s (ForUnit verb asked mode)
-plan_becomes s verb asked mode (inl found) = inl (found.0, found.1)
-plan_becomes s verb asked mode (inr none) = inr (free, a_planned s verb asked mode)
-  where
-    free : (r : Refused) → ¬ (Refuses s (ForUnit verb asked mode) r)
-    free r h = none r h
+  plan_becomes : (s : State) (verb : UnitVerb) (asked : List ℕ) (mode : JobMode) → OneOrNone (Refuses profile s (ForUnit verb asked mode)) → Becomes s (ForUnit verb asked mode)
+  plan_becomes s verb asked mode (inl found) = inl (found.0, found.1)
+  plan_becomes s verb asked mode (inr none) = inr (free, a_planned s verb asked mode profile)
+    where
+      free : (r : Refused) → ¬ (Refuses profile s (ForUnit verb asked mode) r)
+      free r h = none r h
 
-waits_or_not : (s : State) (asked : List ℕ) → OneOrNone (HasNoneWaiting s asked)
-waits_or_not s asked = by_test (has_waiting (jobs_asked s asked)) refl
-  where
-    by_test : (waits : Bool) → has_waiting (jobs_asked s asked) ≡ waits → OneOrNone (HasNoneWaiting s asked)
-    by_test true e = inr (λ r h. true≢false (sym e ∙ none_told (jobs_asked s asked) h.none))
-    by_test false e = inl (no_such_job (unit_asked s asked), record { none = none_waiting (jobs_asked s asked) e; refusal = refl })
+  waits_or_not : (s : State) (asked : List ℕ) → OneOrNone (HasNoneWaiting s asked)
+  waits_or_not s asked = by_test (has_waiting (jobs_asked s asked)) refl
+    where
+      by_test : (waits : Bool) → has_waiting (jobs_asked s asked) ≡ waits → OneOrNone (HasNoneWaiting s asked)
+      by_test true e = inr (λ r h. true≢false (sym e ∙ none_told (jobs_asked s asked) h.none))
+      by_test false e = inl (no_such_job (unit_asked s asked), record { none = none_waiting (jobs_asked s asked) e; refusal = refl })
 
-cancel_becomes : (s : State) (asked : List ℕ) → OneOrNone (Refuses s (Cancel asked)) → Becomes s (Cancel asked)
-cancel_becomes s asked (inl found) = inl (found.0, found.1)
-cancel_becomes s asked (inr none) = inr (free, (_, cancels))
-  where
-    free : (r : Refused) → ¬ (Refuses s (Cancel asked) r)
-    free r h = none r h
+  cancel_becomes : (s : State) (asked : List ℕ) → OneOrNone (Refuses profile s (Cancel asked)) → Becomes s (Cancel asked)
+  cancel_becomes s asked (inl found) = inl (found.0, found.1)
+  cancel_becomes s asked (inr none) = inr (free, (_, cancels))
+    where
+      free : (r : Refused) → ¬ (Refuses profile s (Cancel asked) r)
+      free r h = none r h
 
-install_becomes : (s : State) (verb : InstallVerb) (unit : List ℕ) → Becomes s (Install verb unit)
-install_becomes s verb unit = by_tree (a_tree_installed s.tree verb unit)
-  where
-    -- a cause refuses the tree that is made, or none does
-    loads_or_none : (tree : Tree) → Installs s.tree verb unit tree → (Cause : Tree → Refused → Type 0) → OneOrNone (Cause tree) → OneOrNone (LoadsNone s verb unit Cause)
-    loads_or_none tree made Cause (inl found) = inl (found.0, record { tree = tree; installs = made; cause = found.1 })
-    loads_or_none tree made Cause (inr free) =
-        inr (λ r h. free r (subst (λ t. Cause t r) (one_install s.tree verb unit h.tree tree h.installs made) h.cause))
+  install_becomes : (s : State) (verb : InstallVerb) (unit : List ℕ) → Becomes s (Install verb unit)
+  install_becomes s verb unit = by_tree (a_tree_installed (read_by profile s.tree) verb unit)
+    where
+      -- a cause refuses the tree that is made, or none does
+      loads_or_none : (tree : Tree) → Installs (read_by profile s.tree) verb unit tree → (Cause : ReadTree → Refused → Type 0) → OneOrNone (Cause (as_loaded profile s tree)) → OneOrNone (LoadsNone profile s verb unit Cause)
+      loads_or_none tree made Cause (inl found) = inl (found.0, record { tree = tree; installs = made; cause = found.1 })
+      loads_or_none tree made Cause (inr free) =
+          inr (λ r h. free r (subst (λ t. Cause (as_loaded profile s t) r) (one_install (read_by profile s.tree) verb unit h.tree tree h.installs made) h.cause))
 
-    later_or_none : (tree : Tree) → Installs s.tree verb unit tree
-        → OneOrNone (FirstCause (LoadsNone s verb unit (λ t. IsCrowded t (IsHeld s)))
-        (FirstCause (RefusesUnits s.tree verb unit) (LoadsNone s verb unit (λ t. NamesCycle (IsBefore t) s.pending))))
-    later_or_none tree made =
-        let held = held_list s in
-        first_or_none _ _ (loads_or_none tree made (λ t. IsCrowded t (IsHeld s)) (crowded_or_none (IsHeld s) held.0 held.1 tree))
-        (first_or_none _ _ (units_refused_or_not s.tree verb unit)
-        (loads_or_none tree made (λ t. NamesCycle (IsBefore t) s.pending) (cycle_or_no_refusal (IsBefore tree) (before_or_not tree) s.pending)))
+      later_or_none : (tree : Tree) → Installs (read_by profile s.tree) verb unit tree
+          → OneOrNone (FirstCause (LoadsNone profile s verb unit (λ t. IsCrowded t (IsHeld s)))
+          (FirstCause (RefusesUnits (read_by profile s.tree) verb unit) (LoadsNone profile s verb unit (λ t. NamesCycle (IsBefore t) s.pending))))
+      later_or_none tree made =
+          let held = held_list s in
+          first_or_none _ _ (loads_or_none tree made (λ t. IsCrowded t (IsHeld s)) (crowded_or_none (IsHeld s) held.0 held.1 (as_loaded profile s tree)))
+          (first_or_none _ _ (units_refused_or_not (read_by profile s.tree) verb unit)
+          (loads_or_none tree made (λ t. NamesCycle (IsBefore t) s.pending) (cycle_or_no_refusal (IsBefore (as_loaded profile s tree)) (before_or_not (as_loaded profile s tree)) s.pending)))
 
-    is_free : ((r : Refused) → ¬ (RefusesLinks s.tree verb unit r))
-        → ((r : Refused) → ¬ FirstCause (LoadsNone s verb unit (λ t. IsCrowded t (IsHeld s)))
-        (FirstCause (RefusesUnits s.tree verb unit) (LoadsNone s verb unit (λ t. NamesCycle (IsBefore t) s.pending))) r) → (r : Refused)
-        → ¬ (Refuses s (Install verb unit) r)
-    is_free none free r (at_first h) = none r h
-    is_free none free r (at_second _ h) = free r h
+      is_free : ((r : Refused) → ¬ (RefusesLinks (read_by profile s.tree) verb unit r))
+          → ((r : Refused) → ¬ FirstCause (LoadsNone profile s verb unit (λ t. IsCrowded t (IsHeld s)))
+          (FirstCause (RefusesUnits (read_by profile s.tree) verb unit) (LoadsNone profile s verb unit (λ t. NamesCycle (IsBefore t) s.pending))) r) → (r : Refused)
+          → ¬ (Refuses profile s (Install verb unit) r)
+      is_free none free r (at_first h) = none r h
+      is_free none free r (at_second _ h) = free r h
 
-    by_later : ((r : Refused) → ¬ (RefusesLinks s.tree verb unit r)) → (tree : Tree) → Installs s.tree verb unit tree
-        → OneOrNone (FirstCause (LoadsNone s verb unit (λ t. IsCrowded t (IsHeld s)))
-        (FirstCause (RefusesUnits s.tree verb unit) (LoadsNone s verb unit (λ t. NamesCycle (IsBefore t) s.pending)))) → Becomes s (Install verb unit)
-    by_later none tree made (inl found) = inl (found.0, at_second none found.1)
-    by_later none tree made (inr free) = inr (is_free none free, (_, installs made))
+      by_later : ((r : Refused) → ¬ (RefusesLinks (read_by profile s.tree) verb unit r)) → (tree : Tree) → Installs (read_by profile s.tree) verb unit tree
+          → OneOrNone (FirstCause (LoadsNone profile s verb unit (λ t. IsCrowded t (IsHeld s)))
+          (FirstCause (RefusesUnits (read_by profile s.tree) verb unit) (LoadsNone profile s verb unit (λ t. NamesCycle (IsBefore t) s.pending)))) → Becomes s (Install verb unit)
+      by_later none tree made (inl found) = inl (found.0, at_second none found.1)
+      by_later none tree made (inr free) = inr (is_free none free, (_, installs made))
 
-    by_tree : ((r : Refused) × RefusesLinks s.tree verb unit r) ⊎ (((r : Refused) → ¬ (RefusesLinks s.tree verb unit r)) × ((tree : Tree) × Installs s.tree verb unit tree))
-        → Becomes s (Install verb unit)
-    by_tree (inl found) = inl (found.0, (at_first found.1))
-    by_tree (inr (none, (tree, made))) = by_later none tree made (later_or_none tree made)
+      by_tree : ((r : Refused) × RefusesLinks (read_by profile s.tree) verb unit r) ⊎ (((r : Refused) → ¬ (RefusesLinks (read_by profile s.tree) verb unit r)) × ((tree : Tree) × Installs (read_by profile s.tree) verb unit tree))
+          → Becomes s (Install verb unit)
+      by_tree (inl found) = inl (found.0, (at_first found.1))
+      by_tree (inr (none, (tree, made))) = by_later none tree made (later_or_none tree made)
 
--- ---- a command is refused or obeyed
+  -- ---- a command is refused or obeyed
 
--- it is refused, or does what it does at the moment t
-abbrev IsAnswered : ℕ → State → Command → Type 0
-IsAnswered t s command = ((r : Refused) × Refuses s command r) ⊎ (((r : Refused) → ¬ (Refuses s command r)) × HasOutcome (Does t s command))
+  -- it is refused, or does what it does at the moment t
+  abbrev IsAnswered : ℕ → State → Command → Type 0
+  IsAnswered t s command = ((r : Refused) × Refuses profile s command r) ⊎ (((r : Refused) → ¬ (Refuses profile s command r)) × HasOutcome (Does profile t s command))
 
-by_change : (t : ℕ) (s : State) (command : Command) → Becomes s command → IsAnswered t s command
-by_change t s command (inl found) = inl found
-by_change t s command (inr changed) = inr (changed.0, ([], changed.1.0, changes changed.1.1))
+  by_change : (t : ℕ) (s : State) (command : Command) → Becomes s command → IsAnswered t s command
+  by_change t s command (inl found) = inl found
+  by_change t s command (inr changed) = inr (changed.0, ([], changed.1.0, changes changed.1.1))
 
-reset_done : (t : ℕ) (s : State) (asked : Option (List ℕ)) → HasOutcome (Does t s (ResetFailed asked))
-reset_done t s asked =
-    let done = a_reset t (units_reset s asked) s in
-    (done.0, done.1, resets done.2)
+  reset_done : (t : ℕ) (s : State) (asked : Option (List ℕ)) → HasOutcome (Does profile t s (ResetFailed asked))
+  reset_done t s asked =
+      let done = a_reset t (units_reset s asked) s in
+      (done.0, done.1, resets done.2)
 
-reset_one : (t : ℕ) (s : State) (asked : List ℕ) → OneOrNone (IsMissing s asked) → IsAnswered t s (ResetFailed (Some asked))
-reset_one t s asked (inl found) = inl (found.0, found.1)
-reset_one t s asked (inr none) = inr (free, reset_done t s (Some asked))
-  where
-    free : (r : Refused) → ¬ (Refuses s (ResetFailed (Some asked)) r)
-    free r h = none r h
+  reset_one : (t : ℕ) (s : State) (asked : List ℕ) → OneOrNone (IsMissing s asked) → IsAnswered t s (ResetFailed (Some asked))
+  reset_one t s asked (inl found) = inl (found.0, found.1)
+  reset_one t s asked (inr none) = inr (free, reset_done t s (Some asked))
+    where
+      free : (r : Refused) → ¬ (Refuses profile s (ResetFailed (Some asked)) r)
+      free r h = none r h
 
-reset_all : (t : ℕ) (s : State) → IsAnswered t s (ResetFailed None)
-reset_all t s = inr (λ r h. elim h [ ], reset_done t s None)
+  reset_all : (t : ℕ) (s : State) → IsAnswered t s (ResetFailed None)
+  reset_all t s = inr (λ r h. elim h [ ], reset_done t s None)
 
-command_answered : (t : ℕ) (s : State) (command : Command) → IsAnswered t s command
-command_answered t s (PutFile path text) = by_change t s _ (put_becomes s path text (put_file s.tree path text) refl)
-command_answered t s (PutLink path target) = by_change t s _ (link_becomes s path target (put_link s.tree path target) refl)
-command_answered t s (Remove path) = by_change t s _ (removal_becomes s path (remove_at s.tree path) refl)
-command_answered t s DaemonReload = by_change t s _ (reload_becomes s (load_or_none s s.tree))
-command_answered t s (ForUnit verb asked mode) = by_change t s _ (plan_becomes s verb asked mode (planned_or_not s verb asked mode))
-command_answered t s (Cancel asked) = by_change t s _ (cancel_becomes s asked (first_or_none _ _ (missing_or_not s asked) (waits_or_not s asked)))
-command_answered t s (ResetFailed None) = reset_all t s
-command_answered t s (ResetFailed (Some asked)) = reset_one t s asked (missing_or_not s asked)
-command_answered t s (Install verb unit) = by_change t s _ (install_becomes s verb unit)
+  command_answered : (t : ℕ) (s : State) (command : Command) → IsAnswered t s command
+  command_answered t s (PutFile path text) = by_change t s _ (put_becomes s path text (put_file s.tree path text) refl)
+  command_answered t s (PutLink path target) = by_change t s _ (link_becomes s path target (put_link s.tree path target) refl)
+  command_answered t s (Remove path) = by_change t s _ (removal_becomes s path (remove_at s.tree path) refl)
+  command_answered t s DaemonReload = by_change t s _ (reload_becomes s (load_or_none s (as_loaded profile s s.tree)))
+  command_answered t s (ForUnit verb asked mode) = by_change t s _ (plan_becomes s verb asked mode (planned_or_not s verb asked mode profile))
+  command_answered t s (Cancel asked) = by_change t s _ (cancel_becomes s asked (first_or_none _ _ (missing_or_not s asked) (waits_or_not s asked)))
+  command_answered t s (ResetFailed None) = reset_all t s
+  command_answered t s (ResetFailed (Some asked)) = reset_one t s asked (missing_or_not s asked)
+  command_answered t s (Install verb unit) = by_change t s _ (install_becomes s verb unit)
 
 -- ---- what happens has an effect or none
 
 -- a step from the state, by this input
-abbrev HasStep : ℕ → State → ℕ → Event → Type 0
-HasStep size s moment event = (reply : Reply) × (actions : List Action) × (t : State) × Step size s (record { moment = moment; event = event }) reply actions t
+abbrev HasStep : ℕ → State → Profile → ℕ → Event → Type 0
+HasStep size s profile moment event = (reply : Reply) × (actions : List Action) × (t : State) × Step size s (record { profile = profile; moment = moment; event = event }) reply actions t
 
 -- an effect
 abbrev HasEffect : ℕ → State → Happening → Type 0
@@ -428,26 +431,26 @@ room_or_not size (Commanded command) u = heavy_or_not size u
 room_or_not size (Happened happening) u = inr (λ never. never)
 
 -- so that it is taken or crowded out
-taken_or_not : (size : ℕ) (s : State) (moment : ℕ) (event : Event) (actions : List Action) (u : State) → TakesEffect (moment_of s moment) s event actions u
-    → IsDecided (HasNoRoom size event u) → HasStep size s moment event
+taken_or_not : {profile : Profile} (size : ℕ) (s : State) (moment : ℕ) (event : Event) (actions : List Action) (u : State) → TakesEffect profile (moment_of s moment) s event actions u
+    → IsDecided (HasNoRoom size event u) → HasStep size s profile moment event
 taken_or_not size s moment event actions u takes (inl heavy) = (Refusal no_room, [], s, crowded_out takes heavy)
 taken_or_not size s moment event actions u takes (inr light) = (_, actions, _, taken takes light)
 
-command_steps : (size : ℕ) (s : State) (moment : ℕ) (command : Command) → IsAnswered (moment_of s moment) s command → HasStep size s moment (Commanded command)
-command_steps size s moment command (inl found) = (Refusal found.0, [], s, refused found.1)
-command_steps size s moment command (inr (free, (first, u, done))) =
+command_steps : (size : ℕ) (s : State) (profile : Profile) (moment : ℕ) (command : Command) → IsAnswered profile (moment_of s moment) s command → HasStep size s profile moment (Commanded command)
+command_steps size s profile moment command (inl found) = (Refusal found.0, [], s, refused found.1)
+command_steps size s profile moment command (inr (free, (first, u, done))) =
     let settled = a_settling (moment_of s moment) u in
     taken_or_not size s moment (Commanded command) (first ++ settled.0) settled.1 (obeys free done settled.2) (room_or_not size (Commanded command) settled.1)
 
-happening_steps : (size : ℕ) (s : State) (moment : ℕ) (happening : Happening) → HasEffect (moment_of s moment) s happening → HasStep size s moment (Happened happening)
-happening_steps size s moment happening (inl none) = (Done, [], s, idle none)
-happening_steps size s moment happening (inr effect) =
+happening_steps : (size : ℕ) (s : State) (profile : Profile) (moment : ℕ) (happening : Happening) → HasEffect (moment_of s moment) s happening → HasStep size s profile moment (Happened happening)
+happening_steps size s profile moment happening (inl none) = (Done, [], s, idle none)
+happening_steps size s profile moment happening (inr effect) =
     taken_or_not size s moment (Happened happening) effect.1.0 effect.1.1 (meets effect.0 effect.1.2) (room_or_not size (Happened happening) effect.1.1)
 
-event_steps : (size : ℕ) (s : State) (moment : ℕ) (event : Event) → HasStep size s moment event
-event_steps size s moment (Commanded command) = command_steps size s moment command (command_answered (moment_of s moment) s command)
-event_steps size s moment (Happened happening) = happening_steps size s moment happening (happening_has_effect (moment_of s moment) s happening)
+event_steps : (size : ℕ) (s : State) (profile : Profile) (moment : ℕ) (event : Event) → HasStep size s profile moment event
+event_steps size s profile moment (Commanded command) = command_steps size s profile moment command (command_answered profile (moment_of s moment) s command)
+event_steps size s profile moment (Happened happening) = happening_steps size s profile moment happening (happening_has_effect (moment_of s moment) s happening)
 
 -- each state and input has a step
 pub a_step : (size : ℕ) (s : State) (input : Input) → (reply : Reply) × (actions : List Action) × (t : State) × Step size s input reply actions t
-a_step size s input = event_steps size s input.moment input.event
+a_step size s input = event_steps size s input.profile input.moment input.event

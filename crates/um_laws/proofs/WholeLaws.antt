@@ -282,7 +282,7 @@ module _ (s : State) (fit : FitState s) where
   -- a state that has bytes holds all that steps keep
   pub whole_of_fit : IsWhole s
   whole_of_fit = record {
-    texts = record { tree = texts_of_fit s.tree fit.tree; loaded = texts_of_fit s.loaded fit.loaded };
+    texts = record { tree = texts_of_fit s.tree fit.tree; loaded = texts_of_fit s.loaded.entries fit.loaded };
     boot = fit.boot;
     early = fit.clock.1;
     names = names_of_fit s fit;
@@ -302,7 +302,7 @@ pub spelled_room : (size : ℕ) (s : State) → FitState s → IsServable size s
 spelled_room size s fit held = by (a_count (IsHeld s) (held_list s).0 (held_list s).1 s.loaded)
   where
     by : (n : ℕ) × CountsFor s.loaded (IsHeld s) n → length (state_spelling s) ≤ size
-    by (n, counts) = elim (cases_lt size (weight_of s.tree s.loaded n)) as (λ _. length (state_spelling s) ≤ size) [
+    by (n, counts) = elim (cases_lt size (weight_of s.tree s.loaded.entries n)) as (λ _. length (state_spelling s) ≤ size) [
       | inl more ↦ absurd (held.light (record { units = n; count = counts; heavy = more }))
       | inr most ↦ omega (arith, spelled_short s n fit counts, most)
     ]

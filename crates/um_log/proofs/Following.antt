@@ -3,8 +3,10 @@ use Rattle.std.specs.Prelude.{◌≡◌, ◌⊎◌, ◌↔◌, ◌+◌, ◌-◌,
 use Rattle.std.proofs.Common.{sym, ◌∙◌, ap, subst, inl, inr, ⊎_elim, arith}
 use Rattle.std.proofs.lemmas.Bool.{cases_Bool, cases_lt, true≢false}
 use Rattle.um_model.specs.Disk.{Sector, Image}
+use Rattle.um_model.specs.declared.layout.Format.{Format}
 use Rattle.um_model.specs.declared.layout.Layout.{Layout}
-use Rattle.um_model.specs.Store.{log_start, log_end, part_count, sectors_of, IsPart, IsRecord, AreRecords, stops, goes_on, HasRecords, IsLogRead, begins, part_behind, record_behind}
+use Rattle.um_model.specs.Store.{area_start, area_end, part_count, sectors_of, IsPart, IsRecord, AreRecords, stops, goes_on, HasRecords, IsLogRead, begins, part_behind, record_behind}
+use Rattle.um_laws.proofs.CountedLaws.{whole_log}
 use Rattle.um_log.specs.declared.part.Part.{Part}
 use Rattle.um_log.specs.Following.{IsPossible, ReadsPart, Stand, Follows, IsNextPart, IsSomeWith, IsLastUncounted, IsLastLater, IsInPlace, AreParts, StopsBefore}
 use Rattle.um_log.specs.Uncounted.{Ends, EndsUncounted, EndsLater, Counts, counted, passed, StopsAt}
@@ -15,22 +17,22 @@ last_part : {image : Image} {from next g n k z : ℕ} → Stand image from (suc 
 last_part {image = image} {next = next} {g = g} {n = n} {k = k} {z = z} s = let here : s.at + k ≡ next = omega (arith, s.end) in subst (λ j. IsPart g n k z (image j)) here (s.parts k (omega arith))
 
 -- parts of one record at most stand there
-one_stand : (layout : Layout) {image : Image} {from next g n k z h m l y : ℕ} → IsPossible layout g n k z → Stand image from next g n k z → IsPossible layout h m l y → Stand image from next h m l y
+one_stand : (format : Format) {image : Image} {from next g n k z h m l y : ℕ} → IsPossible format g n k z → Stand image from next g n k z → IsPossible format h m l y → Stand image from next h m l y
     → AreSame g n k z h m l y
-one_stand layout {image = image} {k = k} {h = h} {m = m} {l = l} {y = y} a one b two =
+one_stand format {image = image} {k = k} {h = h} {m = m} {l = l} {y = y} a one b two =
     let here : two.at + l ≡ one.at + k = omega (arith, one.end, two.end) in
-    one_part layout a (one.parts k (omega arith)) b (subst (λ j. IsPart h m l y (image j)) here (two.parts l (omega arith)))
+    one_part format a (one.parts k (omega arith)) b (subst (λ j. IsPart h m l y (image j)) here (two.parts l (omega arith)))
 
 early_or_last : (i before here : ℕ) → i ≤ here → here ≡ suc before → (i ≤ before) ⊎ (i ≡ here)
 early_or_last i before here low next = ⊎_elim (λ more. inr (omega (arith, low, next, more))) (λ few. inl few) (cases_lt before i)
 
-module _ (layout : Layout) (least : ℕ) (image : Image) (from next : ℕ) (low : from ≤ next) (sector : Sector) (is : sector ≡ image next) where
+module _ (format : Format) (least : ℕ) (image : Image) (from next : ℕ) (low : from ≤ next) (sector : Sector) (is : sector ≡ image next) where
   -- behind a sector that is no part none stand
-  pub none_there : ReadsPart layout least sector None → Follows layout least image from (suc next) None
+  pub none_there : ReadsPart format least sector None → Follows format least image from (suc next) None
   none_there none generation number part size late possible s = none generation number part size late possible (subst (IsPart generation number part size) (sym is) (last_part s))
 
   -- a first part stands alone
-  pub first_there : (here : Part) → ReadsPart layout least sector (Some here) → here.part ≡ 0 → Follows layout least image from (suc next) (Some here)
+  pub first_there : (here : Part) → ReadsPart format least sector (Some here) → here.part ≡ 0 → Follows format least image from (suc next) (Some here)
   first_there here reads first = (
     reads.0,
     reads.1,
@@ -47,8 +49,8 @@ module _ (layout : Layout) (least : ℕ) (image : Image) (from next : ℕ) (low 
   )
 
   -- one that is the next goes on
-  pub next_there : (before here : Part) → ReadsPart layout least sector (Some here) → Follows layout least image from next (Some before) → IsNextPart before here
-      → Follows layout least image from (suc next) (Some here)
+  pub next_there : (before here : Part) → ReadsPart format least sector (Some here) → Follows format least image from next (Some before) → IsNextPart before here
+      → Follows format least image from (suc next) (Some here)
   next_there before here reads follows goes =
       let s = follows.2 in (
         reads.0,
@@ -71,19 +73,19 @@ module _ (layout : Layout) (least : ℕ) (image : Image) (from next : ℕ) (low 
           subst (λ k. IsPart here.generation here.number k here.size (image (follows.2.at + i))) (sym last)
           (subst (λ j. IsPart here.generation here.number here.part here.size (image j)) place (subst (IsPart here.generation here.number here.part here.size) is reads.2))
 
-  pub goes_there : (before : Option Part) (here : Part) → ReadsPart layout least sector (Some here) → Follows layout least image from next before → IsSomeWith (λ b. IsNextPart b here) before
-      → Follows layout least image from (suc next) (Some here)
+  pub goes_there : (before : Option Part) (here : Part) → ReadsPart format least sector (Some here) → Follows format least image from next before → IsSomeWith (λ b. IsNextPart b here) before
+      → Follows format least image from (suc next) (Some here)
   goes_there None here reads follows is = absurd is
   goes_there (Some before) here reads follows is = next_there before here reads follows is
 
   -- and where it is neither, none stand
-  pub other_there : (before : Option Part) (here : Part) → ReadsPart layout least sector (Some here) → Follows layout least image from next before → ¬ (here.part ≡ 0) → ¬ IsSomeWith (λ b. IsNextPart b here) before
-      → Follows layout least image from (suc next) None
+  pub other_there : (before : Option Part) (here : Part) → ReadsPart format least sector (Some here) → Follows format least image from next before → ¬ (here.part ≡ 0) → ¬ IsSomeWith (λ b. IsNextPart b here) before
+      → Follows format least image from (suc next) None
   other_there before here reads follows not_first not_next generation number zero size late possible s =
-      let same = one_part layout reads.1 reads.2 possible (subst (IsPart generation number zero size) (sym is) (last_part s)) in
+      let same = one_part format reads.1 reads.2 possible (subst (IsPart generation number zero size) (sym is) (last_part s)) in
       absurd (not_first same.part_is)
   other_there before here reads follows not_first not_next generation number (suc part) size late possible s =
-      let same = one_part layout reads.1 reads.2 possible (subst (IsPart generation number (suc part) size) (sym is) (last_part s)) in
+      let same = one_part format reads.1 reads.2 possible (subst (IsPart generation number (suc part) size) (sym is) (last_part s)) in
       let fewer : Stand image from next generation number part size = record {
         at = s.at;
         low = s.low;
@@ -91,7 +93,7 @@ module _ (layout : Layout) (least : ℕ) (image : Image) (from next : ℕ) (low 
         parts = λ i few. s.parts i (omega (arith, few));
       } in
       let below = possible.below in
-      let may : IsPossible layout generation number part size = record {
+      let may : IsPossible format generation number part size = record {
         generation_fits = possible.generation_fits;
         number_fits = possible.number_fits;
         short = possible.short;
@@ -99,11 +101,11 @@ module _ (layout : Layout) (least : ℕ) (image : Image) (from next : ℕ) (low 
       } in
       not_next (by before follows same fewer may)
     where
-      by : (b : Option Part) → Follows layout least image from next b → AreSame here.generation here.number here.part here.size generation number (suc part) size
-          → Stand image from next generation number part size → IsPossible layout generation number part size → IsSomeWith (λ x. IsNextPart x here) b
+      by : (b : Option Part) → Follows format least image from next b → AreSame here.generation here.number here.part here.size generation number (suc part) size
+          → Stand image from next generation number part size → IsPossible format generation number part size → IsSomeWith (λ x. IsNextPart x here) b
       by None none same fewer may = none generation number part size late may fewer
       by (Some b) some same fewer may =
-          let one = one_stand layout some.1 some.2 may fewer in
+          let one = one_stand format some.1 some.2 may fewer in
           record {
             generation = same.generation_is ∙ sym one.generation_is;
             number = same.number_is ∙ sym one.number_is;
@@ -114,24 +116,24 @@ module _ (layout : Layout) (least : ℕ) (image : Image) (from next : ℕ) (low 
 -- ---- whole records
 
 -- all the parts of a record stand there, up to the end of a sector
-pub record AllStand (layout : Layout) (image : Image) (from last generation number : ℕ) : Type 0 where
+pub record AllStand (format : Format) (layout : Layout) (image : Image) (from last generation number : ℕ) : Type 0 where
   pub part : ℕ
   pub size : ℕ
   pub all : suc part ≡ part_count size
-  pub possible : IsPossible layout generation number part size
+  pub possible : IsPossible format generation number part size
   pub stand : Stand image from (suc last) generation number part size
 
-module _ (layout : Layout) (image : Image) (from last generation number : ℕ) where
+module _ (format : Format) (layout : Layout) (image : Image) (from last generation number : ℕ) where
   -- where all the parts of a record stand it ends
-  pub stand_ends : (part size : ℕ) → IsPossible layout generation number part size → Stand image from (suc last) generation number part size → suc part ≡ part_count size
-      → last < log_end layout generation → Ends layout image from generation number last
+  pub stand_ends : (part size : ℕ) → IsPossible format generation number part size → Stand image from (suc last) generation number part size → suc part ≡ part_count size
+      → last < area_end format layout generation → Ends format layout image from generation number last
   stand_ends part size possible s all inside =
       let below = possible.below in
-      let w = whole layout generation number s.at size image (omega (arith, below)) possible.short (omega (arith, s.end, all, inside)) (λ i few. s.parts i (omega (arith, few, all))) in
+      let w = whole format layout generation number s.at size image (omega (arith, below)) possible.short (omega (arith, s.end, all, inside)) (λ i few. s.parts i (omega (arith, few, all))) in
       record { at = s.at; low = s.low; bytes = w.bytes; is = w.is; end = omega (arith, s.end, all, w.long) }
 
   -- and where one ends they do
-  pub ends_stand : generation < 2 ^ 64 → number < 2 ^ 64 → Ends layout image from generation number last → AllStand layout image from last generation number
+  pub ends_stand : generation < 2 ^ 64 → number < 2 ^ 64 → Ends format layout image from generation number last → AllStand format layout image from last generation number
   ends_stand g_fits n_fits e =
       let size = length e.bytes in
       let some = e.is.some in
@@ -151,26 +153,30 @@ module _ (layout : Layout) (image : Image) (from last generation number : ℕ) w
 
 -- ---- what a part that is last tells
 
-module _ (layout : Layout) (image : Image) (from last generation : ℕ) (g_fits : generation < 2 ^ 64) (inside : last < log_end layout generation) where
+module _ (format : Format) (layout : Layout) (image : Image) (from last generation : ℕ) (g_fits : generation < 2 ^ 64) (inside : last < area_end format layout generation) where
+  -- each generation ends with the log
+  inside_of : (theirs : ℕ) → last < area_end format layout theirs
+  inside_of theirs = let ours = whole_log format layout generation in let others = whole_log format layout theirs in omega (arith, inside, ours.1, others.1)
+
   -- a whole record of that generation ends there, or none
-  pub uncounted_ends : (least : ℕ) (run : Option Part) → Follows layout generation image from (suc last) run
-      → (IsSomeWith (IsLastUncounted generation least) run ↔ EndsUncounted layout image from generation least last)
-  uncounted_ends least run follows = (there run follows, λ e. back run follows e (ends_stand layout image from last generation e.number g_fits e.fits e.ends))
+  pub uncounted_ends : (least : ℕ) (run : Option Part) → Follows format generation image from (suc last) run
+      → (IsSomeWith (IsLastUncounted generation least) run ↔ EndsUncounted format layout image from generation least last)
+  uncounted_ends least run follows = (there run follows, λ e. back run follows e (ends_stand format layout image from last generation e.number g_fits e.fits e.ends))
     where
-      there : (r : Option Part) → Follows layout generation image from (suc last) r → IsSomeWith (IsLastUncounted generation least) r → EndsUncounted layout image from generation least last
+      there : (r : Option Part) → Follows format generation image from (suc last) r → IsSomeWith (IsLastUncounted generation least) r → EndsUncounted format layout image from generation least last
       there None f is = absurd is
       there (Some p) f is = record {
         number = p.number;
         greater = is.greater;
         fits = f.1.number_fits;
-        ends = subst (λ g. Ends layout image from g p.number last) is.generation_is (stand_ends layout image from last p.generation p.number p.part p.size f.1 f.2 is.all inside);
+        ends = subst (λ g. Ends format layout image from g p.number last) is.generation_is (stand_ends format layout image from last p.generation p.number p.part p.size f.1 f.2 is.all (inside_of p.generation));
       }
 
-      back : (r : Option Part) → Follows layout generation image from (suc last) r → (e : EndsUncounted layout image from generation least last)
-          → AllStand layout image from last generation e.number → IsSomeWith (IsLastUncounted generation least) r
+      back : (r : Option Part) → Follows format generation image from (suc last) r → (e : EndsUncounted format layout image from generation least last)
+          → AllStand format layout image from last generation e.number → IsSomeWith (IsLastUncounted generation least) r
       back None f e a = absurd (f generation e.number a.part a.size (omega arith) a.possible a.stand)
       back (Some p) f e a =
-          let same = one_stand layout f.1 f.2 a.possible a.stand in
+          let same = one_stand format f.1 f.2 a.possible a.stand in
           record {
             generation_is = same.generation_is;
             greater = omega (arith, e.greater, same.number_is);
@@ -178,10 +184,10 @@ module _ (layout : Layout) (image : Image) (from last generation : ℕ) (g_fits 
           }
 
   -- one of a later generation, or none
-  pub later_ends : (run : Option Part) → Follows layout generation image from (suc last) run → (IsSomeWith (IsLastLater generation) run ↔ EndsLater layout image from generation last)
-  later_ends run follows = (there run follows, λ e. back run follows e (ends_stand layout image from last e.later e.number e.fits e.number_fits e.ends))
+  pub later_ends : (run : Option Part) → Follows format generation image from (suc last) run → (IsSomeWith (IsLastLater generation) run ↔ EndsLater format layout image from generation last)
+  later_ends run follows = (there run follows, λ e. back run follows e (ends_stand format layout image from last e.later e.number e.fits e.number_fits e.ends))
     where
-      there : (r : Option Part) → Follows layout generation image from (suc last) r → IsSomeWith (IsLastLater generation) r → EndsLater layout image from generation last
+      there : (r : Option Part) → Follows format generation image from (suc last) r → IsSomeWith (IsLastLater generation) r → EndsLater format layout image from generation last
       there None f is = absurd is
       there (Some p) f is = record {
         later = p.generation;
@@ -189,22 +195,22 @@ module _ (layout : Layout) (image : Image) (from last generation : ℕ) (g_fits 
         fits = f.1.generation_fits;
         number = p.number;
         number_fits = f.1.number_fits;
-        ends = stand_ends layout image from last p.generation p.number p.part p.size f.1 f.2 is.all inside;
+        ends = stand_ends format layout image from last p.generation p.number p.part p.size f.1 f.2 is.all (inside_of p.generation);
       }
 
-      back : (r : Option Part) → Follows layout generation image from (suc last) r → (e : EndsLater layout image from generation last)
-          → AllStand layout image from last e.later e.number → IsSomeWith (IsLastLater generation) r
+      back : (r : Option Part) → Follows format generation image from (suc last) r → (e : EndsLater format layout image from generation last)
+          → AllStand format layout image from last e.later e.number → IsSomeWith (IsLastLater generation) r
       back None f e a = let greater = e.greater in absurd (f e.later e.number a.part a.size (omega (arith, greater)) a.possible a.stand)
       back (Some p) f e a =
-          let same = one_stand layout f.1 f.2 a.possible a.stand in
+          let same = one_stand format f.1 f.2 a.possible a.stand in
           record { greater = omega (arith, e.greater, same.generation_is); all = omega (arith, same.part_is, a.all, ap (λ (z : ℕ). part_count z) same.size_is) }
 
 -- ---- where the parts of the next record end
 
-module _ (layout : Layout) (image : Image) (generation number next j : ℕ) (g_fits : generation < 2 ^ 64) (n_fits : number < 2 ^ 64) (low : next ≤ j) where
+module _ (format : Format) (layout : Layout) (image : Image) (generation number next j : ℕ) (g_fits : generation < 2 ^ 64) (n_fits : number < 2 ^ 64) (low : next ≤ j) where
   -- the parts up to a sector are that record's, where the last one is in its place
-  in_place : (run : Option Part) → Follows layout generation image next (suc j) run → IsSomeWith (IsInPlace layout generation number next j) run
-      → AreParts layout generation image number next (suc j)
+  in_place : (run : Option Part) → Follows format generation image next (suc j) run → IsSomeWith (IsInPlace format layout generation number next j) run
+      → AreParts format layout generation image number next (suc j)
   in_place None follows is = absurd is
   in_place (Some p) follows is =
       let s = follows.2 in
@@ -221,11 +227,11 @@ module _ (layout : Layout) (image : Image) (generation number next j : ℕ) (g_f
             (subst (λ g. IsPart g p.number i p.size (image (s.at + i))) is.generation_is (s.parts i (omega (arith, few, is.part_is)))));
       }
 
-  are_in_place : (run : Option Part) → Follows layout generation image next (suc j) run → AreParts layout generation image number next (suc j)
-      → IsSomeWith (IsInPlace layout generation number next j) run
+  are_in_place : (run : Option Part) → Follows format generation image next (suc j) run → AreParts format layout generation image number next (suc j)
+      → IsSomeWith (IsInPlace format layout generation number next j) run
   are_in_place run follows a =
       let part = j - next in
-      let possible : IsPossible layout generation number part a.size = record { generation_fits = g_fits; number_fits = n_fits; short = a.short; below = omega (arith, low, a.below) } in
+      let possible : IsPossible format generation number part a.size = record { generation_fits = g_fits; number_fits = n_fits; short = a.short; below = omega (arith, low, a.below) } in
       let stand : Stand image next (suc j) generation number part a.size = record {
         at = next;
         low = omega arith;
@@ -234,11 +240,11 @@ module _ (layout : Layout) (image : Image) (generation number next j : ℕ) (g_f
       } in
       by run follows possible stand
     where
-      by : (r : Option Part) → Follows layout generation image next (suc j) r → IsPossible layout generation number (j - next) a.size
-          → Stand image next (suc j) generation number (j - next) a.size → IsSomeWith (IsInPlace layout generation number next j) r
+      by : (r : Option Part) → Follows format generation image next (suc j) r → IsPossible format generation number (j - next) a.size
+          → Stand image next (suc j) generation number (j - next) a.size → IsSomeWith (IsInPlace format layout generation number next j) r
       by None f possible stand = absurd (f generation number (j - next) a.size (omega arith) possible stand)
       by (Some p) f possible stand =
-          let same = one_stand layout f.1 f.2 possible stand in
+          let same = one_stand format f.1 f.2 possible stand in
           record {
             generation_is = same.generation_is;
             number_is = same.number_is;
@@ -250,20 +256,20 @@ module _ (layout : Layout) (image : Image) (generation number next j : ℕ) (g_f
             };
           }
 
-  module _ (run : Option Part) (follows : Follows layout generation image next (suc j) run) (stop : ℕ) (so_far : StopsBefore layout generation image number next j stop) where
+  module _ (run : Option Part) (follows : Follows format generation image next (suc j) run) (stop : ℕ) (so_far : StopsBefore format layout generation image number next j stop) where
     -- they go on
-    stop_on : stop ≡ j → IsSomeWith (IsInPlace layout generation number next j) run → StopsBefore layout generation image number next (suc j) (j + 1)
+    stop_on : stop ≡ j → IsSomeWith (IsInPlace format layout generation number next j) run → StopsBefore format layout generation image number next (suc j) (j + 1)
     stop_on here is =
         let one : suc j ≡ j + 1 = omega arith in
         record {
           low = omega (arith, low);
           high = omega arith;
-          stand = inr (subst (AreParts layout generation image number next) one (in_place run follows is));
+          stand = inr (subst (AreParts format layout generation image number next) one (in_place run follows is));
           ends = λ below. absurd (omega (arith, below));
         }
 
     -- or end where they did
-    stop_stays : (stop ≡ j → ¬ IsSomeWith (IsInPlace layout generation number next j) run) → StopsBefore layout generation image number next (suc j) stop
+    stop_stays : (stop ≡ j → ¬ IsSomeWith (IsInPlace format layout generation number next j) run) → StopsBefore format layout generation image number next (suc j) stop
     stop_stays none = record {
       low = so_far.low;
       high = let high = so_far.high in omega (arith, high);
@@ -272,20 +278,20 @@ module _ (layout : Layout) (image : Image) (generation number next j : ℕ) (g_f
           (λ early. so_far.ends early parts)
           (λ late.
           let here : stop ≡ j = omega (arith, late, below) in
-          none here (are_in_place run follows (subst (λ s. AreParts layout generation image number next (suc s)) here parts)))
+          none here (are_in_place run follows (subst (λ s. AreParts format layout generation image number next (suc s)) here parts)))
           (cases_lt stop j);
     }
 
-    pub stop_more : (result : ℕ) → ((stop ≡ j) × IsSomeWith (IsInPlace layout generation number next j) run × (result ≡ j + 1))
-        ⊎ ((stop ≡ j → ¬ IsSomeWith (IsInPlace layout generation number next j) run) × (result ≡ stop)) → StopsBefore layout generation image number next (suc j) result
-    stop_more result (inl on) = subst (StopsBefore layout generation image number next (suc j)) (sym on.2) (stop_on on.0 on.1)
-    stop_more result (inr off) = subst (StopsBefore layout generation image number next (suc j)) (sym off.1) (stop_stays off.0)
+    pub stop_more : (result : ℕ) → ((stop ≡ j) × IsSomeWith (IsInPlace format layout generation number next j) run × (result ≡ j + 1))
+        ⊎ ((stop ≡ j → ¬ IsSomeWith (IsInPlace format layout generation number next j) run) × (result ≡ stop)) → StopsBefore format layout generation image number next (suc j) result
+    stop_more result (inl on) = subst (StopsBefore format layout generation image number next (suc j)) (sym on.2) (stop_on on.0 on.1)
+    stop_more result (inr off) = subst (StopsBefore format layout generation image number next (suc j)) (sym off.1) (stop_stays off.0)
 
 -- ---- one sector more
 
 -- before the first sector none stand
-pub none_yet : (layout : Layout) (least : ℕ) (image : Image) (from : ℕ) → Follows layout least image from from None
-none_yet layout least image from generation number part size late possible s = omega (arith, s.low, s.end)
+pub none_yet : (format : Format) (least : ℕ) (image : Image) (from : ℕ) → Follows format least image from from None
+none_yet format least image from generation number part size late possible s = omega (arith, s.low, s.end)
 
 -- what is the same as the same
 pub both : {A B C : Type 0} → (A ↔ B) → (B ↔ C) → (A ↔ C)
@@ -305,44 +311,44 @@ counts_more {Is = Is} {from = from} {end = end} is says one same so_far = ⊎_el
 -- ---- where the reading ends
 
 -- no record stands behind those that count
-pub nothing_behind : (layout : Layout) (generation : ℕ) (image : Image) (records : List (List ℕ)) → HasRecords layout generation image records
-    → (number next : ℕ) → number ≡ length records → next ≡ log_start layout generation + sectors_of records → (bytes : List ℕ) → ¬ IsRecord layout generation image number next bytes
-nothing_behind layout generation image records are number next count place = by 0 (log_start layout generation) records are number next (omega (arith, count)) place
+pub nothing_behind : (format : Format) (layout : Layout) (generation : ℕ) (image : Image) (records : List (List ℕ)) → HasRecords format layout generation image records
+    → (number next : ℕ) → number ≡ length records → next ≡ area_start format layout generation + sectors_of records → (bytes : List ℕ) → ¬ IsRecord format layout generation image number next bytes
+nothing_behind format layout generation image records are number next count place = by 0 (area_start format layout generation) records are number next (omega (arith, count)) place
   where
-    by : (n at : ℕ) (all : List (List ℕ)) → AreRecords layout generation image n at all → (number next : ℕ) → number ≡ n + length all → next ≡ at + sectors_of all
-        → (bytes : List ℕ) → ¬ IsRecord layout generation image number next bytes
+    by : (n at : ℕ) (all : List (List ℕ)) → AreRecords format layout generation image n at all → (number next : ℕ) → number ≡ n + length all → next ≡ at + sectors_of all
+        → (bytes : List ℕ) → ¬ IsRecord format layout generation image number next bytes
     by n at [] (stops none) number next count place = λ bytes is.
         let e : number ≡ n = omega (arith, count) in
         let f : next ≡ at = omega (arith, place) in
-        none bytes (subst (λ m. IsRecord layout generation image m at bytes) e (subst (λ a. IsRecord layout generation image number a bytes) f is))
+        none bytes (subst (λ m. IsRecord format layout generation image m at bytes) e (subst (λ a. IsRecord format layout generation image number a bytes) f is))
     by n at (x ∷ xs) (goes_on first rest) number next count place =
         by (suc n) (at + part_count (length x)) xs rest number next (omega (arith, count)) (omega (arith, place))
 
 by_order : (a b : ℕ) → a ≤ b → (b ≡ a) ⊎ (a < b)
 by_order a b low = ⊎_elim (λ less. inr less) (λ more. inl (omega (arith, low, more))) (cases_lt a b)
 
-module _ (layout : Layout) (generation : ℕ) (image : Image) (number next stop : ℕ) (room : next < log_end layout generation)
-    (ends : StopsBefore layout generation image number next (log_end layout generation) stop) (none : (bytes : List ℕ) → ¬ IsRecord layout generation image number next bytes) where
-  looked_at : IsLogRead layout generation image number next stop
+module _ (format : Format) (layout : Layout) (generation : ℕ) (image : Image) (number next stop : ℕ) (room : next < area_end format layout generation)
+    (ends : StopsBefore format layout generation image number next (area_end format layout generation) stop) (none : (bytes : List ℕ) → ¬ IsRecord format layout generation image number next bytes) where
+  looked_at : IsLogRead format layout generation image number next stop
   looked_at = by ends.stand
     where
-      by : (stop ≡ next) ⊎ AreParts layout generation image number next stop → IsLogRead layout generation image number next stop
-      by (inl same) = subst (IsLogRead layout generation image number next) (sym same) (begins room)
+      by : (stop ≡ next) ⊎ AreParts format layout generation image number next stop → IsLogRead format layout generation image number next stop
+      by (inl same) = subst (IsLogRead format layout generation image number next) (sym same) (begins room)
       by (inr a) = ⊎_elim
-          (λ here. subst (IsLogRead layout generation image number next) (sym here) (begins room))
+          (λ here. subst (IsLogRead format layout generation image number next) (sym here) (begins room))
           (λ behind. ⊎_elim
           (λ fewer.
           let part = stop - next - 1 in
           let place : next + suc part ≡ stop = omega (arith, behind) in
-          subst (IsLogRead layout generation image number next) place
+          subst (IsLogRead format layout generation image number next) place
           (part_behind a.size part a.short (omega (arith, behind, fewer)) a.within (λ i few. a.parts i (omega (arith, few, behind)))))
           (λ all.
-          let w = whole layout generation number next a.size image (omega (arith, behind, a.below)) a.short a.within (λ i few. a.parts i (omega (arith, few, all))) in
+          let w = whole format layout generation number next a.size image (omega (arith, behind, a.below)) a.short a.within (λ i few. a.parts i (omega (arith, few, all))) in
           absurd (none w.bytes w.is))
           (cases_lt stop (next + part_count a.size)))
           (by_order next stop ends.low)
 
-  no_later : (j : ℕ) → IsLogRead layout generation image number next j → j ≤ stop
+  no_later : (j : ℕ) → IsLogRead format layout generation image number next j → j ≤ stop
   no_later j (begins within) = ends.low
   no_later j (part_behind size part short below within parts) = ⊎_elim
       (λ late.
@@ -352,5 +358,5 @@ module _ (layout : Layout) (generation : ℕ) (image : Image) (number next stop 
       (cases_lt stop (next + suc part))
   no_later j (record_behind {bytes = bytes} is more) = absurd (none bytes is)
 
-  pub stops_at : StopsAt layout generation image number next stop
+  pub stops_at : StopsAt format layout generation image number next stop
   stops_at = record { looked = looked_at; last = no_later }

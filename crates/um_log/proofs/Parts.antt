@@ -4,9 +4,10 @@ use Rattle.std.proofs.Common.{sym, ◌∙◌, ap, arith}
 use Rattle.byteorder.specs.Endian.{big_number, big_bytes}
 use Rattle.byteorder.specs.Numbers.{big_number-reads_back}
 use Rattle.um_model.specs.Disk.{Sector, Image}
+use Rattle.um_model.specs.declared.layout.Format.{Format}
 use Rattle.um_model.specs.declared.layout.Layout.{Layout}
-use Rattle.um_model.specs.Store.{filled, log_sector, log_end, record_limit, part_count, part_of, IsRecord, IsPart}
-use Rattle.um_laws.proofs.StoreLaws.{log_generation, log_size, log_payload}
+use Rattle.um_model.specs.Store.{filled, log_sector, area_end, longest, part_count, part_of, IsRecord, IsPart}
+use Rattle.um_laws.proofs.StoreLaws.{longest_few, log_generation, log_size, log_payload}
 use Rattle.um_laws.proofs.LogLaws.{length-part}
 use Rattle.um_log.specs.Following.{IsPossible}
 use Rattle.um_log.proofs.Scanning.{long_more, parts_more}
@@ -35,16 +36,17 @@ pub record Says (sector : Sector) (generation number part size : ℕ) : Type 0 w
   pub part_is : big_number 4 (drop 20 sector) ≡ part
   pub size_is : big_number 4 (drop 28 sector) ≡ size
 
-pub says : (layout : Layout) {generation number part size : ℕ} {sector : Sector} → IsPossible layout generation number part size → IsPart generation number part size sector
+pub says : (format : Format) {generation number part size : ℕ} {sector : Sector} → IsPossible format generation number part size → IsPart generation number part size sector
     → Says sector generation number part size
-says layout {generation = generation} {number = number} {part = part} {size = size} possible is =
+says format {generation = generation} {number = number} {part = part} {size = size} possible is =
     let short = possible.short in
     let below = possible.below in
+    let few = longest_few format in
     record {
       generation_is = ap (λ (s : Sector). big_number 8 (drop 4 s)) is.is ∙ log_generation generation number part size is.payload possible.generation_fits;
       number_is = ap (λ (s : Sector). big_number 8 (drop 12 s)) is.is ∙ log_number generation number part size is.payload possible.number_fits;
-      part_is = ap (λ (s : Sector). big_number 4 (drop 20 s)) is.is ∙ log_part generation number part size is.payload (omega (arith, short, below));
-      size_is = ap (λ (s : Sector). big_number 4 (drop 28 s)) is.is ∙ log_size generation number part size is.payload (omega (arith, short));
+      part_is = ap (λ (s : Sector). big_number 4 (drop 20 s)) is.is ∙ log_part generation number part size is.payload (omega (arith, short, below, few));
+      size_is = ap (λ (s : Sector). big_number 4 (drop 28 s)) is.is ∙ log_size generation number part size is.payload (omega (arith, short, few));
     }
 
 -- a sector is one part at most
@@ -54,11 +56,11 @@ pub record AreSame (generation number part size generation2 number2 part2 size2 
   pub part_is : part ≡ part2
   pub size_is : size ≡ size2
 
-pub one_part : (layout : Layout) {g n k z h m l y : ℕ} {sector : Sector} → IsPossible layout g n k z → IsPart g n k z sector → IsPossible layout h m l y → IsPart h m l y sector
+pub one_part : (format : Format) {g n k z h m l y : ℕ} {sector : Sector} → IsPossible format g n k z → IsPart g n k z sector → IsPossible format h m l y → IsPart h m l y sector
     → AreSame g n k z h m l y
-one_part layout a is b there =
-    let one = says layout a is in
-    let two = says layout b there in
+one_part format a is b there =
+    let one = says format a is in
+    let two = says format b there in
     record {
       generation_is = sym one.generation_is ∙ two.generation_is;
       number_is = sym one.number_is ∙ two.number_is;
@@ -96,14 +98,14 @@ made generation number size at image (suc n) low parts =
     }
 
 -- All the parts of a record are a whole one.
-pub record Whole (layout : Layout) (generation number at size : ℕ) (image : Image) : Type 0 where
+pub record Whole (format : Format) (layout : Layout) (generation number at size : ℕ) (image : Image) : Type 0 where
   pub bytes : List ℕ
   pub long : length bytes ≡ size
-  pub is : IsRecord layout generation image number at bytes
+  pub is : IsRecord format layout generation image number at bytes
 
-pub whole : (layout : Layout) (generation number at size : ℕ) (image : Image) → 0 < size → size ≤ record_limit layout generation → at + part_count size ≤ log_end layout generation
-    → ((i : ℕ) → i < part_count size → IsPart generation number i size (image (at + i))) → Whole layout generation number at size image
-whole layout generation number at size image some short within parts =
+pub whole : (format : Format) (layout : Layout) (generation number at size : ℕ) (image : Image) → 0 < size → size ≤ longest format → at + part_count size ≤ area_end format layout generation
+    → ((i : ℕ) → i < part_count size → IsPart generation number i size (image (at + i))) → Whole format layout generation number at size image
+whole format layout generation number at size image some short within parts =
     let all = made generation number size at image (part_count size) (omega arith) parts in
     let long : length all.bytes ≡ size = omega (arith, all.long) in
     record {
@@ -118,6 +120,6 @@ whole layout generation number at size image some short within parts =
     }
 
 -- and each sector of a record is one of its parts
-pub part_of_record : {layout : Layout} {generation number at : ℕ} {image : Image} {bytes : List ℕ} → IsRecord layout generation image number at bytes → (part : ℕ) → part < part_count (length bytes)
+pub part_of_record : {format : Format} {layout : Layout} {generation number at : ℕ} {image : Image} {bytes : List ℕ} → IsRecord format layout generation image number at bytes → (part : ℕ) → part < part_count (length bytes)
     → IsPart generation number part (length bytes) (image (at + part))
 part_of_record {bytes = bytes} is part below = record { payload = part_of bytes part; long = length-part bytes part; is = is.parts part below }

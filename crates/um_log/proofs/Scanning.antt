@@ -6,11 +6,12 @@ use Rattle.std.proofs.lemmas.Bool.{cases_eq, true≢false}
 use Rattle.std.proofs.lemmas.List.{length-append, length-drop, take-append-le, drop-append-le, drop_at, take_all, append-nil, map-append}
 use Rattle.byteorder.specs.Endian.{big_number}
 use Rattle.um_model.specs.Disk.{Sector, Image}
+use Rattle.um_model.specs.declared.layout.Format.{Format}
 use Rattle.um_model.specs.declared.layout.Layout.{Layout}
-use Rattle.um_model.specs.Store.{log_sector, part_count, part_of, log_end, sectors_of, placed, IsRecord, AreRecords, stops, goes_on, HasRecords}
+use Rattle.um_model.specs.Store.{log_sector, part_count, part_of, area_end, sectors_of, placed, IsRecord, AreRecords, stops, goes_on, HasRecords}
 use Rattle.um_laws.proofs.LogLaws.{record_size, part_bytes, sectors_push, placed_push}
 use Rattle.um_log.specs.declared.read.Record.{Record}
-use Rattle.um_log.specs.Reading.{Fits, bytes_of, places_of}
+use Rattle.um_log.specs.Reading.{FitsIn, bytes_of, places_of}
 
 -- what a test that two texts differ has told
 pub differ : (xs ys : List ℕ) (r : Bool) → r ≡ not (pointwise nat_eq xs ys) → r ≡ true → xs ≢ ys
@@ -28,16 +29,16 @@ agree xs ys r is told = same_text xs ys (by_case (pointwise nat_eq xs ys) refl)
     by_case false e = absurd (true≢false (ap not e ∙ sym is ∙ told))
 
 -- a first sector that tells an impossible length begins no record
-pub none_fits : (layout : Layout) (generation number at size : ℕ) (image : Image) → size ≡ big_number 4 (drop 28 (image at)) → (Fits layout generation at size → ⊥) → (x : List ℕ) → IsRecord layout generation image number at x → ⊥
-none_fits layout generation number at size image told no_room x is =
+pub none_fits : (format : Format) (layout : Layout) (generation number at size : ℕ) (image : Image) → size ≡ big_number 4 (drop 28 (image at)) → (FitsIn format layout generation at size → ⊥) → (x : List ℕ) → IsRecord format layout generation image number at x → ⊥
+none_fits format layout generation number at size image told no_room x is =
     let long : length x ≡ size = sym (record_size is) ∙ sym told in
     let a = is.some in let b = is.short in let w = is.within in
     no_room (record { some = omega (arith, a, long); short = omega (arith, b, long); within = omega (arith, w, long) })
 
 -- nor does one whose next part isn't in its place
-pub none_part : (layout : Layout) (generation number at size part : ℕ) (image : Image) (sector payload : List ℕ) → size ≡ big_number 4 (drop 28 (image at)) → part < part_count size → sector ≡ image (at + part)
-    → payload ≡ take (min 480 (size - 480 * part)) (drop 32 sector) → sector ≢ log_sector generation number part size payload → (x : List ℕ) → IsRecord layout generation image number at x → ⊥
-none_part layout generation number at size part image sector payload told below is cut differs x whole =
+pub none_part : (format : Format) (layout : Layout) (generation number at size part : ℕ) (image : Image) (sector payload : List ℕ) → size ≡ big_number 4 (drop 28 (image at)) → part < part_count size → sector ≡ image (at + part)
+    → payload ≡ take (min 480 (size - 480 * part)) (drop 32 sector) → sector ≢ log_sector generation number part size payload → (x : List ℕ) → IsRecord format layout generation image number at x → ⊥
+none_part format layout generation number at size part image sector payload told below is cut differs x whole =
     let long : length x ≡ size = sym (record_size whole) ∙ sym told in
     let low : part < part_count (length x) = omega (arith, below, long) in
     let bytes : payload ≡ part_of x part = cut ∙ ap (λ (s : Sector). take (min 480 (size - 480 * part)) (drop 32 s)) is
@@ -74,23 +75,23 @@ parts_more sector_of image at part size bytes payload more below long last grown
 -- ---- the records one behind the other
 
 -- no record begins behind the log
-pub none_behind : (layout : Layout) (generation number at : ℕ) (image : Image) → log_end layout generation ≤ at → AreRecords layout generation image number at []
-none_behind layout generation number at image high = stops (λ bytes is. let some = is.some in let within = is.within in omega (arith, some, within, high))
+pub none_behind : (format : Format) (layout : Layout) (generation number at : ℕ) (image : Image) → area_end format layout generation ≤ at → AreRecords format layout generation image number at []
+none_behind format layout generation number at image high = stops (λ bytes is. let some = is.some in let within = is.within in omega (arith, some, within, high))
 
 -- one record more: whatever serves the rest serves the whole
-pub serves_more : (layout : Layout) (generation number at next : ℕ) (image : Image) (bytes : List ℕ) (before grown : List (List ℕ)) → IsRecord layout generation image number at bytes
-    → ((more : List (List ℕ)) → AreRecords layout generation image number at more → HasRecords layout generation image (before ++ more))
+pub serves_more : (format : Format) (layout : Layout) (generation number at next : ℕ) (image : Image) (bytes : List ℕ) (before grown : List (List ℕ)) → IsRecord format layout generation image number at bytes
+    → ((more : List (List ℕ)) → AreRecords format layout generation image number at more → HasRecords format layout generation image (before ++ more))
     → next ≡ at + part_count (length bytes) → grown ≡ before ++ bytes ∷ []
-    → (more : List (List ℕ)) → AreRecords layout generation image (number + 1) next more → HasRecords layout generation image (grown ++ more)
-serves_more layout generation number at next image bytes before grown is serves place all more rest =
+    → (more : List (List ℕ)) → AreRecords format layout generation image (number + 1) next more → HasRecords format layout generation image (grown ++ more)
+serves_more format layout generation number at next image bytes before grown is serves place all more rest =
     let one : number + 1 ≡ suc number = omega arith in
-    let tail = subst (λ (n : ℕ). AreRecords layout generation image n (at + part_count (length bytes)) more) one (subst (λ (m : ℕ). AreRecords layout generation image (number + 1) m more) place rest) in
-    subst (HasRecords layout generation image) (sym (append_assoc before (bytes ∷ []) more) ∙ ap (λ (l : List (List ℕ)). l ++ more) (sym all)) (serves (bytes ∷ more) (goes_on is tail))
+    let tail = subst (λ (n : ℕ). AreRecords format layout generation image n (at + part_count (length bytes)) more) one (subst (λ (m : ℕ). AreRecords format layout generation image (number + 1) m more) place rest) in
+    subst (HasRecords format layout generation image) (sym (append_assoc before (bytes ∷ []) more) ∙ ap (λ (l : List (List ℕ)). l ++ more) (sym all)) (serves (bytes ∷ more) (goes_on is tail))
 
 -- nothing is left
-pub serves_all : (layout : Layout) (generation number at : ℕ) (image : Image) (all : List (List ℕ)) → ((more : List (List ℕ)) → AreRecords layout generation image number at more → HasRecords layout generation image (all ++ more))
-    → AreRecords layout generation image number at [] → HasRecords layout generation image all
-serves_all layout generation number at image all serves nothing = subst (HasRecords layout generation image) (append-nil all) (serves [] nothing)
+pub serves_all : (format : Format) (layout : Layout) (generation number at : ℕ) (image : Image) (all : List (List ℕ)) → ((more : List (List ℕ)) → AreRecords format layout generation image number at more → HasRecords format layout generation image (all ++ more))
+    → AreRecords format layout generation image number at [] → HasRecords format layout generation image all
+serves_all format layout generation number at image all serves nothing = subst (HasRecords format layout generation image) (append-nil all) (serves [] nothing)
 
 -- what was read of records, with one more
 pub records_grown : (before grown : List Record) (one : Record) → grown ≡ before ++ one ∷ []

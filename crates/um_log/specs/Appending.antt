@@ -4,7 +4,7 @@
 use Rattle.std.specs.Prelude.{◌≡◌, ◌⊎◌, ◌+◌, ◌<◌, ◌≤◌, ℕ, List, [], ◌∷◌, ◌++◌, length, map}
 use Rattle.std.specs.List.{range_with_len}
 use Rattle.um_model.specs.Disk.{Sector, Image, Past, IsImage}
-use Rattle.um_model.specs.Store.{part_count, part_of, log_sector, IsStore}
+use Rattle.um_model.specs.Store.{current, part_count, part_of, log_sector, IsStore}
 use Rattle.um_model.specs.declared.layout.Layout.{Layout}
 use Rattle.um_model.specs.declared.layout.Slot.{Slot}
 
@@ -15,8 +15,8 @@ record_run generation number bytes =
 
 -- the store as it was, or with this record behind the others
 abbrev pub EitherRecord : Layout → Slot → ℕ → List ℕ → List (List ℕ) → List ℕ → Image → Type 0
-EitherRecord layout slot generation body records bytes image =
-    IsStore layout image slot generation body records ⊎ IsStore layout image slot generation body (records ++ bytes ∷ [])
+EitherRecord layout slot newest body records bytes image =
+    IsStore current layout image slot newest body records ⊎ IsStore current layout image slot newest body (records ++ bytes ∷ [])
 
 -- outside so many sectors from a place on, an image of before
 pub record IsElsewhere (past : Past) (at count : ℕ) (image : Image) : Type 0 where

@@ -1,26 +1,27 @@
 -- What a part of a record says of itself, and which parts stand one behind the other.
 -- No manual page has it: it is the project's own format.
--- `Log::remains` stands on this file.
+-- `Reader::remains` stands on this file.
 use Rattle.std.specs.Prelude.{◌≡◌, ◌⊎◌, ◌+◌, ◌^◌, ◌<◌, ◌≤◌, ℕ, suc, Option, Some, None}
 use Rattle.um_model.specs.Disk.{Sector, Image}
-use Rattle.um_model.specs.Store.{log_end, part_count, record_limit, IsPart}
+use Rattle.um_model.specs.Store.{area_end, part_count, longest, IsPart}
+use Rattle.um_model.specs.declared.layout.Format.{Format}
 use Rattle.um_model.specs.declared.layout.Layout.{Layout}
-use Rattle.um_log.specs.Reading.{Fits}
+use Rattle.um_log.specs.Reading.{FitsIn}
 use Rattle.um_log.specs.declared.part.Part.{Part}
 
 -- a record may have such a part
-pub record IsPossible (layout : Layout) (generation number part size : ℕ) : Type 0 where
+pub record IsPossible (format : Format) (generation number part size : ℕ) : Type 0 where
   pub generation_fits : generation < 2 ^ 64
   pub number_fits : number < 2 ^ 64
-  pub short : size ≤ record_limit layout generation
+  pub short : size ≤ longest format
   pub below : part < part_count size
 
 -- a sector is that part, or no part of that generation or a later one
-abbrev pub ReadsPart : Layout → ℕ → Sector → Option Part → Type 0
-ReadsPart layout least sector None =
-    (generation number part size : ℕ) → least ≤ generation → IsPossible layout generation number part size → ¬ IsPart generation number part size sector
-ReadsPart layout least sector (Some p) =
-    (least ≤ p.generation) × IsPossible layout p.generation p.number p.part p.size × IsPart p.generation p.number p.part p.size sector
+abbrev pub ReadsPart : Format → ℕ → Sector → Option Part → Type 0
+ReadsPart format least sector None =
+    (generation number part size : ℕ) → least ≤ generation → IsPossible format generation number part size → ¬ IsPart generation number part size sector
+ReadsPart format least sector (Some p) =
+    (least ≤ p.generation) × IsPossible format p.generation p.number p.part p.size × IsPart p.generation p.number p.part p.size sector
 
 -- the first parts of a record stand one behind the other directly before a sector, that one last, from sector `from` on or behind it
 pub record Stand (image : Image) (from next generation number part size : ℕ) : Type 0 where
@@ -30,11 +31,11 @@ pub record Stand (image : Image) (from next generation number part size : ℕ) :
   pub parts : (i : ℕ) → i ≤ part → IsPart generation number i size (image (at + i))
 
 -- these parts stand there, or none of that generation or a later one
-abbrev pub Follows : Layout → ℕ → Image → ℕ → ℕ → Option Part → Type 0
-Follows layout least image from next None =
-    (generation number part size : ℕ) → least ≤ generation → IsPossible layout generation number part size → ¬ Stand image from next generation number part size
-Follows layout least image from next (Some p) =
-    (least ≤ p.generation) × IsPossible layout p.generation p.number p.part p.size × Stand image from next p.generation p.number p.part p.size
+abbrev pub Follows : Format → ℕ → Image → ℕ → ℕ → Option Part → Type 0
+Follows format least image from next None =
+    (generation number part size : ℕ) → least ≤ generation → IsPossible format generation number part size → ¬ Stand image from next generation number part size
+Follows format least image from next (Some p) =
+    (least ≤ p.generation) × IsPossible format p.generation p.number p.part p.size × Stand image from next p.generation p.number p.part p.size
 
 -- a part is the one behind another one of the same record
 pub record IsNextPart (before here : Part) : Type 0 where
@@ -60,23 +61,23 @@ pub record IsLastLater (generation : ℕ) (p : Part) : Type 0 where
   pub all : suc p.part ≡ part_count p.size
 
 -- a part is, in its place, that of a record which has room from a sector on
-pub record IsInPlace (layout : Layout) (generation number next j : ℕ) (p : Part) : Type 0 where
+pub record IsInPlace (format : Format) (layout : Layout) (generation number next j : ℕ) (p : Part) : Type 0 where
   pub generation_is : p.generation ≡ generation
   pub number_is : p.number ≡ number
   pub part_is : next + p.part ≡ j
-  pub fits : Fits layout generation next p.size
+  pub fits : FitsIn format layout generation next p.size
 
 -- the sectors from one on, before another, are the first parts of a record that has room there
-pub record AreParts (layout : Layout) (generation : ℕ) (image : Image) (number next stop : ℕ) : Type 0 where
+pub record AreParts (format : Format) (layout : Layout) (generation : ℕ) (image : Image) (number next stop : ℕ) : Type 0 where
   pub size : ℕ
-  pub short : size ≤ record_limit layout generation
-  pub within : next + part_count size ≤ log_end layout generation
+  pub short : size ≤ longest format
+  pub within : next + part_count size ≤ area_end format layout generation
   pub below : stop ≤ next + part_count size
   pub parts : (i : ℕ) → next + i < stop → IsPart generation number i size (image (next + i))
 
 -- where such parts end, as far as the sectors before one tell
-pub record StopsBefore (layout : Layout) (generation : ℕ) (image : Image) (number next j stop : ℕ) : Type 0 where
+pub record StopsBefore (format : Format) (layout : Layout) (generation : ℕ) (image : Image) (number next j stop : ℕ) : Type 0 where
   pub low : next ≤ stop
   pub high : stop ≤ j
-  pub stand : (stop ≡ next) ⊎ AreParts layout generation image number next stop
-  pub ends : stop < j → ¬ AreParts layout generation image number next (suc stop)
+  pub stand : (stop ≡ next) ⊎ AreParts format layout generation image number next stop
+  pub ends : stop < j → ¬ AreParts format layout generation image number next (suc stop)

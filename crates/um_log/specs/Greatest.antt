@@ -1,20 +1,20 @@
 -- What the greatest generation is that stands on the disk of a store: that of its newest snapshot, or one that a sector of the log tells.
 -- No manual page has it: it is the project's own format (docs/FORMATS.md, "The store on its disk").
--- `Log::greatest_generation` and the opening of a store stand on this file.
-use Rattle.std.specs.Prelude.{◌≡◌, ◌⊎◌, ◌+◌, ◌<◌, ◌≤◌, ℕ}
+-- `Reader::remains` and the opening of a store stand on this file.
+use Rattle.std.specs.Prelude.{◌≡◌, ◌⊎◌, ◌<◌, ◌≤◌, ℕ}
 use Rattle.um_model.specs.Disk.{Image}
 use Rattle.um_model.specs.declared.layout.Layout.{Layout}
-use Rattle.um_model.specs.Store.{log_start, log_end, IsOf, IsFree}
+use Rattle.um_model.specs.Store.{first_log_sector, store_sectors, IsOf, IsNoneAbove}
 
 -- a sector of the log says of itself, whole or not, that it is of that generation
 pub record IsTold (layout : Layout) (image : Image) (generation : ℕ) : Type 0 where
   pub place : ℕ
-  pub low : log_start layout generation ≤ place
-  pub high : place < log_end layout generation
+  pub low : first_log_sector layout ≤ place
+  pub high : place < store_sectors layout
   pub is : IsOf generation (image place)
 
--- the greater of the newest snapshot's generation and the greatest that a sector of the log tells
+-- the greater of a generation, as the newest snapshot's, and the greatest that a sector of the log tells
 pub record IsGreatest (layout : Layout) (image : Image) (newest greatest : ℕ) : Type 0 where
   pub least : newest ≤ greatest
-  pub none_later : IsFree layout (greatest + 1) image (log_start layout (greatest + 1))
+  pub none_later : IsNoneAbove layout image greatest
   pub stands : (greatest ≡ newest) ⊎ IsTold layout image greatest

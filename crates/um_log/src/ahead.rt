@@ -1,8 +1,8 @@
-ghost use Rattle.std.specs.Prelude.{◌≡◌, ◌⊎◌, ◌↔◌, ◌+◌, ◌≤◌, ℕ, true, false, List, [], ◌∷◌, ◌++◌, length, Ok, IfErr, OnOk, IsTrue};
+ghost use Rattle.std.specs.Prelude.{◌≡◌, ◌⊎◌, ◌↔◌, ◌+◌, ◌<◌, ◌≤◌, ℕ, true, false, List, [], ◌∷◌, ◌++◌, length, Ok, IfErr, OnOk, IsTrue};
 ghost use Rattle.um_log.specs.Ahead.{HasSome, GoesOnAhead};
 ghost use Rattle.um_log.specs.Appending.{IsElsewhere};
 ghost use Rattle.um_log.specs.Reading.{Fits};
-ghost use Rattle.um_model.specs.Disk.{During, IsSettled, one_more};
+ghost use Rattle.um_model.specs.Disk.{seen, During, IsSettled, one_more};
 ghost use Rattle.um_model.specs.Store.{part_count, GoesOn};
 ghost use Rattle.um_model.specs.declared.layout.Slot.{Slot};
 ghost use Rattle.um_sector.specs.Refused.{CountsDevice};
@@ -24,14 +24,16 @@ impl Log {
     /// E16 where a disk call fails: it takes no memory. After it, and where the record doesn't fit, the log is as before, but after E16
     /// its sectors may have been written. It makes at most as many disk calls as the record has parts, and none of them is a sync.
     pub fn write<D: Disk>(&mut self, disk: &mut D, bytes: &[u8]) -> Result<bool, Refusal>
-        ensures during { IsTrue (D.honest disk.old) → (slot : Slot) (body : List ℕ) (records more : List (List ℕ))
-            → GoesOnAhead self.old.layout (D.past disk.old) slot self.old.generation body records more self.old.number self.old.next
-            → During (D.past disk.old) (D.past disk.new) (HasSome self.old.layout slot self.old.generation body records (more ++ bytes.now ∷ [])) }
-        ensures ok { result ≡ Ok true → IsTrue (D.honest disk.old) → (slot : Slot) (body : List ℕ) (records more : List (List ℕ))
-            → GoesOnAhead self.old.layout (D.past disk.old) slot self.old.generation body records more self.old.number self.old.next
-            → GoesOnAhead self.new.layout (D.past disk.new) slot self.new.generation body records (more ++ bytes.now ∷ []) self.new.number self.new.next }
+        ensures during { IsTrue (D.honest disk.old) → (slot : Slot) (newest : ℕ) (body : List ℕ) (records more : List (List ℕ))
+            → GoesOnAhead self.old.layout (D.past disk.old) slot newest body records more self.old.generation self.old.number self.old.next
+            → During (D.past disk.old) (D.past disk.new) (HasSome self.old.layout slot newest body records (more ++ bytes.now ∷ [])) }
+        ensures ok { result ≡ Ok true → IsTrue (D.honest disk.old) → (slot : Slot) (newest : ℕ) (body : List ℕ) (records more : List (List ℕ))
+            → GoesOnAhead self.old.layout (D.past disk.old) slot newest body records more self.old.generation self.old.number self.old.next
+            → GoesOnAhead self.new.layout (D.past disk.new) slot newest body records (more ++ bytes.now ∷ []) self.new.generation self.new.number self.new.next }
         ensures elsewhere { IsTrue (D.honest disk.old) → During (D.past disk.old) (D.past disk.new)
             (IsElsewhere (D.past disk.old) self.old.next (part_count (length bytes.now))) }
+        ensures read { result ≡ Ok true → IsTrue (D.honest disk.old) → (j : ℕ) → (j < self.old.next) ⊎ (self.old.next + part_count (length bytes.now) ≤ j)
+            → seen (D.past disk.new) j ≡ seen (D.past disk.old) j }
         ensures next { result ≡ Ok true → (self.new.next ≡ self.old.next + part_count (length bytes.now)) × (self.new.number ≡ self.old.number + 1) }
         ensures of { (self.new.layout ≡ self.old.layout) × (self.new.generation ≡ self.old.generation) }
         ensures same { (result ≡ Ok true) ⊎ (self.new ≡ self.old) }
@@ -61,13 +63,14 @@ impl Log {
     ///
     /// E16 where it fails.
     pub fn flush<D: Disk>(&self, disk: &mut D) -> Result<(), Refusal>
-        ensures during { IsTrue (D.honest disk.old) → (slot : Slot) (body : List ℕ) (records more : List (List ℕ))
-            → GoesOnAhead self.now.layout (D.past disk.old) slot self.now.generation body records more self.now.number self.now.next
-            → During (D.past disk.old) (D.past disk.new) (HasSome self.now.layout slot self.now.generation body records more) }
-        ensures ok { OnOk result (IsTrue (D.honest disk.old) → (slot : Slot) (body : List ℕ) (records more : List (List ℕ))
-            → GoesOnAhead self.now.layout (D.past disk.old) slot self.now.generation body records more self.now.number self.now.next
-            → GoesOn self.now.layout (D.past disk.new) slot self.now.generation body (records ++ more) self.now.generation self.now.number self.now.next) }
+        ensures during { IsTrue (D.honest disk.old) → (slot : Slot) (newest : ℕ) (body : List ℕ) (records more : List (List ℕ))
+            → GoesOnAhead self.now.layout (D.past disk.old) slot newest body records more self.now.generation self.now.number self.now.next
+            → During (D.past disk.old) (D.past disk.new) (HasSome self.now.layout slot newest body records more) }
+        ensures ok { OnOk result (IsTrue (D.honest disk.old) → (slot : Slot) (newest : ℕ) (body : List ℕ) (records more : List (List ℕ))
+            → GoesOnAhead self.now.layout (D.past disk.old) slot newest body records more self.now.generation self.now.number self.now.next
+            → GoesOn self.now.layout (D.past disk.new) slot newest body (records ++ more) self.now.generation self.now.number self.now.next) }
         ensures settled { OnOk result (IsTrue (D.honest disk.old) → IsSettled (D.past disk.new)) }
+        ensures read { OnOk result (IsTrue (D.honest disk.old) → seen (D.past disk.new) ≡ seen (D.past disk.old)) }
         ensures syncs { OnOk result (IsTrue (D.honest disk.old) → sync_count (D.past disk.new) ≡ sync_count (D.past disk.old) + 1) }
         ensures calls { D.calls disk.new ≡ one_more (D.calls disk.old) }
         ensures failures { CountsDevice result (D.failures disk.old) (D.failures disk.new) }

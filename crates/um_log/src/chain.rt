@@ -4,7 +4,7 @@ ghost use Rattle.um_model.specs.Disk.{Image};
 
 use crate::part::Part;
 use crate::sectors::{GENERATION_AT, PART_BYTES, SIZE_AT, log_sector, payload};
-use um_model::Layout;
+use um_model::Format;
 use um_sector::{Sector, u32_at, u64_at};
 
 /// The byte of a sector of the log at which the number of its record begins, in eight bytes.
@@ -14,17 +14,14 @@ const NUMBER_AT: usize = 12;
 const WHICH_AT: usize = 20;
 
 /// The part of a record that a sector is, just as it is written; None where it is none of this generation or a later one.
-fn part_in(layout: Layout, least: u64, sector: &Sector) -> Option<Part>
-    ensures { ReadsPart layout least sector.now result }
+fn part_in(format: Format, least: u64, sector: &Sector) -> Option<Part>
+    ensures { ReadsPart format least sector.now result }
 {
     let generation = u64_at(sector, GENERATION_AT);
     let number = u64_at(sector, NUMBER_AT);
     let part = u32_at(sector, WHICH_AT);
     let size = u32_at(sector, SIZE_AT);
-    if generation < least
-        || size as usize > layout.record_limit(generation)
-        || part >= size.div_ceil(PART_BYTES)
-    {
+    if generation < least || size as usize > format.longest() || part >= size.div_ceil(PART_BYTES) {
         return None;
     }
     let payload = payload(sector, size - PART_BYTES * part);
@@ -57,11 +54,11 @@ fn goes_on(before: Option<Part>, here: Part) -> bool
 }
 
 /// The last of the parts that stand one behind the other at the end of a sector, where it is this one at its start.
-pub fn follow(layout: Layout, least: u64, before: Option<Part>, sector: &Sector) -> Option<Part>
-    ensures { (image : Image) (from next : ℕ) → from ≤ next → sector.now ≡ image next → Follows layout least image from next before
-        → Follows layout least image from (suc next) result }
+pub fn follow(format: Format, least: u64, before: Option<Part>, sector: &Sector) -> Option<Part>
+    ensures { (image : Image) (from next : ℕ) → from ≤ next → sector.now ≡ image next → Follows format least image from next before
+        → Follows format least image from (suc next) result }
 {
-    let here = part_in(layout, least, sector)?;
+    let here = part_in(format, least, sector)?;
     if here.part == 0 {
         return Some(here);
     }

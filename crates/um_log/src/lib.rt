@@ -15,7 +15,7 @@ mod write;
 pub use laws::{
     records_are_told, records_have_one_reading, unread_sectors_of_the_log_do_not_count,
 };
-pub use read::{Record, scan};
+pub use read::{Reader, Record, scan};
 pub use remains::Remains;
-pub use um_model::Layout;
+pub use um_model::{Format, Layout};
 pub use write::Log;

@@ -3,14 +3,13 @@ ghost use Rattle.um_log.specs.Following.{IsSomeWith, IsLastUncounted, IsLastLate
 ghost use Rattle.um_log.specs.Greatest.{IsGreatest};
 ghost use Rattle.um_log.specs.Uncounted.{Counts, EndsUncounted, EndsLater, StopsAt};
 ghost use Rattle.um_model.specs.Disk.{seen};
-ghost use Rattle.um_model.specs.Store.{log_start, log_end, sectors_of, HasRecords};
+ghost use Rattle.um_model.specs.Store.{area_start, area_end, sectors_of, HasRecords};
 ghost use Rattle.um_sector.specs.Refused.{CountsDevice};
 
 use crate::chain::follow;
 use crate::greatest::{greater, told_generation};
 use crate::part::Part;
-use crate::read::fits;
-use crate::write::Log;
+use crate::read::{Reader, fits};
 use um_sector::{Disk, SECTOR_BYTES, Sector};
 use um_wire::Refusal;
 
@@ -38,7 +37,7 @@ fn grown(count: usize, is: bool) -> usize
     if is { count + 1 } else { count }
 }
 
-impl Log {
+impl Reader {
     /// Whether a whole record of the generation, with the number of the next one or a greater one, ends with the part.
     fn is_uncounted(&self, run: Option<Part>) -> bool
         ensures { IsTrue result ↔ IsSomeWith (IsLastUncounted self.now.generation self.now.number) run }
@@ -64,14 +63,20 @@ impl Log {
     /// Whether the part is, in its place, that of the next record in this sector.
     fn is_in_place(&self, run: Option<Part>, j: usize) -> bool
         requires { self.now.next ≤ j }
-        ensures { IsTrue result ↔ IsSomeWith (IsInPlace self.now.layout self.now.generation self.now.number self.now.next j) run }
+        ensures { IsTrue result ↔ IsSomeWith (IsInPlace self.now.format self.now.layout self.now.generation self.now.number self.now.next j) run }
     {
         match run {
             Some(part) => {
                 part.generation == self.generation
                     && part.number == self.number
                     && part.part as usize == j - self.next
-                    && fits(self.layout, self.generation, self.next, part.size as usize)
+                    && fits(
+                        self.format,
+                        self.layout,
+                        self.generation,
+                        self.next,
+                        part.size as usize,
+                    )
             }
             None => false,
         }
@@ -80,9 +85,9 @@ impl Log {
     /// Where the first parts of the next record end, with one sector more: behind it where they go on with it, or where they did.
     fn stop_behind(&self, stop: usize, j: usize, run: Option<Part>) -> usize
         requires low { self.now.next ≤ j }
-        requires high { j < log_end self.now.layout self.now.generation }
-        ensures { ((stop ≡ j) × IsSomeWith (IsInPlace self.now.layout self.now.generation self.now.number self.now.next j) run × (result ≡ j + 1))
-            ⊎ ((stop ≡ j → ¬ IsSomeWith (IsInPlace self.now.layout self.now.generation self.now.number self.now.next j) run) × (result ≡ stop)) }
+        requires high { j < area_end self.now.format self.now.layout self.now.generation }
+        ensures { ((stop ≡ j) × IsSomeWith (IsInPlace self.now.format self.now.layout self.now.generation self.now.number self.now.next j) run × (result ≡ j + 1))
+            ⊎ ((stop ≡ j → ¬ IsSomeWith (IsInPlace self.now.format self.now.layout self.now.generation self.now.number self.now.next j) run) × (result ≡ stop)) }
     {
         if stop != j {
             return stop;
@@ -94,25 +99,25 @@ impl Log {
         }
     }
 
-    /// What stands behind the records of the generation, where the log goes on behind them. It reads each sector from there on once.
+    /// What stands behind the records of the generation, where the reader stands behind them. It reads each sector from there on once.
     ///
     /// E16 where a read fails.
     pub fn remains<D: Disk>(&self, disk: &mut D) -> Result<Remains, Refusal>
-        ensures greatest { IfOk result (λ remains. IsTrue (D.honest disk.old) → (records : List (List ℕ)) → HasRecords self.now.layout self.now.generation (seen (D.past disk.old)) records
-            → self.now.next ≡ log_start self.now.layout self.now.generation + sectors_of records
+        ensures greatest { IfOk result (λ remains. IsTrue (D.honest disk.old) → (records : List (List ℕ)) → HasRecords self.now.format self.now.layout self.now.generation (seen (D.past disk.old)) records
+            → self.now.next ≡ area_start self.now.format self.now.layout self.now.generation + sectors_of records
             → IsGreatest self.now.layout (seen (D.past disk.old)) self.now.generation remains.greatest) }
-        ensures stop { IfOk result (λ remains. IsTrue (D.honest disk.old) → (records : List (List ℕ)) → HasRecords self.now.layout self.now.generation (seen (D.past disk.old)) records
-            → self.now.number ≡ length records → self.now.next ≡ log_start self.now.layout self.now.generation + sectors_of records
-            → self.now.next < log_end self.now.layout self.now.generation
-            → StopsAt self.now.layout self.now.generation (seen (D.past disk.old)) self.now.number self.now.next remains.stop) }
+        ensures stop { IfOk result (λ remains. IsTrue (D.honest disk.old) → (records : List (List ℕ)) → HasRecords self.now.format self.now.layout self.now.generation (seen (D.past disk.old)) records
+            → self.now.number ≡ length records → self.now.next ≡ area_start self.now.format self.now.layout self.now.generation + sectors_of records
+            → self.now.next < area_end self.now.format self.now.layout self.now.generation
+            → StopsAt self.now.format self.now.layout self.now.generation (seen (D.past disk.old)) self.now.number self.now.next remains.stop) }
         ensures uncounted { IfOk result (λ remains. IsTrue (D.honest disk.old)
-            → Counts (EndsUncounted self.now.layout (seen (D.past disk.old)) self.now.next self.now.generation self.now.number)
-            self.now.next (log_end self.now.layout self.now.generation) remains.uncounted) }
+            → Counts (EndsUncounted self.now.format self.now.layout (seen (D.past disk.old)) self.now.next self.now.generation self.now.number)
+            self.now.next (area_end self.now.format self.now.layout self.now.generation) remains.uncounted) }
         ensures later { IfOk result (λ remains. IsTrue (D.honest disk.old)
-            → Counts (EndsLater self.now.layout (seen (D.past disk.old)) self.now.next self.now.generation)
-            self.now.next (log_end self.now.layout self.now.generation) remains.later) }
+            → Counts (EndsLater self.now.format self.now.layout (seen (D.past disk.old)) self.now.next self.now.generation)
+            self.now.next (area_end self.now.format self.now.layout self.now.generation) remains.later) }
         ensures past { IsTrue (D.honest disk.old) → D.past disk.new ≡ D.past disk.old }
-        ensures calls { D.calls disk.new ≤ D.calls disk.old + (log_end self.now.layout self.now.generation - self.now.next) }
+        ensures calls { D.calls disk.new ≤ D.calls disk.old + (area_end self.now.format self.now.layout self.now.generation - self.now.next) }
         ensures failures { CountsDevice result (D.failures disk.old) (D.failures disk.new) }
         ensures lost { IfErr result (λ e. e ≡ Refusal.Device) }
         ensures size { D.size disk.new ≡ D.size disk.old }
@@ -124,10 +129,10 @@ impl Log {
         let mut later = 0;
         let mut run = None;
         let mut sector: Sector = [0; SECTOR_BYTES];
-        for j in self.next..self.layout.log_end(self.generation) {
+        for j in self.next..self.layout.area_end(self.format, self.generation) {
             disk.read(j, &mut sector)?;
             greatest = greater(greatest, told_generation(&sector));
-            run = follow(self.layout, self.generation, run, &sector);
+            run = follow(self.format, self.generation, run, &sector);
             stop = self.stop_behind(stop, j, run);
             uncounted = grown(uncounted, self.is_uncounted(run));
             later = grown(later, self.is_later(run));

@@ -1,5 +1,5 @@
 ghost use Rattle.std.specs.Prelude.{◌≡◌, ◌⊎◌, ◌↔◌, ◌+◌, ◌<◌, ◌≤◌, ℕ, true, false, List, [], ◌∷◌, ◌++◌, length, Ok, IfErr, IsTrue};
-ghost use Rattle.um_model.specs.Disk.{During, IsSettled};
+ghost use Rattle.um_model.specs.Disk.{seen, During, IsSettled};
 ghost use Rattle.um_log.specs.Appending.{IsElsewhere};
 ghost use Rattle.um_model.specs.Store.{log_start, log_end, part_count, GoesOn};
 ghost use Rattle.um_log.specs.Appending.{EitherRecord};
@@ -9,7 +9,7 @@ ghost use Rattle.um_log.specs.Reading.{Fits};
 
 use crate::read::fits;
 use crate::sectors::{PART_BYTES, write_record_synced};
-use um_model::Layout;
+use um_model::{CURRENT, Layout};
 use um_sector::Disk;
 use um_wire::Refusal;
 
@@ -44,7 +44,7 @@ impl Log {
     pub fn fits(&self, size: usize) -> bool
         ensures { IsTrue result ↔ Fits self.now.layout self.now.generation self.now.next size }
     {
-        fits(self.layout, self.generation, self.next, size)
+        fits(CURRENT, self.layout, self.generation, self.next, size)
     }
 
     /// Writes a record directly behind those of the generation, and syncs. Answers whether it fits: where it doesn't, nothing is
@@ -58,15 +58,17 @@ impl Log {
     /// E16 where a disk call fails: it takes no memory. After it, and where the record doesn't fit, the log is as before, but after E16 its
     /// sectors may have been written. It makes at most one disk call more than the record has parts.
     pub fn append<D: Disk>(&mut self, disk: &mut D, bytes: &[u8]) -> Result<bool, Refusal>
-        ensures during { IsTrue (D.honest disk.old) → (slot : Slot) (body : List ℕ) (records : List (List ℕ))
-            → GoesOn self.old.layout (D.past disk.old) slot self.old.generation body records self.old.generation self.old.number self.old.next
-            → During (D.past disk.old) (D.past disk.new) (EitherRecord self.old.layout slot self.old.generation body records bytes.now) }
-        ensures ok { result ≡ Ok true → IsTrue (D.honest disk.old) → (slot : Slot) (body : List ℕ) (records : List (List ℕ))
-            → GoesOn self.old.layout (D.past disk.old) slot self.old.generation body records self.old.generation self.old.number self.old.next
-            → GoesOn self.new.layout (D.past disk.new) slot self.new.generation body (records ++ bytes.now ∷ []) self.new.generation self.new.number self.new.next }
+        ensures during { IsTrue (D.honest disk.old) → (slot : Slot) (newest : ℕ) (body : List ℕ) (records : List (List ℕ))
+            → GoesOn self.old.layout (D.past disk.old) slot newest body records self.old.generation self.old.number self.old.next
+            → During (D.past disk.old) (D.past disk.new) (EitherRecord self.old.layout slot newest body records bytes.now) }
+        ensures ok { result ≡ Ok true → IsTrue (D.honest disk.old) → (slot : Slot) (newest : ℕ) (body : List ℕ) (records : List (List ℕ))
+            → GoesOn self.old.layout (D.past disk.old) slot newest body records self.old.generation self.old.number self.old.next
+            → GoesOn self.new.layout (D.past disk.new) slot newest body (records ++ bytes.now ∷ []) self.new.generation self.new.number self.new.next }
         ensures settled { result ≡ Ok true → IsTrue (D.honest disk.old) → IsSettled (D.past disk.new) }
         ensures elsewhere { IsTrue (D.honest disk.old) → During (D.past disk.old) (D.past disk.new)
             (IsElsewhere (D.past disk.old) self.old.next (part_count (length bytes.now))) }
+        ensures read { result ≡ Ok true → IsTrue (D.honest disk.old) → (j : ℕ) → (j < self.old.next) ⊎ (self.old.next + part_count (length bytes.now) ≤ j)
+            → seen (D.past disk.new) j ≡ seen (D.past disk.old) j }
         ensures next { result ≡ Ok true → (self.new.next ≡ self.old.next + part_count (length bytes.now)) × (self.new.number ≡ self.old.number + 1) }
         ensures of { (self.new.layout ≡ self.old.layout) × (self.new.generation ≡ self.old.generation) }
         ensures same { (result ≡ Ok true) ⊎ (self.new ≡ self.old) }

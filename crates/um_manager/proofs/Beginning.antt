@@ -16,7 +16,7 @@ use Rattle.um_model.specs.declared.layout.Slot.{Slot}
 use Rattle.um_model.specs.Lives.{HasInOrder, no_others, has, between}
 use Rattle.um_model.specs.Machine.{State, Input, Reply, Step, Run, goes, boot_limit}
 use Rattle.um_model.specs.Service.{Action}
-use Rattle.um_model.specs.Store.{body_limit, log_start, records_of, sectors_of}
+use Rattle.um_model.specs.Store.{current, body_limit, log_start, records_of, sectors_of}
 use Rattle.um_model.specs.declared.layout.Layout.{Layout}
 use Rattle.um_wire.specs.declared.refusal.Refusal.{Refusal}
 use Rattle.um_fates.specs.Fates.{asks_for}
@@ -145,16 +145,16 @@ nil_of [] e = refl
 nil_of (x ∷ xs) e = absurd (omega (arith, e))
 
 -- a log without records goes on at its start
-empty_end : {past : Past} {sectors generation number next : ℕ} {layout : Layout} {slot : Slot} {s : State} → Keeps past sectors layout slot generation number next s → number ≡ 0
+empty_end : {past : Past} {sectors newest generation number next : ℕ} {layout : Layout} {slot : Slot} {s : State} → Keeps past sectors layout slot newest generation number next s → number ≡ 0
     → next ≡ log_start layout generation
 empty_end {past = past} {generation = generation} {layout = layout} k none =
-    let records = records_of layout generation (seen past) in
+    let records = records_of current layout generation (seen past) in
     let no_sectors : sectors_of records ≡ 0 = ap sectors_of (nil_of records (sym k.count ∙ none)) in
     omega (arith, k.place, no_sectors)
 
 -- so the boot isn't refused for want of room there
-pub never_spent : {past : Past} {sectors generation of number next : ℕ} {layout : Layout} {slot : Slot} {s : State} (moment : ℕ) (boot : List ℕ)
-    → Keeps past sectors layout slot generation number next s → of ≡ generation → number ≡ 0 → length boot ≤ boot_limit
-    → ¬ Fits layout of next (length (input_spelling (boot_at moment boot))) → ⊥
-never_spent {generation = generation} {of = of} {next = next} {layout = layout} moment boot k same none short no_room =
-    no_room (boot_fits layout of next moment boot short (empty_end k none))
+pub never_spent : {past : Past} {sectors newest generation number next : ℕ} {layout : Layout} {slot : Slot} {s : State} (moment : ℕ) (boot : List ℕ)
+    → Keeps past sectors layout slot newest generation number next s → number ≡ 0 → length boot ≤ boot_limit
+    → ¬ Fits layout generation next (length (input_spelling (boot_at moment boot))) → ⊥
+never_spent {generation = generation} {next = next} {layout = layout} moment boot k none short no_room =
+    no_room (boot_fits layout generation next moment boot short (empty_end k none))

@@ -184,7 +184,7 @@ outlives repeats_none opening layout start lives stop given lead image there =
       run = run;
       opens = λ count of slot generation s taken.
           let stands = opening.stands count of image slot generation s taken in
-          one_state layout image s all.t (subst (λ l. StandsFor l image s) (one_layout of layout image stands.first all.store.stands.first) stands) all.store.stands;
+          one_state layout image s all.t (subst (λ l. StandsFor l image s) (one_layout stands.format all.store.stands.format of layout image stands.first all.store.stands.first) stands) all.store.stands;
       reopens = λ count e room untaken. opening.spent count layout image all.t e room all.store.stands untaken;
       answered = has_answered run;
       told = λ k other. subst (λ l. StandIn (flat_map (λ (life : ManagerLife). told_of k life.way) lives) l) (same_run (body_limit layout) start start all.t all.t all.kept refl carry.run other).1 (carry.told k);

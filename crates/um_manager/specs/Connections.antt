@@ -4,6 +4,7 @@
 use Rattle.std.specs.Prelude.{◌≡◌, ◌≤◌, ℕ, List, [], ◌∷◌, ◌++◌, flat_map, map, length, false, Option, Some, None, Result, Ok, Err, ⊤}
 use Rattle.std.specs.List.{AllByRecursion}
 use Rattle.um_model.specs.Machine.{Input}
+use Rattle.um_model.specs.Profiles.{current}
 use Rattle.um_model.specs.Sessions.{Session, Does, Room, Feed}
 use Rattle.um_proto.specs.declared.request.Asked.{Asked}
 use Rattle.um_proto.specs.declared.request.Asked.TheVariants as asked
@@ -69,7 +70,7 @@ CutsAll (t ∷ ts) (p ∷ ps) (r ∷ rs) (u ∷ us) = Cuts t p r u × CutsAll ts
 CutsAll ts ps rs us = ⊥
 
 abbrev pub inputs_of_asked : ℕ → Asked → List Input
-inputs_of_asked moment (asked.Event event) = record { moment = moment; event = event_of event } ∷ []
+inputs_of_asked moment (asked.Event event) = record { profile = current; moment = moment; event = event_of event } ∷ []
 inputs_of_asked moment other = []
 
 -- the input that a request asks for, at this moment

@@ -39,10 +39,10 @@ FollowInCalls calls (life ∷ lives) all = (life.before ≡ calls) × FollowInCa
 
 -- ---- what is taken for granted
 
--- no entry, no unit, no job and no boot, the clock at 0, and the next number 1
+-- no entry, no unit, no job and no boot, the clock at 0, and the next number 1; the profile is either
 pub record IsEmpty (s : State) : Type 0 where
   pub tree : s.tree ≡ maps.empty
-  pub loaded : s.loaded ≡ maps.empty
+  pub loaded : s.loaded.entries ≡ maps.empty
   pub boot : s.boot ≡ []
   pub clock : s.clock ≡ 0
   pub next : s.next ≡ 1

@@ -14,7 +14,7 @@ fn named(rt: &(impl AllocGlobal + Abort), name: &str) -> BootId {
 /// By hand: the file is put in the first life, and again, as it stands, in the second, which is in another boot. Nothing is loaded, and nothing was started.
 fn is_by_hand(rt: &impl Abort, state: &State) {
     same!(rt, state.tree().len(), 1);
-    same!(rt, state.loaded().len(), 0);
+    same!(rt, state.loaded().tree.len(), 0);
     same!(rt, state.boot().as_str(), "two");
     same!(rt, state.clock().micros(), Moment::FIRST.micros());
     same!(rt, state.next().get(), 1);

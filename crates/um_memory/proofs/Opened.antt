@@ -17,7 +17,7 @@ use Rattle.um_sector.specs.declared.noted.Noted.{Noted}
 -- an image stands for one state
 pub stands_in : {image : Image} {layout : Layout} {s : State} → StandsFor layout image s → StandsIn image layout s
 stands_in {image = image} {layout = layout} {s = s} mine l t store =
-    let same : layout ≡ l = one_layout layout l image mine.first store.stands.first in
+    let same : layout ≡ l = one_layout mine.format store.stands.format layout l image mine.first store.stands.first in
     (same, one_state l image s t (subst (λ (m : Layout). StandsFor m image s) same mine) store.stands)
 
 -- ---- disks in memory

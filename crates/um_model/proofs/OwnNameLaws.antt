@@ -7,6 +7,7 @@ use Rattle.std.specs.Str.{bytes_eq}
 use Rattle.um_model.specs.Dependencies.{loadable_of, loadable_in, has_defaults, Gives, Declares, IsKnown, Depends, IsDeclared, PullsIn, Orders, Precedes}
 use Rattle.um_model.specs.Dependencies as model
 use Rattle.um_model.specs.Names.{is_template, is_unit_name, instance_of, suffix_of, suffix_text_of}
+use Rattle.um_model.specs.Profiles.{ReadTree}
 use Rattle.um_model.specs.Reached.{first, next}
 use Rattle.um_model.specs.Resolution.{Resolution, AtFile, AtNoFile, AtMask, Nowhere, held, is_mask, is_of_same_type, is_served_type, shutdown_target, next_name, resolution_at, resolved, hop_limit, resolution_of, unit_in_target, with_instance_of}
 use Rattle.um_model.specs.Tree.{Tree, Entry, File, Link}
@@ -141,12 +142,12 @@ name_at_file tree asked unit path text =
     name_by_reason asked (unit_by unit (Some path) sources) (reason_of unit (assignments_in (suffix_of unit) sources))
 
 -- the name that counts is that of what was found
-pub named_by_loading : (tree : Tree) (asked : List ℕ) → unit_named tree asked ≡ name_in asked (load tree asked)
+pub named_by_loading : (tree : ReadTree) (asked : List ℕ) → unit_named tree.entries asked ≡ name_in asked (load tree asked)
 unfolding load
-named_by_loading tree asked = by_resolution (resolution_of tree asked)
+named_by_loading tree asked = by_resolution (resolution_of tree.entries asked)
   where
-    by_resolution : (r : Resolution) → named_at asked r ≡ name_in asked (loading_at tree r)
-    by_resolution (AtFile unit path text) = sym (name_at_file tree asked unit path text)
+    by_resolution : (r : Resolution) → named_at asked r ≡ name_in asked (loading_at tree.entries r)
+    by_resolution (AtFile unit path text) = sym (name_at_file tree.entries asked unit path text)
     by_resolution (AtNoFile unit) = refl
     by_resolution (AtMask unit) = refl
     by_resolution Nowhere = refl
@@ -162,16 +163,16 @@ named_or_asked tree asked = by_resolution (resolution_of tree asked) (own_resolu
     by_resolution Nowhere own = inl refl
 
 -- a unit that is found is found by its own name
-pub found_by_own : (tree : Tree) (asked : List ℕ) (l : LoadedUnit) → load tree asked ≡ Found l → load tree l.name ≡ Found l
+pub found_by_own : (tree : ReadTree) (asked : List ℕ) (l : LoadedUnit) → load tree asked ≡ Found l → load tree l.name ≡ Found l
 unfolding load
-found_by_own tree asked l found = by_resolution (resolution_of tree asked) (own_resolution tree asked) found
+found_by_own tree asked l found = by_resolution (resolution_of tree.entries asked) (own_resolution tree.entries asked) found
   where
-    by_own : (unit : List ℕ) (r : Resolution) → name_in asked (loading_at tree r) ≡ unit → OwnName tree asked unit r → loading_at tree r ≡ Found l
-        → loading_at tree (resolution_of tree l.name) ≡ Found l
-    by_own unit r named own is = ap (loading_at tree) (ap (resolution_of tree) (sym (ap (name_in asked) is) ∙ named) ∙ own.leads) ∙ is
+    by_own : (unit : List ℕ) (r : Resolution) → name_in asked (loading_at tree.entries r) ≡ unit → OwnName tree.entries asked unit r → loading_at tree.entries r ≡ Found l
+        → loading_at tree.entries (resolution_of tree.entries l.name) ≡ Found l
+    by_own unit r named own is = ap (loading_at tree.entries) (ap (resolution_of tree.entries) (sym (ap (name_in asked) is) ∙ named) ∙ own.leads) ∙ is
 
-    by_resolution : (r : Resolution) → HasOwn tree asked r → loading_at tree r ≡ Found l → loading_at tree (resolution_of tree l.name) ≡ Found l
-    by_resolution (AtFile unit path text) own is = by_own unit (AtFile unit path text) (name_at_file tree asked unit path text) own is
+    by_resolution : (r : Resolution) → HasOwn tree.entries asked r → loading_at tree.entries r ≡ Found l → loading_at tree.entries (resolution_of tree.entries l.name) ≡ Found l
+    by_resolution (AtFile unit path text) own is = by_own unit (AtFile unit path text) (name_at_file tree.entries asked unit path text) own is
     by_resolution (AtNoFile unit) own is = by_own unit (AtNoFile unit) refl own is
     by_resolution (AtMask unit) own is = cc
     by_resolution Nowhere own is = cc
@@ -188,18 +189,18 @@ loadable_found NotFound l loadable = absurd (none-some l loadable)
 loadable_found (BadSetting unit reason) l loadable = absurd (none-some l loadable)
 
 -- and where it can be loaded, it can by its own name
-pub loadable_by_own : (tree : Tree) (asked : List ℕ) (l : LoadedUnit) → loadable_in tree asked ≡ Some l → loadable_in tree l.name ≡ Some l
+pub loadable_by_own : (tree : ReadTree) (asked : List ℕ) (l : LoadedUnit) → loadable_in tree asked ≡ Some l → loadable_in tree l.name ≡ Some l
 loadable_by_own tree asked l loadable =
     let found = loadable_found (load tree asked) l loadable in
     ap loadable_of (found_by_own tree asked l found ∙ sym found) ∙ loadable
 
 -- its name counts for each name that leads to it
-pub name_of_loadable : (tree : Tree) (asked : List ℕ) (l : LoadedUnit) → loadable_in tree asked ≡ Some l → unit_named tree asked ≡ l.name
+pub name_of_loadable : (tree : ReadTree) (asked : List ℕ) (l : LoadedUnit) → loadable_in tree asked ≡ Some l → unit_named tree.entries asked ≡ l.name
 name_of_loadable tree asked l loadable = named_by_loading tree asked ∙ ap (name_in asked) (loadable_found (load tree asked) l loadable)
 
 -- ---- what a known unit says, whatever else is known
 
-module _ (tree : Tree) (Other Extra : List ℕ → Type 0) where
+module _ (tree : ReadTree) (Other Extra : List ℕ → Type 0) where
   gives_anyhow : (name : List ℕ) (kind : DependencyKind) (x y : List ℕ) → IsKnown tree Extra x → Gives tree name kind x y
       → (own : List ℕ) × IsKnown tree Extra own × Gives tree own kind x y
   gives_anyhow name _ _ _ known (model.said {l = l} loadable names) = (l.name, known, model.said (loadable_by_own tree name l loadable) names)
@@ -226,11 +227,11 @@ module _ (tree : Tree) (Other Extra : List ℕ → Type 0) where
       let own = declares_anyhow d.name x y known too d.declares in
       record { name = own.0; known = own.1; declares = own.2 }
 
-  ending_anyhow : (a : List ℕ) (l : LoadedUnit) → IsKnown tree Extra l.name → loadable_in tree a ≡ Some l → has_defaults l ≡ true → Orders tree Extra l.name (unit_named tree shutdown_target)
+  ending_anyhow : (a : List ℕ) (l : LoadedUnit) → IsKnown tree Extra l.name → loadable_in tree a ≡ Some l → has_defaults l ≡ true → Orders tree Extra l.name (unit_named tree.entries shutdown_target)
   ending_anyhow a l known loadable defaults = model.ending known (loadable_by_own tree a l loadable) defaults
 
 -- both units of which one pulls the other in are known
-pulled_known : (tree : Tree) (Extra : List ℕ → Type 0) (x y : List ℕ) → PullsIn tree Extra x y → IsKnown tree Extra x × IsKnown tree Extra y
+pulled_known : (tree : ReadTree) (Extra : List ℕ → Type 0) (x y : List ℕ) → PullsIn tree Extra x y → IsKnown tree Extra x × IsKnown tree Extra y
 pulled_known tree Extra x y p = known_by p.depends
   where
     both : (kind : DependencyKind) → Depends tree Extra kind x y → IsKnown tree Extra x × IsKnown tree Extra y
@@ -240,7 +241,7 @@ pulled_known tree Extra x y p = known_by p.depends
     known_by (inl d) = both kinds.Wants d
     known_by (inr d) = both kinds.Requires d
 
-module _ (tree : Tree) (Other Extra : List ℕ → Type 0) where
+module _ (tree : ReadTree) (Other Extra : List ℕ → Type 0) where
   pulled_anyhow : (x y : List ℕ) → IsKnown tree Extra x → PullsIn tree Other x y → PullsIn tree Extra x y
   pulled_anyhow x y known p = record {
     target = p.target;

@@ -1,12 +1,13 @@
 -- The laws of the bytes of what the state holds of a unit.
-use Rattle.std.proofs.Common.{◌≡◌, ℕ, ◌-◌, ◌++◌, List, Some, refl, arith}
+use Rattle.std.proofs.Common.{◌≡◌, ℕ, ◌-◌, Bool, true, false, ◌==◌, if◌then◌else◌, ◌++◌, List, Some, None, refl, sym, ap, ◌∙◌, arith}
 use Rattle.std.specs.Prelude.{⊤}
+use Rattle.std.proofs.lemmas.Bool.{eqb-true}
 use Rattle.std.specs.List.{slice_get}
 use Rattle.um_model.specs.Bytes.{IsCanonical, arm_in, text_spelling, table_at, tagged}
 use Rattle.um_model.specs.Names.{is_unit_name}
-use Rattle.um_model.proofs.BytesLaws.{canonical8, canonical32, canonical_pair, canonical_form, canonical_as, canonical_option, canonical_tag, table_back, canonical_between, canonical_truth, canonical_text, canonical_only, AllTell, tells, tells_just, canonical_arms}
+use Rattle.um_model.proofs.BytesLaws.{some_is, canonical8, canonical32, canonical_pair, canonical_form, canonical_as, canonical_option, canonical_tag, table_back, canonical_between, canonical_truth, canonical_text, canonical_only, AllTell, tells, tells_just, canonical_arms}
 use Rattle.um_model.specs.Moments.{moment_limit, deadline_limit, process_limit}
-use Rattle.um_model.specs.Spellings.{sub_tag, sub_states, result_tag, results, kind_tag, kinds, job_state_tag, job_states}
+use Rattle.um_model.specs.Spellings.{profile_tag, profile_of, profile_at, sub_tag, sub_states, result_tag, results, kind_tag, kinds, job_state_tag, job_states}
 use Rattle.um_model.specs.Spellings.{end_tag, end_fields, end_arms, end_spelling, end_at, FitEnd, moment_at, FitMoment, deadline_at, FitDeadline, process_at, FitProcess, next_at, FitNext}
 use Rattle.um_model.specs.Spellings.{unit_name_at, FitUnitName, counted_spelling, counted_of, counted_at, FitCounted, unit_spelling, UnitFields, unit_of, unit_at, FitUnit}
 use Rattle.byteorder.specs.Endian.{big_bytes}
@@ -14,6 +15,8 @@ use Rattle.um_model.specs.declared.jobs.JobKind.{JobKind}
 use Rattle.um_model.specs.declared.jobs.JobKind.TheVariants as kind
 use Rattle.um_model.specs.declared.jobs.JobState.{JobState}
 use Rattle.um_model.specs.declared.jobs.JobState.TheVariants.{Waiting, Running}
+use Rattle.um_model.specs.declared.profile.Profile.{Profile}
+use Rattle.um_model.specs.declared.profile.Profile.TheVariants.{One, Two}
 use Rattle.um_model.specs.declared.service.End.{End}
 use Rattle.um_model.specs.declared.service.End.TheVariants as end
 use Rattle.um_model.specs.declared.service.SubState.{SubState}
@@ -23,6 +26,20 @@ use Rattle.um_model.specs.declared.service.UnitResult.TheVariants as result
 use Rattle.um_model.specs.declared.service.UnitState.{UnitState}
 
 -- ---- choices without fields
+
+pub profile_again : (p : Profile) → profile_of (profile_tag p) ≡ Some p
+profile_again One = refl
+profile_again Two = refl
+
+pub profile_back : (n : ℕ) (p : Profile) → profile_of n ≡ Some p → profile_tag p ≡ n
+profile_back n p e = by (n == 1) (n == 2) refl refl e where
+  by : (one two : Bool) → (n == 1) ≡ one → (n == 2) ≡ two → (if one then Some One else (if two then Some Two else None)) ≡ Some p → profile_tag p ≡ n
+  by true two is isnt found = ap profile_tag (sym (some_is One p found)) ∙ sym (eqb-true n 1 is)
+  by false true isnt is found = ap profile_tag (sym (some_is Two p found)) ∙ sym (eqb-true n 2 is)
+  by false false isnt neither found = absurd cc
+
+pub canonical_profile : IsCanonical (λ p. ⊤) (tagged profile_tag) profile_at
+canonical_profile = canonical_tag profile_tag profile_of profile_again profile_back
 
 pub sub_again : (s : SubState) → slice_get sub_states (sub_tag s) ≡ Some s
 sub_again sub.Dead = refl

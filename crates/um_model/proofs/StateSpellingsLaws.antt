@@ -9,8 +9,8 @@ use Rattle.um_model.specs.Service.{ByUnit, AreTidyUnits, holds_nothing, dead_uni
 use Rattle.um_model.specs.StateSpellings.{entry_tag, entry_arms, entry_spelling, entry_at, FitEntry, any_text, tree_spelling, is_tree, tree_at, FitTree, units_spelling, are_known, units_at, FitUnits}
 use Rattle.um_model.specs.StateSpellings.{is_boot, boot_at, FitBoot, state_spelling, StateFields, state_of, is_sound, state_at, FitState}
 use Rattle.um_model.specs.Machine.{State}
-use Rattle.um_model.proofs.BytesLaws.{AllTell, tells, canonical_arms, canonical_text, canonical_map, canonical_only, canonical_fits, canonical_marked, canonical_as, canonical_pair}
-use Rattle.um_model.proofs.SpellingsLaws.{canonical_moment, canonical_next, canonical_unit}
+use Rattle.um_model.proofs.BytesLaws.{AllTell, tells, canonical_arms, canonical_text, canonical_map, canonical_only, canonical_fits, canonical_as, canonical_pair}
+use Rattle.um_model.proofs.SpellingsLaws.{canonical_profile, canonical_moment, canonical_next, canonical_unit}
 use Rattle.um_model.proofs.PendingSpellingsLaws.{canonical_pending}
 use Rattle.um_model.proofs.EntriesLaws.{left_true, right_true, both_true, at_each, from_each}
 use Rattle.um_model.proofs.UnitLaws.{nothing_held, not_dead}
@@ -68,13 +68,15 @@ pub canonical_boot : IsCanonical FitBoot text_spelling boot_at
 canonical_boot = canonical_only is_boot canonical_text
 
 abbrev fields : State → StateFields
-fields s = (s.tree, (s.loaded, (s.boot, (s.clock, (s.next, (s.units, s.pending))))))
+fields s = (s.loaded.profile, (s.tree, (s.loaded.entries, (s.boot, (s.clock, (s.next, (s.units, s.pending)))))))
 
 pub canonical_state : IsCanonical FitState state_spelling state_at
 canonical_state =
-    canonical_marked 1 (canonical_fits
-    (λ s h. record { tree = h.0.0; loaded = h.0.1.0; boot = h.0.1.1.0; clock = h.0.1.1.1.0; next = h.0.1.1.1.1.0; units = h.0.1.1.1.1.1.0; pending = h.0.1.1.1.1.1.1; sound = h.1 })
-    (λ s h. ((h.tree, (h.loaded, (h.boot, (h.clock, (h.next, (h.units, h.pending)))))), h.sound))
+    canonical_fits
+    (λ s h.
+        let f = h.0.1 in
+        record { tree = f.0; loaded = f.1.0; boot = f.1.1.0; clock = f.1.1.1.0; next = f.1.1.1.1.0; units = f.1.1.1.1.1.0; pending = f.1.1.1.1.1.1; sound = h.1 })
+    (λ s h. ((tt, (h.tree, (h.loaded, (h.boot, (h.clock, (h.next, (h.units, h.pending))))))), h.sound))
     (canonical_only is_sound (canonical_as state_of fields (λ f. refl) (λ s. refl)
-    (canonical_pair canonical_tree (canonical_pair canonical_tree (canonical_pair canonical_boot (canonical_pair canonical_moment (canonical_pair canonical_next
-    (canonical_pair canonical_units canonical_pending)))))))))
+    (canonical_pair canonical_profile (canonical_pair canonical_tree (canonical_pair canonical_tree (canonical_pair canonical_boot (canonical_pair canonical_moment
+    (canonical_pair canonical_next (canonical_pair canonical_units canonical_pending)))))))))

@@ -6,6 +6,7 @@ use Rattle.um_model.specs.Jobs.{Job, BeginsNext}
 use Rattle.um_model.specs.Machine.{State, Happening, Event, Input, Reply, IsBefore, Settles, begins_next, Fires, FiresOne, Follows, TakesEffect, Step}
 use Rattle.um_model.specs.Service.{Action}
 use Rattle.um_model.specs.Timers.{Timers}
+use Rattle.um_model.specs.declared.profile.Profile.{Profile}
 
 -- a job that begins, and the state right before that
 pub record Begun : Type 0 where
@@ -31,7 +32,8 @@ begun_following (Follows.ticks timers are firing) = begun_firing firing
 begun_following Follows.boots = []
 
 -- those that begin by the effect of an event
-abbrev pub begun_taking : {t : ℕ} {s v : State} {event : Event} {actions : List Action} → TakesEffect t s event actions v → List Begun
+abbrev pub begun_taking : {profile : Profile} {t : ℕ} {s v : State} {event : Event} {actions : List Action}
+    → TakesEffect profile t s event actions v → List Begun
 begun_taking (TakesEffect.obeys allowed does settles) = begun_settling settles
 begun_taking (TakesEffect.meets counts follows) = begun_following follows
 

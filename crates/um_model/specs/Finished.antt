@@ -46,7 +46,7 @@ pub record PutsStart (unit : List ℕ) (s : State) (input : Input) (reply : Repl
   pub is : input.event ≡ Commanded command
   pub done : reply ≡ Done
   pub planned : State
-  pub changes : Changes s command planned
+  pub changes : Changes input.profile s command planned
   pub none : (jobs_of_unit s.pending unit).start ≡ None
   pub one : (jobs_of_unit planned.pending unit).start ≢ None
 

@@ -5,6 +5,7 @@ use Rattle.std.specs.Prelude.{◌≡◌, ℕ, ◌<◌, ◌≤◌, List, [], ◌�
 use Rattle.byteorder.specs.Endian.{big_number, big_bytes}
 use Rattle.um_model.specs.Refusals.{Refused, too_large}
 use Rattle.um_model.specs.Service.{Action}
+use Rattle.um_model.specs.Profiles.{current}
 use Rattle.um_model.specs.Machine.{State, Input, Query, Event, Step, Reply, Told, Refusal, IsReplyTo}
 use Rattle.um_model.specs.Requests.{OfEvent, OfQuery, OfActions, request_of}
 use Rattle.um_model.specs.Replies.{reply_text, is_told_whole}
@@ -55,9 +56,9 @@ pub data IsStream : List ℕ → List (List ℕ) → Ending → Type 0 where
   frame : {stream rest bytes : List ℕ} {frames : List (List ℕ)} {ending : Ending} → BeginsWith stream bytes rest
       → IsStream rest frames ending → IsStream stream (bytes ∷ frames) ending
 
--- the input of a request: its moment is the clock's where it tells none
+-- the input of a request, which is of the current profile: its moment is the clock's where it tells none
 abbrev pub input_of : State → Option ℕ → Event → Input
-input_of s at e = record { moment = unwrap_or at s.clock; event = e }
+input_of s at e = record { profile = current; moment = unwrap_or at s.clock; event = e }
 
 -- the actions that are kept after they were asked for: none, unless their reply would have been too long
 abbrev pub kept_after : List Action → List Action

@@ -1,20 +1,21 @@
--- Canonical bytes of what comes in: commands and happenings, each with its moment.
+-- Canonical bytes of what comes in: commands and happenings, each with its profile and its moment.
 -- No manual page has this: it is the project's own format (docs/FORMATS.md, "Canonical bytes").
 -- The code that reads and writes inputs, and the log of the store stand on this file.
 use Rattle.std.specs.Prelude.{ℕ, ◌<◌, ◌^◌, ⊤, List, [], ◌∷◌, ◌++◌, IfSome}
 use Rattle.byteorder.specs.Endian.{big_bytes}
-use Rattle.um_model.specs.Bytes.{Spelling, Decoder, number_at, pair_at, as_at, marked_at, choice_at, arm_in, just_at, none_at, table_at, tagged}
+use Rattle.um_model.specs.Bytes.{Spelling, Decoder, number_at, pair_at, as_at, choice_at, arm_in, just_at, none_at, table_at, tagged}
 use Rattle.um_model.specs.Bytes.{FitText, text_spelling, text_at, option_spelling, option_at}
 use Rattle.um_model.specs.Machine.{Command, PutFile, PutLink, Remove, DaemonReload, ForUnit, Cancel, ResetFailed, Install, Happening, ProcessEnded, ProcessExecuted, Tick, Booted, Event}
 use Rattle.um_model.specs.Machine.{Commanded, Happened, Input}
 use Rattle.um_model.specs.StateSpellings.{boot_at, FitBoot}
-use Rattle.um_model.specs.Spellings.{moment_at, FitMoment, unit_name_at, FitUnitName, end_spelling, end_at, FitEnd}
+use Rattle.um_model.specs.Spellings.{profile_tag, profile_at, moment_at, FitMoment, unit_name_at, FitUnitName, end_spelling, end_at, FitEnd}
 use Rattle.um_model.specs.declared.commands.JobMode.{JobMode}
 use Rattle.um_model.specs.declared.commands.JobMode.TheVariants as mode
 use Rattle.um_model.specs.declared.commands.UnitVerb.{UnitVerb}
 use Rattle.um_model.specs.declared.commands.UnitVerb.TheVariants as verb
 use Rattle.um_model.specs.declared.install.InstallVerb.{InstallVerb}
 use Rattle.um_model.specs.declared.install.InstallVerb.TheVariants as install
+use Rattle.um_model.specs.declared.profile.Profile.{Profile}
 
 -- ---- what becomes of jobs in the way
 
@@ -97,28 +98,28 @@ event_fields (Happened happening) = happening_fields happening
 abbrev pub input_limit : ℕ
 input_limit = 66078
 
--- the first byte of an input
-abbrev pub input_version : ℕ
-input_version = 1
-
--- its version, the tag, the moment, and the fields
+-- its profile as the first byte, the tag, the moment, and the fields
 abbrev pub input_spelling : Spelling Input
-input_spelling i = input_version ∷ event_tag i.event ∷ (big_bytes 8 i.moment ++ event_fields i.event)
+input_spelling i = tagged profile_tag i.profile ++ (event_tag i.event ∷ (big_bytes 8 i.moment ++ event_fields i.event))
+
+-- a moment, and what comes in at it
+abbrev pub Timed : Type 0
+Timed = ℕ × Event
 
 -- a moment, and behind it the fields of what comes in
-abbrev pub comes_at : {A : Type 0} → (A → Event) → Decoder A → Decoder Input
-comes_at to fields = as_at (λ f. record { moment = f.0; event = to f.1 }) (pair_at moment_at fields)
+abbrev pub comes_at : {A : Type 0} → (A → Event) → Decoder A → Decoder Timed
+comes_at to fields = as_at (λ f. (f.0, to f.1)) (pair_at moment_at fields)
 
 -- two texts, the second of which is any
 abbrev pub texts_at : Decoder (List ℕ × List ℕ)
 texts_at = pair_at text_at text_at
 
 -- a command for a unit: its name, and the mode
-abbrev pub for_unit_at : UnitVerb → Decoder Input
+abbrev pub for_unit_at : UnitVerb → Decoder Timed
 for_unit_at verb = comes_at (λ f. Commanded (ForUnit verb f.0 f.1)) (pair_at unit_name_at (table_at modes))
 
 -- enabling or its kin: the name of the unit
-abbrev pub install_at : InstallVerb → Decoder Input
+abbrev pub install_at : InstallVerb → Decoder Timed
 install_at verb = comes_at (λ unit. Commanded (Install verb unit)) unit_name_at
 
 -- no fields
@@ -126,7 +127,7 @@ abbrev pub nothing_at : Decoder ⊤
 nothing_at = just_at tt
 
 -- what comes in, by its tag; none has 0
-abbrev pub input_arms : List (Decoder Input)
+abbrev pub input_arms : List (Decoder Timed)
 input_arms =
     none_at
     ∷ comes_at (λ f. Commanded (PutFile f.0 f.1)) texts_at
@@ -149,9 +150,13 @@ input_arms =
     ∷ comes_at (λ boot. Happened (Booted boot)) boot_at
     ∷ []
 
--- the version, and what comes in after its tag
+-- the input of its parts
+abbrev pub input_with : Profile × Timed → Input
+input_with (profile, (moment, event)) = record { profile = profile; moment = moment; event = event }
+
+-- a profile, and what comes in after its tag
 abbrev pub input_at : Decoder Input
-input_at = marked_at input_version (choice_at (arm_in input_arms))
+input_at = as_at input_with (pair_at profile_at (choice_at (arm_in input_arms)))
 
 -- a command that has bytes: its texts are any, and its unit has a name
 abbrev pub FitCommand : Command → Type 0

@@ -11,6 +11,7 @@ use Rattle.um_model.specs.Least.{NamesLeast}
 use Rattle.um_model.specs.Reached.{Reached}
 use Rattle.um_model.specs.Refusals.{Refused, FirstCause, not_found, masked, bad_setting, exists_at, bad_path, too_large}
 use Rattle.um_model.specs.Names.{is_template, with_instance, named}
+use Rattle.um_model.specs.Profiles.{ReadTree}
 use Rattle.um_model.specs.Tree.{Tree, Entry, Link, PathParts, Place, Unit, Wants, Requires, path_text, path_parts, entry_limit, is_fit_target, is_other_than_link, put_link}
 use Rattle.um_model.specs.Resolution.{unit_path, unit_in_target, is_mask}
 use Rattle.um_model.specs.Units.{InstallSettings, nothing_installed, LoadedUnit, Loading, Found, Masked, NotFound, BadSetting, load, unit_named}
@@ -63,38 +64,40 @@ links_of other = []
 -- ---- enable
 
 -- the unit names the other in Also=
-pub data IsAlso (tree : Tree) (unit : List ℕ) : List ℕ → Type 0 where
-  also : {name : List ℕ} → Contains (install_of (load tree unit)).also name → IsAlso tree unit (unit_named tree name)
+pub data IsAlso (tree : ReadTree) (unit : List ℕ) : List ℕ → Type 0 where
+  also : {name : List ℕ} → Contains (install_of (load tree unit)).also name → IsAlso tree unit (unit_named tree.entries name)
 
 -- enabling takes the unit, those of its Also=, and so on for those
-abbrev pub IsTaken : Tree → List ℕ → List ℕ → Type 0
-IsTaken tree asked = Reached (λ unit. unit ≡ unit_named tree asked) (IsAlso tree)
+abbrev pub IsTaken : ReadTree → List ℕ → List ℕ → Type 0
+IsTaken tree asked = Reached (λ unit. unit ≡ unit_named tree.entries asked) (IsAlso tree)
 
 -- one of them asks for the link
-pub record IsAskedFor (tree : Tree) (asked : List ℕ) (link : LinkAt) : Type 0 where
+pub record IsAskedFor (tree : ReadTree) (asked : List ℕ) (link : LinkAt) : Type 0 where
   pub unit : List ℕ
   pub taken : IsTaken tree asked unit
   pub among : Contains (links_of (load tree unit)) link
 
 -- the other tree is this one with the links that are asked for, and no other change
-pub record IsEnabled (tree : Tree) (asked : List ℕ) (enabled : Tree) : Type 0 where
+pub record IsEnabled (tree : ReadTree) (asked : List ℕ) (enabled : Tree) : Type 0 where
   pub linked : (path target : List ℕ) → IsAskedFor tree asked (link_at path target) → map.get enabled path ≡ Some (Link target)
-  pub kept : (path : List ℕ) → ¬ ((target : List ℕ) × IsAskedFor tree asked (link_at path target)) → map.get enabled path ≡ map.get tree path
+  pub kept : (path : List ℕ) → ¬ ((target : List ℕ) × IsAskedFor tree asked (link_at path target))
+      → map.get enabled path ≡ map.get tree.entries path
 
 -- Why a unit isn't enabled.
 
 -- a link that is asked for has no served path, or may not stand there
-abbrev pub IsUnfit : Tree → List ℕ → List ℕ → Type 0
+abbrev pub IsUnfit : ReadTree → List ℕ → List ℕ → Type 0
 IsUnfit tree asked path = (target : List ℕ) × IsAskedFor tree asked (link_at path target) × (is_fit_target (path_parts path) target ≡ false)
 
 -- at its path something else stands, or another link is asked for
-pub data IsOccupied (tree : Tree) (asked path : List ℕ) : Type 0 where
-  stands : {target : List ℕ} → IsAskedFor tree asked (link_at path target) → is_other_than_link (map.get tree path) target ≡ true → IsOccupied tree asked path
+pub data IsOccupied (tree : ReadTree) (asked path : List ℕ) : Type 0 where
+  stands : {target : List ℕ} → IsAskedFor tree asked (link_at path target) → is_other_than_link (map.get tree.entries path) target ≡ true
+      → IsOccupied tree asked path
   differs : {target other : List ℕ} → IsAskedFor tree asked (link_at path target) → IsAskedFor tree asked (link_at path other) → target ≢ other
       → IsOccupied tree asked path
 
 -- the tree with the links has too many entries
-pub data HasTooMany (tree : Tree) (asked : List ℕ) : Refused → Type 0 where
+pub data HasTooMany (tree : ReadTree) (asked : List ℕ) : Refused → Type 0 where
   too_many : {enabled : Tree} → IsEnabled tree asked enabled → entry_limit < map.len enabled → HasTooMany tree asked (too_large Entries)
 
 -- the unit can't be enabled: it isn't found, is masked, has a refused setting, or is a template without a fit default instance
@@ -105,13 +108,13 @@ pub data CannotEnable (unit : List ℕ) : Loading → Refused → Type 0 where
   lacks_instance : {l : LoadedUnit} → linked_name l ≡ None → CannotEnable unit (Found l) (bad_setting l.name (codes "default-instance"))
 
 -- it is taken, and can't be enabled
-pub record IsBarred (tree : Tree) (asked unit : List ℕ) : Type 0 where
+pub record IsBarred (tree : ReadTree) (asked unit : List ℕ) : Type 0 where
   pub taken : IsTaken tree asked unit
   pub refusal : Refused
   pub cause : CannotEnable unit (load tree unit) refusal
 
 -- why its links aren't made, in the order in which it is looked at; E12 and E11 tell of the least path of which they hold
-abbrev pub CausesOfLinks : Tree → List ℕ → Refused → Type 0
+abbrev pub CausesOfLinks : ReadTree → List ℕ → Refused → Type 0
 CausesOfLinks tree asked =
     FirstCause (NamesLeast (IsUnfit tree asked) (λ path r. r ≡ bad_path path))
     (FirstCause (NamesLeast (IsOccupied tree asked) (λ path r. r ≡ exists_at path)) (HasTooMany tree asked))
@@ -119,24 +122,24 @@ CausesOfLinks tree asked =
 -- ---- disable
 
 -- disabling goes by the name, those of its Also= as they are written there, and so on for those
-abbrev pub IsMeant : Tree → List ℕ → List ℕ → Type 0
+abbrev pub IsMeant : ReadTree → List ℕ → List ℕ → Type 0
 IsMeant tree asked = Reached (λ name. name ≡ asked) (λ unit name. Contains (install_of (load tree unit)).also name)
 
 -- disabling removes the link at the path: it lies in `etc/`, and wants or requires a unit that is meant, or leads to it
-pub record IsUnlinked (tree : Tree) (asked path : List ℕ) : Type 0 where
+pub record IsUnlinked (tree : ReadTree) (asked path : List ℕ) : Type 0 where
   pub name : List ℕ
   pub target : List ℕ
   pub parts : PathParts
   pub meant : IsMeant tree asked name
-  pub link : map.get tree path ≡ Some (Link target)
+  pub link : map.get tree.entries path ≡ Some (Link target)
   pub served : path_parts path ≡ Some parts
   pub in_etc : parts.layer ≡ Etc
   pub leads : (parts.place ≡ Wants name) ⊎ ((parts.place ≡ Requires name) ⊎ (unit_in_target target ≡ name))
 
 -- the other tree is this one without the links that are removed, and no other change
-pub record IsDisabled (tree : Tree) (asked : List ℕ) (disabled : Tree) : Type 0 where
+pub record IsDisabled (tree : ReadTree) (asked : List ℕ) (disabled : Tree) : Type 0 where
   pub gone : (path : List ℕ) → IsUnlinked tree asked path → map.get disabled path ≡ None
-  pub kept : (path : List ℕ) → ¬ IsUnlinked tree asked path → map.get disabled path ≡ map.get tree path
+  pub kept : (path : List ℕ) → ¬ IsUnlinked tree asked path → map.get disabled path ≡ map.get tree.entries path
 
 -- ---- mask and unmask
 
@@ -151,24 +154,26 @@ unmasked tree unit = if is_masking (map.get tree (unit_path Etc unit)) then map.
 -- ---- all four
 
 -- what the verb makes of the tree, where it isn't refused
-pub data Installs (tree : Tree) : InstallVerb → List ℕ → Tree → Type 0 where
+pub data Installs (tree : ReadTree) : InstallVerb → List ℕ → Tree → Type 0 where
   enables : {unit : List ℕ} {enabled : Tree} → IsEnabled tree unit enabled → Installs tree verbs.Enable unit enabled
   disables : {unit : List ℕ} {disabled : Tree} → IsDisabled tree unit disabled → Installs tree verbs.Disable unit disabled
-  masks : {unit : List ℕ} {changed : Tree} → put_link tree (unit_path Etc unit) (codes "/dev/null") ≡ Ok changed → Installs tree verbs.Mask unit changed
-  unmasks : {unit : List ℕ} → Installs tree verbs.Unmask unit (unmasked tree unit)
+  masks : {unit : List ℕ} {changed : Tree} → put_link tree.entries (unit_path Etc unit) (codes "/dev/null") ≡ Ok changed
+      → Installs tree verbs.Mask unit changed
+  unmasks : {unit : List ℕ} → Installs tree verbs.Unmask unit (unmasked tree.entries unit)
 
 -- why the verb is refused for the links that it makes, if it is
-pub data RefusesLinks (tree : Tree) : InstallVerb → List ℕ → Refused → Type 0 where
+pub data RefusesLinks (tree : ReadTree) : InstallVerb → List ℕ → Refused → Type 0 where
   enables_none : {unit : List ℕ} {r : Refused} → CausesOfLinks tree unit r → RefusesLinks tree verbs.Enable unit r
-  masks_none : {unit : List ℕ} {r : Refused} → put_link tree (unit_path Etc unit) (codes "/dev/null") ≡ Err r → RefusesLinks tree verbs.Mask unit r
+  masks_none : {unit : List ℕ} {r : Refused} → put_link tree.entries (unit_path Etc unit) (codes "/dev/null") ≡ Err r
+      → RefusesLinks tree verbs.Mask unit r
 
 -- and for the units that it takes: the least that can't be enabled refuses
-pub data RefusesUnits (tree : Tree) : InstallVerb → List ℕ → Refused → Type 0 where
+pub data RefusesUnits (tree : ReadTree) : InstallVerb → List ℕ → Refused → Type 0 where
   takes_none : {unit : List ℕ} {r : Refused} → NamesLeast (IsBarred tree unit) (λ other r. CannotEnable other (load tree other) r) r
       → RefusesUnits tree verbs.Enable unit r
 
 -- why the verb is refused, if it is
-abbrev pub RefusesInstall : Tree → InstallVerb → List ℕ → Refused → Type 0
+abbrev pub RefusesInstall : ReadTree → InstallVerb → List ℕ → Refused → Type 0
 RefusesInstall tree verb unit = FirstCause (RefusesLinks tree verb unit) (RefusesUnits tree verb unit)
 
 -- the paths at which something stands in the one tree and nothing in the other, ascending
@@ -206,7 +211,7 @@ enabling_of asked (BadSetting unit reason) linked = enabling_at asked unit linke
 enabling_of asked (Found l) linked = enabling_at asked l.name linked l.settings.install
 
 -- how the unit is enabled in the tree
-pub record IsEnabledAs (tree : Tree) (asked : List ℕ) (answer : Enabling) : Type 0 where
+pub record IsEnabledAs (tree : ReadTree) (asked : List ℕ) (answer : Enabling) : Type 0 where
   pub linked : Bool
   pub decides : Decides linked ((path : List ℕ) × IsUnlinked tree asked path)
   pub fits : answer ≡ enabling_of asked (load tree asked) linked

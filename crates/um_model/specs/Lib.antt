@@ -11,6 +11,7 @@ pub mod Commands
 pub mod Substitution
 pub mod Names
 pub mod Tree
+pub mod Profiles
 pub mod Syntax
 pub mod Order
 pub mod Limit

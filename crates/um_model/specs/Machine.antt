@@ -8,6 +8,7 @@ use Rattle.um_model.specs.Least.{IsLeast, IsNamedBefore}
 use Rattle.um_model.specs.Refusals.{Refused, not_found, masked, bad_setting, not_loaded, no_such_job, no_room, too_large, FirstCause}
 use Rattle.um_model.specs.Names.{is_template}
 use Rattle.um_model.specs.Tree.{Tree, put_file, put_link, remove_at, without_run}
+use Rattle.um_model.specs.Profiles.{ReadTree, later, current, read_by, lasting_tree}
 use Rattle.um_model.specs.Settings.{ServiceSettings, default_settings}
 use Rattle.um_model.specs.Resolution.{UnitFile, Resolution, AtMask, Nowhere, files_at, resolution_of}
 use Rattle.um_model.specs.Units.{LoadedUnit, Loading, Found, Masked, NotFound, BadSetting, load, unit_named, Warning}
@@ -34,6 +35,7 @@ use Rattle.um_model.specs.declared.jobs.JobKind.TheVariants as job
 use Rattle.um_model.specs.declared.jobs.JobState.{JobState}
 use Rattle.um_model.specs.declared.jobs.JobState.TheVariants.{Waiting, Running}
 use Rattle.um_model.specs.declared.jobs.UnitJobs.{UnitJobs}
+use Rattle.um_model.specs.declared.profile.Profile.{Profile}
 use Rattle.um_model.specs.declared.service.ActiveState.{ActiveState}
 use Rattle.um_model.specs.declared.service.End.{End}
 use Rattle.um_model.specs.declared.refusals.Limit.TheVariants.{Units}
@@ -57,16 +59,28 @@ boot_limit = 64
 -- the state of the manager
 pub record State : Type 0 where
   pub tree : Tree  -- the tree in hand
-  pub loaded : Tree  -- the tree as it was last loaded
+  pub loaded : ReadTree  -- the tree as it was last loaded, and the profile by which it is read
   pub boot : List ℕ  -- the boot's id
   pub clock : ℕ  -- the moment of the last step, in microseconds
   pub next : ℕ  -- the next process number
   pub units : ByUnit UnitState  -- those that differ from a dead unit
   pub pending : ByUnit UnitJobs  -- those of which a job is pending
 
+-- the empty state of this profile
+abbrev pub empty_of : Profile → State
+empty_of profile = record {
+  tree = map.empty;
+  loaded = read_by profile map.empty;
+  boot = [];
+  clock = 0;
+  next = 1;
+  units = map.empty;
+  pending = map.empty;
+}
+
 -- the state of a new store
 abbrev pub empty_state : State
-empty_state = record { tree = map.empty; loaded = map.empty; boot = []; clock = 0; next = 1; units = map.empty; pending = map.empty }
+empty_state = empty_of current
 
 -- what is asked of the manager, and may be refused
 pub data Command : Type 0 where
@@ -103,8 +117,9 @@ pub data Event : Type 0 where
   Commanded : Command → Event
   Happened : Happening → Event
 
--- an event with its moment, in microseconds
+-- an event with its moment, in microseconds, and the profile by which the tree in hand is read for it
 pub record Input : Type 0 where
+  pub profile : Profile
   pub moment : ℕ
   pub event : Event
 
@@ -165,7 +180,7 @@ shown_of asked (BadSetting unit reason) state = shown_without_settings unit load
 
 -- the unit that counts for the name that was asked for, by the loaded tree
 abbrev pub unit_asked : State → List ℕ → List ℕ
-unit_asked s asked = unit_named s.loaded asked
+unit_asked s asked = unit_named s.loaded.entries asked
 
 abbrev pub state_asked : State → List ℕ → UnitState
 state_asked s asked = state_of_unit s.units (unit_asked s asked)
@@ -200,14 +215,14 @@ pub data IsReplyTo (s : State) : Query → Reply → Type 0 where
   tells_activity : {asked : List ℕ} → IsReplyTo s (IsActive asked) (Activity (active_state_of (state_asked s asked).sub))
   tells_failure : {asked : List ℕ} → IsReplyTo s (IsFailed asked) (Activity (active_state_of (state_asked s asked).sub))
   tells_files : {asked : List ℕ} → IsReplyTo s (Cat asked) (files_told s.tree asked (resolution_of s.tree asked))
-  tells_enabling : {asked : List ℕ} {answer : Enabling} → IsEnabledAs s.tree asked answer → IsReplyTo s (IsEnabled asked) (EnabledAs answer)
+  tells_enabling : {asked : List ℕ} {answer : Enabling} → IsEnabledAs (read_by current s.tree) asked answer → IsReplyTo s (IsEnabled asked) (EnabledAs answer)
   lists_units : {names : List (List ℕ)} → AreByName (IsKnown s.loaded (IsHeld s)) names → IsReplyTo s ListUnits (Listed (each (unit_listed s) names))
   lists_jobs : IsReplyTo s ListJobs (Jobs (jobs_shown s.pending))
 
 -- ---- one unit and what happens to it
 
 -- the settings that a unit acts by: its own where it can be loaded, else those of a simple service where nothing is set
-abbrev pub settings_in : Tree → List ℕ → ServiceSettings
+abbrev pub settings_in : ReadTree → List ℕ → ServiceSettings
 settings_in tree unit = option_map_or (λ l. l.settings.service) (loadable_in tree unit) (default_settings Simple)
 
 abbrev pub is_waiting : Option JobState → Bool
@@ -234,7 +249,7 @@ changed s unit c = record s {
 -- ---- a start that fails
 
 -- the order of units by a tree
-abbrev pub IsBefore : Tree → List ℕ → List ℕ → Type 0
+abbrev pub IsBefore : ReadTree → List ℕ → List ℕ → Type 0
 IsBefore tree = Precedes tree (λ unit. ⊤)
 
 -- the start of a unit waits for that of another, which it requires or is bound to
@@ -355,8 +370,8 @@ pub data IsNotThere (s : State) : UnitVerb → List ℕ → Refused → Type 0 w
   to_try_restart : {asked : List ℕ} {r : Refused} → IsMissing s asked r → IsNotThere s verbs.TryRestart asked r
 
 -- more units would be known than may be, by the tree or by it without its entries under `run/`
-pub record IsCrowded (tree : Tree) (Extra : List ℕ → Type 0) (r : Refused) : Type 0 where
-  pub many : KnowsTooMany tree Extra ⊎ KnowsTooMany (without_run tree) Extra
+pub record IsCrowded (tree : ReadTree) (Extra : List ℕ → Type 0) (r : Refused) : Type 0 where
+  pub many : KnowsTooMany tree Extra ⊎ KnowsTooMany (lasting_tree tree) Extra
   pub refusal : r ≡ too_large Units
 
 -- more units would be known than may be: with the one that is named, or with the jobs of the plan for what is demanded
@@ -383,46 +398,50 @@ pub record HasNoneWaiting (s : State) (asked : List ℕ) (r : Refused) : Type 0 
 
 -- Why a tree isn't loaded: too many units would be known, or the pending jobs would wait for one another in a circle.
 
-abbrev pub CausesOfLoad : State → Tree → Refused → Type 0
+abbrev pub CausesOfLoad : State → ReadTree → Refused → Type 0
 CausesOfLoad s tree = FirstCause (IsCrowded tree (IsHeld s)) (NamesCycle (IsBefore tree) s.pending)
 
--- for such a cause the tree isn't loaded that comes of enabling or its kin
-pub record LoadsNone (s : State) (verb : InstallVerb) (unit : List ℕ) (Cause : Tree → Refused → Type 0) (r : Refused) : Type 0 where
-  pub tree : Tree
-  pub installs : Installs s.tree verb unit tree
-  pub cause : Cause tree r
+-- the tree as it is read once it is loaded for an input of this profile: by that, or by the loaded profile where that is later
+abbrev pub as_loaded : Profile → State → Tree → ReadTree
+as_loaded profile s tree = read_by (later s.loaded.profile profile) tree
 
--- a command is refused for the first of its causes that holds
-abbrev pub Refuses : State → Command → Refused → Type 0
-Refuses s (PutFile path text) r = put_file s.tree path text ≡ Err r
-Refuses s (PutLink path target) r = put_link s.tree path target ≡ Err r
-Refuses s (Remove path) r = remove_at s.tree path ≡ Err r
-Refuses s DaemonReload r = CausesOfLoad s s.tree r
-Refuses s (ForUnit verb asked mode) r = FirstCause (PlansTooMany s verb asked) (FirstCause (IsNotThere s verb asked) (HasNoPlan s verb asked mode)) r
-Refuses s (Cancel asked) r = FirstCause (IsMissing s asked) (HasNoneWaiting s asked) r
-Refuses s (ResetFailed (Some asked)) r = IsMissing s asked r
-Refuses s (ResetFailed None) r = ⊥
-Refuses s (Install verb unit) r =
-    FirstCause (RefusesLinks s.tree verb unit)
-    (FirstCause (LoadsNone s verb unit (λ tree. IsCrowded tree (IsHeld s)))
-    (FirstCause (RefusesUnits s.tree verb unit) (LoadsNone s verb unit (λ tree. NamesCycle (IsBefore tree) s.pending)))) r
+-- for such a cause the tree isn't loaded that comes of enabling or its kin
+pub record LoadsNone (profile : Profile) (s : State) (verb : InstallVerb) (unit : List ℕ) (Cause : ReadTree → Refused → Type 0) (r : Refused) : Type 0 where
+  pub tree : Tree
+  pub installs : Installs (read_by profile s.tree) verb unit tree
+  pub cause : Cause (as_loaded profile s tree) r
+
+-- a command in an input of this profile is refused for the first of its causes that holds
+abbrev pub Refuses : Profile → State → Command → Refused → Type 0
+Refuses profile s (PutFile path text) r = put_file s.tree path text ≡ Err r
+Refuses profile s (PutLink path target) r = put_link s.tree path target ≡ Err r
+Refuses profile s (Remove path) r = remove_at s.tree path ≡ Err r
+Refuses profile s DaemonReload r = CausesOfLoad s (as_loaded profile s s.tree) r
+Refuses profile s (ForUnit verb asked mode) r = FirstCause (PlansTooMany s verb asked) (FirstCause (IsNotThere s verb asked) (HasNoPlan s verb asked mode)) r
+Refuses profile s (Cancel asked) r = FirstCause (IsMissing s asked) (HasNoneWaiting s asked) r
+Refuses profile s (ResetFailed (Some asked)) r = IsMissing s asked r
+Refuses profile s (ResetFailed None) r = ⊥
+Refuses profile s (Install verb unit) r =
+    FirstCause (RefusesLinks (read_by profile s.tree) verb unit)
+    (FirstCause (LoadsNone profile s verb unit (λ tree. IsCrowded tree (IsHeld s)))
+    (FirstCause (RefusesUnits (read_by profile s.tree) verb unit) (LoadsNone profile s verb unit (λ tree. NamesCycle (IsBefore tree) s.pending)))) r
 
 -- the state with these pending jobs of the unit
 abbrev pub with_plan : State → List ℕ → UnitJobs → State
 with_plan s unit jobs = record s { pending = with_jobs s.pending unit jobs }
 
--- what a command that isn't refused changes of the state, before any job begins
-pub data Changes (s : State) : Command → State → Type 0 where
-  puts : {path text : List ℕ} {tree : Tree} → put_file s.tree path text ≡ Ok tree → Changes s (PutFile path text) (record s { tree = tree })
-  links : {path target : List ℕ} {tree : Tree} → put_link s.tree path target ≡ Ok tree → Changes s (PutLink path target) (record s { tree = tree })
-  removes : {path : List ℕ} {tree : Tree} → remove_at s.tree path ≡ Ok tree → Changes s (Remove path) (record s { tree = tree })
-  reloads : Changes s DaemonReload (record s { loaded = s.tree })
+-- what a command of an input of this profile, where it isn't refused, changes of the state, before any job begins
+pub data Changes (profile : Profile) (s : State) : Command → State → Type 0 where
+  puts : {path text : List ℕ} {tree : Tree} → put_file s.tree path text ≡ Ok tree → Changes profile s (PutFile path text) (record s { tree = tree })
+  links : {path target : List ℕ} {tree : Tree} → put_link s.tree path target ≡ Ok tree → Changes profile s (PutLink path target) (record s { tree = tree })
+  removes : {path : List ℕ} {tree : Tree} → remove_at s.tree path ≡ Ok tree → Changes profile s (Remove path) (record s { tree = tree })
+  reloads : Changes profile s DaemonReload (record s { loaded = as_loaded profile s s.tree })
   plans : {verb : UnitVerb} {asked : List ℕ} {mode : JobMode} {demand : Demand} {after : ByUnit UnitJobs} → demand_of verb (active_asked s asked) ≡ Some demand
-      → IsPlan (scene_at s (unit_asked s asked)) (demand, unit_asked s asked) after → Changes s (ForUnit verb asked mode) (record s { pending = after })
-  demands_nothing : {verb : UnitVerb} {asked : List ℕ} {mode : JobMode} → demand_of verb (active_asked s asked) ≡ None → Changes s (ForUnit verb asked mode) s
-  cancels : {asked : List ℕ} → Changes s (Cancel asked) (with_plan s (unit_asked s asked) (cancelled (jobs_asked s asked)))
-  installs : {verb : InstallVerb} {unit : List ℕ} {tree : Tree} → Installs s.tree verb unit tree
-      → Changes s (Install verb unit) (record s { tree = tree; loaded = tree })
+      → IsPlan (scene_at s (unit_asked s asked)) (demand, unit_asked s asked) after → Changes profile s (ForUnit verb asked mode) (record s { pending = after })
+  demands_nothing : {verb : UnitVerb} {asked : List ℕ} {mode : JobMode} → demand_of verb (active_asked s asked) ≡ None → Changes profile s (ForUnit verb asked mode) s
+  cancels : {asked : List ℕ} → Changes profile s (Cancel asked) (with_plan s (unit_asked s asked) (cancelled (jobs_asked s asked)))
+  installs : {verb : InstallVerb} {unit : List ℕ} {tree : Tree} → Installs (read_by profile s.tree) verb unit tree
+      → Changes profile s (Install verb unit) (record s { tree = tree; loaded = as_loaded profile s tree })
 
 -- the units of which a failure is forgotten: the one that is asked for, or all of which it is held how they stand, by name
 abbrev pub units_reset : State → Option (List ℕ) → List (List ℕ)
@@ -436,10 +455,10 @@ pub data AreReset (t : ℕ) : List (List ℕ) → State → List Action → Stat
       → AreReset t units u more v → AreReset t (unit ∷ units) s (first ++ more) v
 
 -- what a command that isn't refused does at the moment t, before any job begins, and what is asked of processes by that
-pub data Does (t : ℕ) (s : State) : Command → List Action → State → Type 0 where
-  changes : {command : Command} {u : State} → Changes s command u → Does t s command [] u
+pub data Does (profile : Profile) (t : ℕ) (s : State) : Command → List Action → State → Type 0 where
+  changes : {command : Command} {u : State} → Changes profile s command u → Does profile t s command [] u
   resets : {asked : Option (List ℕ)} {actions : List Action} {u : State} → AreReset t (units_reset s asked) s actions u
-      → Does t s (ResetFailed asked) actions u
+      → Does profile t s (ResetFailed asked) actions u
 
 -- ---- what follows from what happens
 
@@ -495,7 +514,7 @@ pub record AwaitsReport (s : State) (number : ℕ) (unit : List ℕ) : Type 0 wh
 
 -- the state after a boot with this id: nothing is held of any unit, and what stood under `run/` is gone; process numbers go on
 abbrev pub booted : List ℕ → State → State
-booted boot s = record s { tree = without_run s.tree; loaded = without_run s.loaded; boot = boot; units = map.empty; pending = map.empty }
+booted boot s = record s { tree = without_run s.tree; loaded = lasting_tree s.loaded; boot = boot; units = map.empty; pending = map.empty }
 
 -- what happens at the moment t has its effect, and jobs begin where it made them ready
 pub data Follows (t : ℕ) (s : State) : Happening → List Action → State → Type 0 where
@@ -517,12 +536,12 @@ pub data HasNoEffect (t : ℕ) (s : State) : Happening → Type 0 where
 abbrev pub moment_of : State → ℕ → ℕ
 moment_of s moment = max s.clock moment
 
--- an event has its effect at the moment t: a command that isn't refused changes the state and jobs begin; what happens has what follows
-pub data TakesEffect (t : ℕ) (s : State) : Event → List Action → State → Type 0 where
-  obeys : {command : Command} {first more : List Action} {u v : State} → ((r : Refused) → ¬ Refuses s command r) → Does t s command first u
-      → Settles t u more v → TakesEffect t s (Commanded command) (first ++ more) v
+-- an event of an input of this profile has its effect at the moment t: a command that isn't refused changes the state and jobs begin; what happens has what follows
+pub data TakesEffect (profile : Profile) (t : ℕ) (s : State) : Event → List Action → State → Type 0 where
+  obeys : {command : Command} {first more : List Action} {u v : State} → ((r : Refused) → ¬ Refuses profile s command r) → Does profile t s command first u
+      → Settles t u more v → TakesEffect profile t s (Commanded command) (first ++ more) v
   meets : {happening : Happening} {actions : List Action} {v : State} → ¬ HasNoEffect t s happening → Follows t s happening actions v
-      → TakesEffect t s (Happened happening) actions v
+      → TakesEffect profile t s (Happened happening) actions v
 
 -- the reply to an event that has its effect: enabling and its kin tell the paths that they made and removed
 abbrev pub reply_after : Event → (before after : Tree) → Reply
@@ -533,7 +552,7 @@ reply_after other before after = Done
 pub record IsTooHeavy (size : ℕ) (s : State) : Type 0 where
   pub units : ℕ
   pub count : CountsFor s.loaded (IsHeld s) units
-  pub heavy : size < weight_of s.tree s.loaded units
+  pub heavy : size < weight_of s.tree s.loaded.entries units
 
 -- a command has no room: what comes of it is too heavy
 abbrev pub HasNoRoom : ℕ → Event → State → Type 0
@@ -543,14 +562,17 @@ HasNoRoom size (Happened happening) u = ⊥
 -- one step over a store of so many bytes. A refused command, and what happens without effect, leave the state, clock included; an event
 -- that has its effect sets the clock
 pub data Step (size : ℕ) (s : State) : Input → Reply → List Action → State → Type 0 where
-  refused : {moment : ℕ} {command : Command} {r : Refused} → Refuses s command r
-      → Step size s (record { moment = moment; event = Commanded command }) (Refusal r) [] s
-  crowded_out : {moment : ℕ} {event : Event} {actions : List Action} {u : State} → TakesEffect (moment_of s moment) s event actions u → HasNoRoom size event u
-      → Step size s (record { moment = moment; event = event }) (Refusal no_room) [] s
-  idle : {moment : ℕ} {happening : Happening} → HasNoEffect (moment_of s moment) s happening
-      → Step size s (record { moment = moment; event = Happened happening }) Done [] s
-  taken : {moment : ℕ} {event : Event} {actions : List Action} {u : State} → TakesEffect (moment_of s moment) s event actions u → ¬ HasNoRoom size event u
-      → Step size s (record { moment = moment; event = event }) (reply_after event s.tree u.tree) actions (record u { clock = moment_of s moment })
+  refused : {profile : Profile} {moment : ℕ} {command : Command} {r : Refused} → Refuses profile s command r
+      → Step size s (record { profile = profile; moment = moment; event = Commanded command }) (Refusal r) [] s
+  crowded_out : {profile : Profile} {moment : ℕ} {event : Event} {actions : List Action} {u : State}
+      → TakesEffect profile (moment_of s moment) s event actions u → HasNoRoom size event u
+      → Step size s (record { profile = profile; moment = moment; event = event }) (Refusal no_room) [] s
+  idle : {profile : Profile} {moment : ℕ} {happening : Happening} → HasNoEffect (moment_of s moment) s happening
+      → Step size s (record { profile = profile; moment = moment; event = Happened happening }) Done [] s
+  taken : {profile : Profile} {moment : ℕ} {event : Event} {actions : List Action} {u : State}
+      → TakesEffect profile (moment_of s moment) s event actions u → ¬ HasNoRoom size event u
+      → Step size s (record { profile = profile; moment = moment; event = event })
+        (reply_after event s.tree u.tree) actions (record u { clock = moment_of s moment })
 
 -- one step after another
 pub data Run (size : ℕ) : State → List Input → State → Type 0 where

@@ -13,7 +13,7 @@ use Rattle.um_model.specs.Weight.{weight_of}
 -- both trees are empty, and nothing is held of any unit: so it is with the state of a new store
 pub record IsBlank (s : State) : Type 0 where
   pub tree : s.tree ≡ map.empty
-  pub loaded : s.loaded ≡ map.empty
+  pub loaded : s.loaded.entries ≡ map.empty
   pub units : s.units ≡ map.empty
   pub pending : s.pending ≡ map.empty
 
@@ -35,9 +35,9 @@ pub record IsServable (size : ℕ) (s : State) : Type 0 where
 pub record Weighs (s : State) (weight : ℕ) : Type 0 where
   pub units : ℕ
   pub count : CountsFor s.loaded (IsHeld s) units
-  pub is : weight ≡ weight_of s.tree s.loaded units
+  pub is : weight ≡ weight_of s.tree s.loaded.entries units
 
 -- a state weighs no more than another
 abbrev pub WeighsNoMore : State → State → Type 0
 WeighsNoMore t s = (m n : ℕ) → CountsFor t.loaded (IsHeld t) m → CountsFor s.loaded (IsHeld s) n
-    → weight_of t.tree t.loaded m ≤ weight_of s.tree s.loaded n
+    → weight_of t.tree t.loaded.entries m ≤ weight_of s.tree s.loaded.entries n

@@ -1,9 +1,9 @@
 -- Canonical bytes of what the state holds of a unit: choices, ends, moments, process numbers, names, start windows, and the unit.
 -- No manual page has this: it is the project's own format (docs/FORMATS.md, "Canonical bytes").
 -- The bytes of states and inputs, and the code that reads and writes them stand on this file.
-use Rattle.std.specs.Prelude.{◌≡◌, ℕ, ◌-◌, ◌<◌, ◌^◌, ⊤, Bool, true, List, [], ◌∷◌, ◌++◌, Option, IfSome}
+use Rattle.std.specs.Prelude.{◌≡◌, ℕ, ◌-◌, ◌<◌, ◌^◌, ⊤, Bool, true, ◌==◌, List, [], ◌∷◌, ◌++◌, Option, Some, None, IfSome, if◌then◌else◌}
 use Rattle.byteorder.specs.Endian.{big_bytes}
-use Rattle.um_model.specs.Bytes.{Spelling, Decoder, byte_at, number_at, between_at, FitBetween, pair_at, as_at, only_at, choice_at, table_at, tagged, truth_tag, truths}
+use Rattle.um_model.specs.Bytes.{Spelling, Decoder, byte_at, number_at, between_at, FitBetween, pair_at, as_at, only_at, choice_at, tag_at, table_at, tagged, truth_tag, truths}
 use Rattle.um_model.specs.Bytes.{arm_in, just_at}
 use Rattle.um_model.specs.Bytes.{option_spelling, option_at, FitText, text_at}
 use Rattle.um_model.specs.Names.{is_unit_name}
@@ -13,6 +13,8 @@ use Rattle.um_model.specs.declared.jobs.JobKind.TheVariants as kind
 use Rattle.um_model.specs.declared.jobs.JobState.{JobState}
 use Rattle.um_model.specs.declared.jobs.JobState.TheVariants.{Waiting, Running}
 use Rattle.um_model.specs.declared.limit.Counted.{Counted}
+use Rattle.um_model.specs.declared.profile.Profile.{Profile}
+use Rattle.um_model.specs.declared.profile.Profile.TheVariants.{One, Two}
 use Rattle.um_model.specs.declared.service.End.{End}
 use Rattle.um_model.specs.declared.service.End.TheVariants as end
 use Rattle.um_model.specs.declared.service.SubState.{SubState}
@@ -75,6 +77,19 @@ job_state_tag Running = 1
 -- how far jobs are, by their tags
 abbrev pub job_states : List JobState
 job_states = Waiting ∷ Running ∷ []
+
+-- the tag of a profile, which is the first byte of a state and of an input
+abbrev pub profile_tag : Profile → ℕ
+profile_tag One = 1
+profile_tag Two = 2
+
+-- the profile of a tag; no other tag has one
+abbrev pub profile_of : ℕ → Option Profile
+profile_of tag = if tag == 1 then Some One else (if tag == 2 then Some Two else None)
+
+-- a first byte that tells a profile
+abbrev pub profile_at : Decoder Profile
+profile_at = tag_at profile_of
 
 -- ---- an end: its tag, and the code or signal, which is any byte
 

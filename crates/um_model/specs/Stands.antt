@@ -1,4 +1,4 @@
--- What an image of a store stands for: the state that its newest body spells, and from there a step for each record of its generation.
+-- What an image of a store stands for: the state that its newest body spells, and from there a step for each record that counts beside it.
 -- No manual page has it: it is the project's own format (docs/FORMATS.md, "The store on its disk").
 -- The lives of a store and the keeper stand on this file.
 use Rattle.std.specs.Prelude.{◌≡◌, ℕ, ◌+◌, List, [], ◌∷◌, Option, Some}
@@ -8,7 +8,8 @@ use Rattle.um_model.specs.InputSpellings.{input_at}
 use Rattle.um_model.specs.Machine.{State, Input, Run}
 use Rattle.um_model.specs.Servable.{IsServable}
 use Rattle.um_model.specs.StateSpellings.{state_at}
-use Rattle.um_model.specs.Store.{superblock, body_limit, log_start, newest_of, records_of, IsFree}
+use Rattle.um_model.specs.Store.{superblock, body_limit, newest_of, top, all_records, IsNoneAbove}
+use Rattle.um_model.specs.declared.layout.Format.{Format}
 use Rattle.um_model.specs.declared.layout.Layout.{Layout}
 use Rattle.um_model.specs.declared.layout.Slot.{Slot}
 
@@ -24,21 +25,23 @@ pub record Contents : Type 0 where
   pub start : State
   pub inputs : List Input
 
--- the newest body spells the state, and each record of its generation an input
-abbrev pub contents_of : Layout → Image → Option Contents
-contents_of layout image =
-    newest_of layout image >>= λ n. nothing_left (state_at n.body) >>= λ s. inputs_of (records_of layout n.generation image) >>= λ inputs.
+-- the newest body spells the state, and each record that counts beside it an input
+abbrev pub contents_of : Format → Layout → Image → Option Contents
+contents_of format layout image =
+    newest_of layout image >>= λ n. nothing_left (state_at n.body) >>= λ s. inputs_of (all_records format layout n.generation image) >>= λ inputs.
     Some (record { slot = n.slot; generation = n.generation; start = s; inputs = inputs })
 
 -- The image of a store of this layout stands for the state: a run over the recorded inputs, from the snapshot on, ends there.
 pub record StandsFor (layout : Layout) (image : Image) (s : State) : Type 0 where
-  pub first : image 0 ≡ superblock layout
+  pub format : Format
+  pub first : image 0 ≡ superblock format layout
   pub contents : Contents
-  pub holds : contents_of layout image ≡ Some contents
+  pub holds : contents_of format layout image ≡ Some contents
   pub servable : IsServable (body_limit layout) contents.start
   pub run : Run (body_limit layout) contents.start contents.inputs s
 
--- An image that a store of the state leaves: no sector of its log is of a later generation, which the next snapshot would bring to count.
+-- An image that a store of the state leaves: no sector of its log is of a generation above those that count, which a later snapshot would bring to
+-- count.
 pub record IsStoreOf (layout : Layout) (image : Image) (s : State) : Type 0 where
   pub stands : StandsFor layout image s
-  pub none_later : IsFree layout (stands.contents.generation + 1) image (log_start layout (stands.contents.generation + 1))
+  pub none_later : IsNoneAbove layout image (top stands.format stands.contents.generation)

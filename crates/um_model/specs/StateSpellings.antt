@@ -8,7 +8,7 @@ use Rattle.std.specs.Cmp.Lexicographic.{slice_cmp}
 use Rattle.std.specs.FinMap as map
 use Rattle.std.specs.Option.{option_map_or}
 use Rattle.byteorder.specs.Endian.{big_bytes}
-use Rattle.um_model.specs.Bytes.{Spelling, Decoder, pair_at, as_at, only_at, marked_at, choice_at, arm_in, FitText, text_spelling, text_at, table_at, tagged, all_ascend}
+use Rattle.um_model.specs.Bytes.{Spelling, Decoder, pair_at, as_at, only_at, choice_at, arm_in, FitText, text_spelling, text_at, table_at, tagged, all_ascend}
 use Rattle.um_model.specs.Bytes.{FitList, list_spelling, list_at, FitMap, map_spelling, map_at}
 use Rattle.um_model.specs.Names.{is_unit_name}
 use Rattle.um_model.specs.Tree.{Tree, Entry, File, Link, IsTree, is_fit_entry, entry_limit}
@@ -16,11 +16,13 @@ use Rattle.um_model.specs.Service.{ByUnit, AreTidyUnits, holds_nothing}
 use Rattle.um_model.specs.Transitions.{live_numbers}
 use Rattle.um_model.specs.Jobs.{AreTidyJobs, JobShown, jobs_of_unit, jobs_shown, with_job}
 use Rattle.um_model.specs.Machine.{State, boot_limit}
-use Rattle.um_model.specs.Spellings.{kind_tag, moment_at, FitMoment, next_at, FitNext, job_state_tag, kinds, job_states}
+use Rattle.um_model.specs.Profiles.{read_by}
+use Rattle.um_model.specs.Spellings.{profile_tag, profile_at, kind_tag, moment_at, FitMoment, next_at, FitNext, job_state_tag, kinds, job_states}
 use Rattle.um_model.specs.Spellings.{unit_name_at, FitUnitName, unit_spelling, unit_at, FitUnit}
 use Rattle.um_model.specs.declared.jobs.JobKind.{JobKind}
 use Rattle.um_model.specs.declared.jobs.JobState.{JobState}
 use Rattle.um_model.specs.declared.jobs.UnitJobs.{UnitJobs}
+use Rattle.um_model.specs.declared.profile.Profile.{Profile}
 use Rattle.um_model.specs.declared.service.UnitState.{UnitState}
 use Rattle.um_model.specs.Weight.{text_of_entry}
 
@@ -127,26 +129,22 @@ pub record FitPending (pending : ByUnit UnitJobs) : Type 0 where
   pub jobs : FitList (λ j. FitUnitName j.unit) (jobs_shown pending)
   pub tidy : AreTidyJobs pending
 
--- ---- the state: its version, and its fields in order
+-- ---- the state: its loaded profile, and its other fields in order
 
--- the first byte of a state
-abbrev pub state_version : ℕ
-state_version = 1
-
--- its version, and each field after the one before
+-- the loaded profile as the first byte, and each field after the one before
 abbrev pub state_spelling : Spelling State
 state_spelling s =
-    state_version ∷ (tree_spelling s.tree ++ (tree_spelling s.loaded ++ (text_spelling s.boot ++ (big_bytes 8 s.clock ++ (big_bytes 8 s.next
-    ++ (units_spelling s.units ++ pending_spelling s.pending))))))
+    tagged profile_tag s.loaded.profile ++ (tree_spelling s.tree ++ (tree_spelling s.loaded.entries ++ (text_spelling s.boot ++ (big_bytes 8 s.clock
+    ++ (big_bytes 8 s.next ++ (units_spelling s.units ++ pending_spelling s.pending))))))
 
--- the fields alone
+-- the fields in their order
 abbrev pub StateFields : Type 0
-StateFields = Tree × (Tree × (List ℕ × (ℕ × (ℕ × (ByUnit UnitState × ByUnit UnitJobs)))))
+StateFields = Profile × (Tree × (Tree × (List ℕ × (ℕ × (ℕ × (ByUnit UnitState × ByUnit UnitJobs))))))
 
 -- the state of its fields
 abbrev pub state_of : StateFields → State
-state_of (tree, (loaded, (boot, (clock, (next, (units, pending)))))) =
-    record { tree = tree; loaded = loaded; boot = boot; clock = clock; next = next; units = units; pending = pending }
+state_of (profile, (tree, (loaded, (boot, (clock, (next, (units, pending))))))) =
+    record { tree = tree; loaded = read_by profile loaded; boot = boot; clock = clock; next = next; units = units; pending = pending }
 
 -- a boot's id has no more bytes than the limit
 abbrev pub is_boot : List ℕ → Bool
@@ -177,16 +175,16 @@ are_distinct (n ∷ more) = list_all (λ m. not (m == n)) more && are_distinct m
 abbrev pub is_sound : State → Bool
 is_sound s = have_begun s.clock s.units && list_all (λ n. nat_lt n s.next) (numbers_in s.units) && are_distinct (numbers_in s.units)
 
--- the version, and each field after the one before, where they fit together
+-- a profile, and each field after the one before, where they fit together
 abbrev pub state_at : Decoder State
 state_at =
-    marked_at state_version (only_at is_sound (as_at state_of (pair_at tree_at (pair_at tree_at (pair_at boot_at (pair_at moment_at (pair_at next_at
+    only_at is_sound (as_at state_of (pair_at profile_at (pair_at tree_at (pair_at tree_at (pair_at boot_at (pair_at moment_at (pair_at next_at
     (pair_at units_at pending_at))))))))
 
 -- a state that has bytes: what stands in its fields has some, and they fit together
 pub record FitState (s : State) : Type 0 where
   pub tree : FitTree s.tree
-  pub loaded : FitTree s.loaded
+  pub loaded : FitTree s.loaded.entries
   pub boot : FitBoot s.boot
   pub clock : FitMoment s.clock
   pub next : FitNext s.next

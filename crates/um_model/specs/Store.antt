@@ -5,6 +5,9 @@ use Rattle.std.specs.Prelude.{◌≡◌, ◌+◌, ◌-◌, ◌*◌, ◌/◌, ◌
 use Rattle.std.specs.Prelude.{Bool, true, ◌&&◌, bytes_eq, nat_lt, nat_le, if◌then◌else◌, Option, Some, None}
 use Rattle.byteorder.specs.Endian.{big_number, big_bytes}
 use Rattle.um_model.specs.Disk.{Sector, Image, Past, Images}
+use Rattle.um_model.specs.declared.layout.TheConstants.{CURRENT}
+use Rattle.um_model.specs.declared.layout.Format.{Format}
+use Rattle.um_model.specs.declared.layout.Format.TheVariants.{One}
 use Rattle.um_model.specs.declared.layout.Layout.{Layout}
 use Rattle.um_model.specs.declared.layout.Slot.{Slot}
 use Rattle.um_model.specs.declared.layout.Slot.TheVariants.{A, B}
@@ -19,29 +22,47 @@ sector_bytes = 512
 unfoldable pub filled : List ℕ → Sector
 filled front = front ++ replicate (sector_bytes - length front) 0
 
--- the first bytes of sector 0 of any store, and those of a store in this format
+-- the format in which stores are written
+abbrev pub current : Format
+current = CURRENT
+
+-- the first bytes of sector 0 of any store, and those of a store in a format
 abbrev pub store_name : List ℕ
 store_name = codes "UMDISK"
 
-abbrev pub store_format : List ℕ
-store_format = codes "UMDISK01"
+abbrev pub format_name : Format → List ℕ
+format_name One = codes "UMDISK01"
 
 -- sector 0 of a store: its format, and the numbers of sectors of a slot and of the log, in four bytes each
-unfoldable pub superblock : Layout → Sector
-superblock layout = filled (store_format ++ (big_bytes 4 layout.slot_sectors ++ big_bytes 4 layout.log_sectors))
+unfoldable pub superblock : Format → Layout → Sector
+superblock format layout = filled (format_name format ++ (big_bytes 4 layout.slot_sectors ++ big_bytes 4 layout.log_sectors))
 
 -- the first sector of a slot, which holds its header
 abbrev pub slot_start : Layout → Slot → ℕ
 slot_start layout A = 1
 slot_start layout B = layout.slot_sectors + 1
 
--- the first sector of a generation's log: of this layout the same for all
-abbrev pub log_start : Layout → ℕ → ℕ
-log_start layout generation = 2 * layout.slot_sectors + 1
+-- the first sector of the log
+abbrev pub first_log_sector : Layout → ℕ
+first_log_sector layout = 2 * layout.slot_sectors + 1
 
--- the first sector behind a generation's log
+-- so many sectors of the log are for the records of a generation
+abbrev pub area_sectors : Format → Layout → ℕ
+area_sectors One layout = layout.log_sectors
+
+-- the first of them, and the first behind them
+abbrev pub area_start : Format → Layout → ℕ → ℕ
+area_start One layout generation = first_log_sector layout
+
+abbrev pub area_end : Format → Layout → ℕ → ℕ
+area_end format layout generation = area_start format layout generation + area_sectors format layout
+
+-- the same in the format in which stores are written
+abbrev pub log_start : Layout → ℕ → ℕ
+log_start layout generation = area_start current layout generation
+
 abbrev pub log_end : Layout → ℕ → ℕ
-log_end layout generation = log_start layout generation + layout.log_sectors
+log_end layout generation = area_end current layout generation
 
 -- how many sectors the whole store has
 abbrev pub store_sectors : Layout → ℕ
@@ -143,9 +164,13 @@ pub data IsSlotRead (layout : Layout) (image : Image) : ℕ → Type 0 where
 
 -- ---- the log
 
--- the longest record of a generation, in bytes: of this layout the same for all
+-- the longest record, in bytes
+abbrev pub longest : Format → ℕ
+longest One = 131072
+
+-- that of a generation in the format in which stores are written
 abbrev pub record_limit : Layout → ℕ → ℕ
-record_limit layout generation = 131072
+record_limit layout generation = longest current
 
 -- the first bytes of a sector of the log
 abbrev pub record_format : List ℕ
@@ -172,22 +197,22 @@ log_sector generation number part size payload =
     ++ (big_bytes 4 part ++ (big_bytes 4 (part_count size) ++ (big_bytes 4 size ++ payload))))))
 
 -- a whole record stands there: all its sectors are just as they are written
-pub record IsRecord (layout : Layout) (generation : ℕ) (image : Image) (number at : ℕ) (bytes : List ℕ) : Type 0 where
+pub record IsRecord (format : Format) (layout : Layout) (generation : ℕ) (image : Image) (number at : ℕ) (bytes : List ℕ) : Type 0 where
   pub some : 0 < length bytes
-  pub short : length bytes ≤ record_limit layout generation
-  pub within : at + part_count (length bytes) ≤ log_end layout generation
+  pub short : length bytes ≤ longest format
+  pub within : at + part_count (length bytes) ≤ area_end format layout generation
   pub parts : (part : ℕ) → part < part_count (length bytes) → image (at + part) ≡ log_sector generation number part (length bytes) (part_of bytes part)
 
 -- the records from a place on, each directly behind the one before, up to the first that isn't whole
-pub data AreRecords (layout : Layout) (generation : ℕ) (image : Image) : ℕ → ℕ → List (List ℕ) → Type 0 where
-  stops : {number at : ℕ} → ((bytes : List ℕ) → IsRecord layout generation image number at bytes → ⊥) → AreRecords layout generation image number at []
-  goes_on : {number at : ℕ} {bytes : List ℕ} {records : List (List ℕ)} → IsRecord layout generation image number at bytes
-      → AreRecords layout generation image (suc number) (at + part_count (length bytes)) records
-      → AreRecords layout generation image number at (bytes ∷ records)
+pub data AreRecords (format : Format) (layout : Layout) (generation : ℕ) (image : Image) : ℕ → ℕ → List (List ℕ) → Type 0 where
+  stops : {number at : ℕ} → ((bytes : List ℕ) → IsRecord format layout generation image number at bytes → ⊥) → AreRecords format layout generation image number at []
+  goes_on : {number at : ℕ} {bytes : List ℕ} {records : List (List ℕ)} → IsRecord format layout generation image number at bytes
+      → AreRecords format layout generation image (suc number) (at + part_count (length bytes)) records
+      → AreRecords format layout generation image number at (bytes ∷ records)
 
 -- the records of a generation
-abbrev pub HasRecords : Layout → ℕ → Image → List (List ℕ) → Type 0
-HasRecords layout generation image records = AreRecords layout generation image 0 (log_start layout generation) records
+abbrev pub HasRecords : Format → Layout → ℕ → Image → List (List ℕ) → Type 0
+HasRecords format layout generation image records = AreRecords format layout generation image 0 (area_start format layout generation) records
 
 -- the bytes of so many parts from a sector on, joined
 abbrev pub payloads : ℕ → Image → ℕ → List ℕ
@@ -206,23 +231,23 @@ parts_stand generation image number at bytes (suc n) =
     && bytes_eq (image (at + n)) (log_sector generation number n (length bytes) (part_of bytes n))
 
 -- that record stands there whole
-abbrev pub is_record : Layout → ℕ → Image → ℕ → ℕ → List ℕ → Bool
-is_record layout generation image number at bytes =
-    nat_lt 0 (length bytes) && (nat_le (length bytes) (record_limit layout generation)
-    && (nat_le (at + part_count (length bytes)) (log_end layout generation)
+abbrev pub is_record : Format → Layout → ℕ → Image → ℕ → ℕ → List ℕ → Bool
+is_record format layout generation image number at bytes =
+    nat_lt 0 (length bytes) && (nat_le (length bytes) (longest format)
+    && (nat_le (at + part_count (length bytes)) (area_end format layout generation)
     && parts_stand generation image number at bytes (part_count (length bytes))))
 
 -- the records from a place on, so many at most
-abbrev pub records_from : ℕ → Layout → ℕ → Image → ℕ → ℕ → List (List ℕ)
-records_from zero layout generation image number at = []
-records_from (suc turns) layout generation image number at =
+abbrev pub records_from : ℕ → Format → Layout → ℕ → Image → ℕ → ℕ → List (List ℕ)
+records_from zero format layout generation image number at = []
+records_from (suc turns) format layout generation image number at =
     let bytes = bytes_from image at in
-    if is_record layout generation image number at bytes
-    then bytes ∷ records_from turns layout generation image (suc number) (at + part_count (length bytes)) else []
+    if is_record format layout generation image number at bytes
+    then bytes ∷ records_from turns format layout generation image (suc number) (at + part_count (length bytes)) else []
 
 -- The records of a generation that count in an image. Each has a sector of its own, so there are no more than the log has sectors.
-unfoldable pub records_of : Layout → ℕ → Image → List (List ℕ)
-records_of layout generation image = records_from layout.log_sectors layout generation image 0 (log_start layout generation)
+unfoldable pub records_of : Format → Layout → ℕ → Image → List (List ℕ)
+records_of format layout generation image = records_from layout.log_sectors format layout generation image 0 (area_start format layout generation)
 
 -- how many sectors records take
 abbrev pub sectors_of : List (List ℕ) → ℕ
@@ -238,6 +263,11 @@ placed at (bytes ∷ records) = (at, bytes) ∷ placed (at + part_count (length 
 pub record IsOf (generation : ℕ) (sector : Sector) : Type 0 where
   pub name : take 4 sector ≡ record_format
   pub generation_is : big_number 8 (drop 4 sector) ≡ generation
+
+-- no sector of the log is of a generation above this one
+abbrev pub IsNoneAbove : Layout → Image → ℕ → Type 0
+IsNoneAbove layout image generation =
+    (theirs j : ℕ) → first_log_sector layout ≤ j → j < store_sectors layout → IsOf theirs (image j) → theirs ≤ generation
 
 -- from a sector on, none of the log is of this generation or a later one
 abbrev pub IsFree : Layout → ℕ → Image → ℕ → Type 0
@@ -257,26 +287,41 @@ pub record IsPart (generation number part size : ℕ) (sector : Sector) : Type 0
   pub is : sector ≡ log_sector generation number part size payload
 
 -- A sector that the reading of the records from a place on looks at: up to and with the first that isn't the next part in its place.
-pub data IsLogRead (layout : Layout) (generation : ℕ) (image : Image) : ℕ → ℕ → ℕ → Type 0 where
-  begins : {number at : ℕ} → at < log_end layout generation → IsLogRead layout generation image number at at
-  part_behind : {number at : ℕ} (size part : ℕ) → size ≤ record_limit layout generation → suc part < part_count size
-      → at + part_count size ≤ log_end layout generation
-      → ((i : ℕ) → i ≤ part → IsPart generation number i size (image (at + i))) → IsLogRead layout generation image number at (at + suc part)
-  record_behind : {number at j : ℕ} {bytes : List ℕ} → IsRecord layout generation image number at bytes
-      → IsLogRead layout generation image (suc number) (at + part_count (length bytes)) j → IsLogRead layout generation image number at j
+pub data IsLogRead (format : Format) (layout : Layout) (generation : ℕ) (image : Image) : ℕ → ℕ → ℕ → Type 0 where
+  begins : {number at : ℕ} → at < area_end format layout generation → IsLogRead format layout generation image number at at
+  part_behind : {number at : ℕ} (size part : ℕ) → size ≤ longest format → suc part < part_count size
+      → at + part_count size ≤ area_end format layout generation
+      → ((i : ℕ) → i ≤ part → IsPart generation number i size (image (at + i))) → IsLogRead format layout generation image number at (at + suc part)
+  record_behind : {number at j : ℕ} {bytes : List ℕ} → IsRecord format layout generation image number at bytes
+      → IsLogRead format layout generation image (suc number) (at + part_count (length bytes)) j → IsLogRead format layout generation image number at j
 
 -- ---- the whole store
 
--- What an image of a store holds: the newest header with its body, the records of its generation, and no later generation in the log.
-pub record IsStore (layout : Layout) (image : Image) (slot : Slot) (generation : ℕ) (body : List ℕ) (records : List (List ℕ)) : Type 0 where
-  pub first : image 0 ≡ superblock layout
+-- the records of a generation count beside the newest snapshot: of format 1 those of its own generation
+abbrev pub Counts : Format → ℕ → ℕ → Type 0
+Counts One newest generation = generation ≡ newest
+
+-- the greatest generation whose records count beside the newest snapshot
+abbrev pub top : Format → ℕ → ℕ
+top One newest = newest
+
+-- all records that count beside the newest snapshot, in their order
+abbrev pub all_records : Format → Layout → ℕ → Image → List (List ℕ)
+all_records One layout newest image = records_of One layout newest image
+
+-- What an image of a store holds: the newest header with its body, the records that count beside it, and none later in the log.
+pub record IsStore (format : Format) (layout : Layout) (image : Image) (slot : Slot) (generation : ℕ) (body : List ℕ) (records : List (List ℕ))
+    : Type 0 where
+  pub first : image 0 ≡ superblock format layout
   pub newest : IsNewest layout image slot generation body
-  pub records_are : HasRecords layout generation image records
-  pub none_later : IsFree layout (generation + 1) image (log_start layout (generation + 1))
+  pub records_are : records ≡ all_records format layout generation image
+  pub none_later : IsNoneAbove layout image (top format generation)
 
 -- Whichever image a crash leaves, it is of that store, and the log goes on from there: a sector that isn't read may have several candidates.
--- The newest snapshot has one generation, and the log another, which is the same as long as no snapshot is under way.
+-- The newest snapshot has one generation, and the log another, whose records count beside it.
 pub record GoesOn (layout : Layout) (past : Past) (slot : Slot) (newest : ℕ) (body : List ℕ) (records : List (List ℕ))
     (generation number next : ℕ) : Type 0 where
-  pub store : Images past (λ image. IsStore layout image slot newest body records)
-  pub end : Images past (λ image. IsLogEnd layout generation image records number next)
+  pub counts : Counts current newest generation
+  pub store : Images past (λ image. IsStore current layout image slot newest body records)
+  pub above : Images past (λ image. IsNoneAbove layout image generation)
+  pub end : Images past (λ image. IsLogEnd layout generation image (records_of current layout generation image) number next)

@@ -12,6 +12,7 @@ use Rattle.um_model.specs.Names.{suffix_of, is_unit_name}
 use Rattle.um_model.specs.Text.{is_empty}
 use Rattle.um_model.specs.Syntax.{Item, Section, Assignment, Warned, Placed, line_number, reading_of}
 use Rattle.um_model.specs.Tree.{Tree}
+use Rattle.um_model.specs.Profiles.{ReadTree}
 use Rattle.um_model.specs.Resolution.{is_of_same_type, UnitFile, Resolution, AtFile, AtNoFile, AtMask, Nowhere, files_at, resolution_of}
 use Rattle.um_model.specs.Keys.{is_foreign, is_known_section, is_refused_key, kind_of_key}
 use Rattle.um_model.specs.Readings.{text_reading, commands_reading, environment_reading, names_reading}
@@ -395,9 +396,9 @@ loading_at tree (AtNoFile unit) =
 loading_at tree (AtMask unit) = Masked unit
 loading_at tree Nowhere = NotFound
 
--- the unit of that name in the tree: a function of the tree and the name
-unfoldable pub load : Tree → List ℕ → Loading
-load tree unit = loading_at tree (resolution_of tree unit)
+-- the unit of that name in the tree as it is read: a function of the tree, the profile and the name
+unfoldable pub load : ReadTree → List ℕ → Loading
+load tree unit = loading_at tree.entries (resolution_of tree.entries unit)
 
 -- the name that counts for the one that was asked for, by where that leads: the last one, or where it leads nowhere the name itself
 abbrev pub named_at : List ℕ → Resolution → List ℕ
@@ -406,7 +407,7 @@ named_at asked (AtNoFile unit) = unit
 named_at asked (AtMask unit) = unit
 named_at asked Nowhere = asked
 
--- the same by the tree: what the files say doesn't count
+-- the same by the tree: what the files say doesn't count, nor by which profile they are read
 abbrev pub unit_named : Tree → List ℕ → List ℕ
 unit_named tree asked = named_at asked (resolution_of tree asked)
 

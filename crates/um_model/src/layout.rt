@@ -12,8 +12,15 @@ const LOG_LEAST: u32 = 512;
 /// A slot and the log have at most so many sectors each.
 const SECTORS_MOST: u32 = 1 << 20;
 
-/// The longest record, in bytes.
-const RECORD_LIMIT: usize = 131_072;
+/// What a store is like on its disk, as its sector 0 tells it beside the layout.
+#[derive(Clone, Copy, Debug, PartialEq, Eq)]
+pub enum Format {
+    /// One log, for all generations. The records of the newest snapshot's generation count.
+    One,
+}
+
+/// The format in which stores are written.
+pub const CURRENT: Format = Format::One;
 
 /// One of the two places of a snapshot.
 #[derive(Clone, Copy, Debug, PartialEq, Eq)]
@@ -49,8 +56,21 @@ impl Slot {
     }
 }
 
+impl Format {
+    ghost use Rattle.um_model.specs.Store.{longest};
+
+    /// The longest record, in bytes.
+    pub fn longest(self) -> usize
+        ensures { result ≡ longest self }
+    {
+        match self {
+            Format::One => 131_072,
+        }
+    }
+}
+
 impl Layout {
-    ghost use Rattle.um_model.specs.Store.{slot_start, body_limit, log_start, log_end, record_limit, store_sectors};
+    ghost use Rattle.um_model.specs.Store.{slot_start, body_limit, first_log_sector, area_start, area_end, log_start, log_end, record_limit, store_sectors};
 
     /// The layout of a store with slots and a log of so many sectors; None outside the limits.
     pub fn new(slot_sectors: u32, log_sectors: u32) -> Option<Layout>
@@ -86,25 +106,50 @@ impl Layout {
         (self.slot_sectors as usize - 1) * SECTOR_BYTES
     }
 
-    /// The first sector of a generation's log: of this layout the same for all.
-    pub fn log_start(self, _generation: u64) -> usize
-        ensures { result ≡ log_start self _generation }
+    /// The first sector of the log.
+    pub fn first_log_sector(self) -> usize
+        ensures { result ≡ first_log_sector self }
     {
         2 * self.slot_sectors as usize + 1
     }
 
-    /// The first sector behind a generation's log.
+    /// The first sector of a generation's records: of format 1 that of the log.
+    pub fn area_start(self, format: Format, _generation: u64) -> usize
+        ensures { result ≡ area_start format self _generation }
+    {
+        match format {
+            Format::One => self.first_log_sector(),
+        }
+    }
+
+    /// The first sector behind the place of a generation's records.
+    pub fn area_end(self, format: Format, generation: u64) -> usize
+        ensures { result ≡ area_end format self generation }
+    {
+        match format {
+            Format::One => self.area_start(format, generation) + self.log_sectors as usize,
+        }
+    }
+
+    /// The first sector of a generation's records in the format in which stores are written.
+    pub fn log_start(self, generation: u64) -> usize
+        ensures { result ≡ log_start self generation }
+    {
+        self.area_start(CURRENT, generation)
+    }
+
+    /// The first sector behind them.
     pub fn log_end(self, generation: u64) -> usize
         ensures { result ≡ log_end self generation }
     {
-        self.log_start(generation) + self.log_sectors as usize
+        self.area_end(CURRENT, generation)
     }
 
-    /// The longest record of a generation, in bytes: of this layout the same for all.
+    /// The longest record of a generation in that format, in bytes.
     pub fn record_limit(self, _generation: u64) -> usize
         ensures { result ≡ record_limit self _generation }
     {
-        RECORD_LIMIT
+        CURRENT.longest()
     }
 
     /// How many sectors the whole store has.

@@ -4,9 +4,10 @@ use std::process::Abort;
 use um_asserts::{is_refused_at, same, unit};
 use um_graph::Graph;
 use um_jobs::Jobs;
-use um_model::{DependencyKind, JobKind, JobState, UnitJobs};
+use um_model::{DependencyKind, JobKind, JobState, Profile, UnitJobs};
 use um_name::UnitName;
 use um_tree::Tree;
+use um_unit::Reading;
 
 /// b comes after a and requires it.
 const FILES: &[(&str, &str)] = &[
@@ -37,7 +38,11 @@ fn tree(rt: &(impl AllocGlobal + Abort)) -> Tree {
 
 /// The graph of the tree and of these units besides.
 fn graph_of(rt: &(impl AllocGlobal + Abort), tree: &Tree, extra: &[UnitName]) -> Box<Graph> {
-    let graph = Graph::of(rt.alloc(), tree, extra).expect(rt, "no graph");
+    let reading = Reading {
+        tree,
+        profile: Profile::One,
+    };
+    let graph = Graph::of(rt.alloc(), reading, extra).expect(rt, "no graph");
     Box::new(rt.alloc(), graph).expect(rt, "no memory")
 }
 

@@ -34,6 +34,8 @@ mod one_service;
 #[cfg(test)]
 mod plans;
 #[cfg(test)]
+mod profiles;
+#[cfg(test)]
 mod proto;
 #[cfg(test)]
 mod refusals;

@@ -6,6 +6,7 @@ use crate::texts::{DONE, RELOAD, START_B, TOO_MANY_UNITS};
 use std::process::Abort;
 use um_asserts::{is_refused_at, same, same_at, text, unit};
 use um_engine::Engine;
+use um_model::Profile;
 use um_state::{Command, Input, State};
 
 /// The size of a store, in bytes; `LARGE_SIZE` has room for as many units as may be known.
@@ -53,7 +54,7 @@ fn with_wanted(rt: &(impl AllocGlobal + Abort), count: usize) -> Box<State> {
     let names = names(rt, count);
     let unit = format!(in rt.alloc(); "[Service]\nExecStart=/bin/sleep 9\n[Unit]\nWants={names}");
     let mut state = with_file(rt, unit.expect(rt, "no memory").as_str());
-    state.as_mut().reload().expect(rt, "no memory");
+    state.as_mut().reload(Profile::One).expect(rt, "no memory");
     state
 }
 
@@ -62,7 +63,7 @@ fn with_hidden(rt: &(impl AllocGlobal + Abort), count: usize) -> Box<State> {
     let mut state = with_wanted(rt, count);
     let link: Result<_, _> = state.as_mut().put_link("run/a.service", "/dev/null");
     link.expect(rt, "a link is refused");
-    state.as_mut().reload().expect(rt, "no memory");
+    state.as_mut().reload(Profile::One).expect(rt, "no memory");
     state
 }
 
@@ -80,7 +81,7 @@ fn with_starts(rt: &(impl AllocGlobal + Abort), text: &str) -> Box<State> {
     let mut state = with_file(rt, text);
     let put: Result<_, _> = state.as_mut().put_file("lib/b.service", AFTER_A);
     put.expect(rt, "a file is refused");
-    state.as_mut().reload().expect(rt, "no memory");
+    state.as_mut().reload(Profile::One).expect(rt, "no memory");
     wait_to_start(rt, state.as_mut(), "a.service");
     wait_to_start(rt, state.as_mut(), "b.service");
     state
@@ -147,7 +148,7 @@ fn an_engine_shows_the_state_that_it_was_made_from(rt: HostRuntime) {
     let engine = engine_in(&rt, &Held::Text(9));
     let state = engine.as_ref().state();
     same!(&rt, state.tree().weight(), 54);
-    same!(&rt, state.loaded().weight(), 0);
+    same!(&rt, state.loaded().tree.weight(), 0);
 }
 
 /// At the moment 0 `lib/a.service` is put with a text of so many bytes.

@@ -141,7 +141,7 @@ fn a_state_holds_units_that_stand_or_have_jobs(rt: HostRuntime) {
 
 /// Asserts that the state holds nothing.
 fn holds_nothing(rt: &impl Abort, state: &State) {
-    same!(rt, (state.tree().len(), state.loaded().len()), (0, 0));
+    same!(rt, (state.tree().len(), state.loaded().tree.len()), (0, 0));
     same!(rt, state.boot().as_str(), "");
     same!(rt, (state.clock().micros(), state.next().get()), (0, 1));
 }

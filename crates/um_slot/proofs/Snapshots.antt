@@ -6,12 +6,14 @@ use Rattle.std.proofs.lemmas.Bool.{cases_lt}
 use Rattle.std.proofs.lemmas.List.{take-append-drop, length-drop, length-take, nil_from_length, take_all, drop-drop}
 use Rattle.um_model.specs.Disk.{Sector, Image, Past, seen, IsImage, Images, During, IsSettled}
 use Rattle.um_laws.proofs.DiskLaws.{started, weaker}
+use Rattle.um_model.specs.declared.layout.Format.{Format}
 use Rattle.um_model.specs.declared.layout.Layout.{Layout}
 use Rattle.um_model.specs.declared.layout.Slot.{Slot}
 use Rattle.um_model.specs.declared.layout.Slot.TheVariants.{A, B}
-use Rattle.um_model.specs.Store.{log_start, stops, IsOf, IsFree, IsLogEnd, IsStore, GoesOn, filled, superblock, slot_start, other, body_limit, IsHeader, sector_count, joined, body_at, IsNewest, HasNoHeader}
-use Rattle.um_laws.proofs.StoreLaws.{same_header, filled_whole, take-filled, behind_slot, before_slot, home_same, kept_newest, none_of, same_records}
-use Rattle.um_slot.specs.Snapshots.{body_sector, IsSnapshot, MaybeSnapshot, AfterSnapshot, HasStore, EitherSnapshot, HasNewest, EitherNewest}
+use Rattle.um_model.specs.Store.{current, first_log_sector, top, all_records, records_of, log_start, IsNoneAbove, IsLogEnd, IsStore, GoesOn, filled, superblock, slot_start, other, body_limit, IsHeader, sector_count, joined, body_at, IsNewest, HasNoHeader}
+use Rattle.um_laws.proofs.CountedLaws.{none_counts, same_all, below_top, above_later, counts_own, top_fits, log_anew}
+use Rattle.um_laws.proofs.StoreLaws.{same_header, filled_whole, take-filled, behind_slot, before_slot, home_same, kept_newest, same_above}
+use Rattle.um_slot.specs.Snapshots.{body_sector, IsSnapshot, MaybeSnapshot, AfterSnapshot, HasStore, HasNew, EitherSnapshot, HasNewest, EitherNewest}
 
 -- ---- a body that is written
 
@@ -89,101 +91,110 @@ first_newest {layout} {old} {image} nothing first last fits maybe snapshot = rec
   body_is = written_body snapshot;
 }
 
--- The log stays as free as it was.
-pub kept_free : {layout : Layout} {old image : Image} {slot : Slot} {generation later : ℕ} {body : List ℕ} → MaybeSnapshot layout old slot generation body image
-    → IsFree layout later old (log_start layout later) → IsFree layout later image (log_start layout later)
-kept_free {layout} {slot} {later} maybe free theirs j low high is = free theirs j low high (subst (IsOf theirs) (maybe.outside j (inr (behind_slot layout slot later j low))) is)
+-- No later generation comes into the log.
+pub kept_above : {layout : Layout} {old image : Image} {slot : Slot} {generation last : ℕ} {body : List ℕ} → MaybeSnapshot layout old slot generation body image
+    → IsNoneAbove layout old last → IsNoneAbove layout image last
+kept_above {layout} {slot} maybe none = same_above layout (λ j low high. maybe.outside j (inr (behind_slot layout slot j low))) none
 
 -- ---- the whole store while a snapshot is written into the other slot
 
-module _ {layout : Layout} {old image : Image} {slot : Slot} {newest last : ℕ} {before body : List ℕ} (above : newest ≤ last) (has : HasNewest layout slot newest before last old)
-    (maybe : MaybeSnapshot layout old (other slot) (last + 1) body image) where
-  log_same : (j : ℕ) → log_start layout newest ≤ j → image j ≡ old j
-  log_same j low = maybe.outside j (inr (behind_slot layout (other slot) newest j low))
+module _ {format : Format} {layout : Layout} {old image : Image} {slot : Slot} {newest last : ℕ} {before body : List ℕ} (above : newest ≤ last)
+    (has : HasNewest format layout slot newest before last old) (maybe : MaybeSnapshot layout old (other slot) (last + 1) body image) where
+  log_same : (j : ℕ) → first_log_sector layout ≤ j → image j ≡ old j
+  log_same j low = maybe.outside j (inr (behind_slot layout (other slot) j low))
 
-  first_same : image 0 ≡ superblock layout
+  first_same : image 0 ≡ superblock format layout
   first_same = maybe.outside 0 (inl (before_slot layout (other slot))) ∙ has.first
 
   -- no log sector is of the next generation
-  next_free : IsFree layout (last + 1) image (log_start layout (last + 1))
-  next_free theirs j low high is = has.none_later theirs j low high (subst (IsOf theirs) (log_same j low) is)
+  next_above : IsNoneAbove layout image last
+  next_above = same_above layout (λ j low high. log_same j low) has.none_later
 
   snapshot_same : image (slot_start layout (other slot)) ≡ old (slot_start layout (other slot)) → IsNewest layout image slot newest before
   snapshot_same same = kept_newest has.snapshot maybe.outside same
 
   -- with the whole snapshot, nothing of its generation stands in the log
-  new_store : last + 1 < 2 ^ 64 → length body ≤ body_limit layout → IsSnapshot layout image (other slot) (last + 1) body → IsStore layout image (other slot) (last + 1) body []
+  new_store : last + 1 < 2 ^ 64 → length body ≤ body_limit layout → IsSnapshot layout image (other slot) (last + 1) body → IsStore format layout image (other slot) (last + 1) body []
   new_store small fits snapshot = record {
     first = first_same;
     newest = new_newest has.snapshot (home_same has.snapshot maybe.outside) (omega (arith, above)) small fits snapshot;
-    records_are = stops (λ bytes. none_of small next_free 0 (log_start layout (last + 1)) bytes (omega arith));
-    none_later = λ theirs j low high is. let below = next_free theirs j low high is in omega (arith, below);
+    records_are = sym (none_counts format layout (last + 1) last image (top_fits format (last + 1) small) (omega arith) next_above);
+    none_later = above_later layout (let low = below_top format (last + 1) in omega (arith, low)) next_above;
   }
 
-  -- The log of a new snapshot begins at its first sector.
-  new_end : IsLogEnd layout (last + 1) image [] 0 (log_start layout (last + 1))
-  new_end = record { count = refl; place = omega arith; within = omega arith; free = next_free }
-
   -- What a crash leaves meanwhile has the newest snapshot and the log of before, or the new snapshot and no record.
-  either_newest : {past : Past} → IsImage past old → last + 1 < 2 ^ 64 → length body ≤ body_limit layout → EitherNewest layout past slot newest before last body image
-  either_newest {past} was small fits = ⊎_elim {C = EitherNewest layout past slot newest before last body image}
+  either_newest : {past : Past} → IsImage past old → last + 1 < 2 ^ 64 → length body ≤ body_limit layout → EitherNewest format layout past slot newest before last body image
+  either_newest {past} was small fits = ⊎_elim {C = EitherNewest format layout past slot newest before last body image}
       (λ same. inl (record { from = old; was = was; first = first_same; snapshot = snapshot_same same; log = log_same }))
       (λ snapshot. inr (new_store small fits snapshot)) maybe.inside
 
 -- a store has its newest snapshot, and none of a later generation
-has_newest : {layout : Layout} {image : Image} {slot : Slot} {generation : ℕ} {body : List ℕ} {records : List (List ℕ)} → IsStore layout image slot generation body records
-    → HasNewest layout slot generation body generation image
+has_newest : {layout : Layout} {image : Image} {slot : Slot} {generation : ℕ} {body : List ℕ} {records : List (List ℕ)} → IsStore current layout image slot generation body records
+    → HasNewest current layout slot generation body generation image
 has_newest store = record { first = store.first; snapshot = store.newest; none_later = store.none_later }
 
-module _ {layout : Layout} {old image : Image} {slot : Slot} {generation : ℕ} {before body : List ℕ} {records : List (List ℕ)} (store : IsStore layout old slot generation before records)
+module _ {layout : Layout} {old image : Image} {slot : Slot} {generation : ℕ} {before body : List ℕ} {records : List (List ℕ)} (store : IsStore current layout old slot generation before records)
     (maybe : MaybeSnapshot layout old (other slot) (generation + 1) body image) where
   same : generation ≤ generation
   same = omega arith
 
-  kept_store : image (slot_start layout (other slot)) ≡ old (slot_start layout (other slot)) → IsStore layout image slot generation before records
+  kept_store : image (slot_start layout (other slot)) ≡ old (slot_start layout (other slot)) → IsStore current layout image slot generation before records
   kept_store beside = record {
     first = first_same same (has_newest store) maybe;
     newest = snapshot_same same (has_newest store) maybe beside;
-    records_are = same_records 0 (log_start layout generation) records (λ j low high. log_same same (has_newest store) maybe j low) store.records_are;
-    none_later = next_free same (has_newest store) maybe;
+    records_are = store.records_are ∙ sym (same_all current layout generation old image (λ j low high. log_same same (has_newest store) maybe j low));
+    none_later = next_above same (has_newest store) maybe;
   }
 
   -- What a crash leaves meanwhile is the store as it was, or with the new snapshot and no record.
   pub either_store : generation + 1 < 2 ^ 64 → length body ≤ body_limit layout
-      → IsStore layout image slot generation before records ⊎ IsStore layout image (other slot) (generation + 1) body []
+      → IsStore current layout image slot generation before records ⊎ IsStore current layout image (other slot) (generation + 1) body []
   either_store last fits = ⊎_elim (λ beside. inl (kept_store beside)) (λ snapshot. inr (new_store same (has_newest store) maybe last fits snapshot)) maybe.inside
 
 -- ---- the same of whole runs of calls
 
-module _ {layout : Layout} (past : Past) {slot : Slot} {newest last : ℕ} {before : List ℕ} (above : newest ≤ last) (all : Images past (HasNewest layout slot newest before last)) where
+module _ {format : Format} {layout : Layout} (past : Past) {slot : Slot} {newest last : ℕ} {before : List ℕ} (above : newest ≤ last)
+    (all : Images past (HasNewest format layout slot newest before last)) where
   -- before the first call
-  pub before_newest : (body : List ℕ) → During past past (EitherNewest layout past slot newest before last body)
+  pub before_newest : (body : List ℕ) → During past past (EitherNewest format layout past slot newest before last body)
   before_newest body = started past _ (λ image is. inl (record { from = image; was = is; first = (all image is).first; snapshot = (all image is).snapshot; log = λ j low. refl }))
 
   -- while a snapshot is written into the other slot
   pub during_newest : {new : Past} {body : List ℕ} → last + 1 < 2 ^ 64 → length body ≤ body_limit layout
-      → During past new (AfterSnapshot layout past (other slot) (last + 1) body) → During past new (EitherNewest layout past slot newest before last body)
+      → During past new (AfterSnapshot layout past (other slot) (last + 1) body) → During past new (EitherNewest format layout past slot newest before last body)
   during_newest {new} {body} small fits run = weaker past new _ _ (λ image m. either_newest above (all m.from m.was) m.maybe m.was small fits) run
 
+module _ {layout : Layout} (past : Past) {slot : Slot} {newest last : ℕ} {before : List ℕ} (above : newest ≤ last) (all : Images past (HasNewest current layout slot newest before last)) where
   -- and behind it
   pub goes_on_newest : {new : Past} {body : List ℕ} → last + 1 < 2 ^ 64 → length body ≤ body_limit layout → IsImage past (seen past)
       → MaybeSnapshot layout (seen past) (other slot) (last + 1) body (seen new) → IsSnapshot layout (seen new) (other slot) (last + 1) body → IsSettled new
       → GoesOn layout new (other slot) (last + 1) body [] (last + 1) 0 (log_start layout (last + 1))
-  goes_on_newest {new} {body} small fits is maybe snapshot done = record {
-    store = λ image at. subst (λ i. IsStore layout i (other slot) (last + 1) body []) (sym (done image at)) (new_store above (all (seen past) is) maybe small fits snapshot);
-    end = λ image at. subst (λ i. IsLogEnd layout (last + 1) i [] 0 (log_start layout (last + 1))) (sym (done image at)) (new_end above (all (seen past) is) maybe);
-  }
+  goes_on_newest {new} {body} small fits is maybe snapshot done =
+      let none : IsNoneAbove layout (seen new) last = next_above above (all (seen past) is) maybe in
+      record {
+        counts = counts_own current (last + 1);
+        store = λ image at. subst (λ i. IsStore current layout i (other slot) (last + 1) body []) (sym (done image at)) (new_store above (all (seen past) is) maybe small fits snapshot);
+        above = λ image at. subst (λ (i : Image). IsNoneAbove layout i (last + 1)) (sym (done image at)) (above_later layout (omega arith) none);
+        end = λ image at. subst (λ i. IsLogEnd layout (last + 1) i (records_of current layout (last + 1) i) 0 (log_start layout (last + 1))) (sym (done image at))
+            (log_anew layout (last + 1) last (seen new) small (omega arith) none);
+      }
 
 module _ {layout : Layout} (past : Past) {slot : Slot} {generation : ℕ} {before : List ℕ} (stores : Images past (HasStore layout slot generation before)) where
   -- before the first call
   pub before_other : (body : List ℕ) → During past past (EitherSnapshot layout past slot generation before body)
   before_other body = started past _ (λ image is. inl (record { from = image; was = is; store = stores image is }))
 
+  -- a read gives no record of the next generation
+  none_new : generation + 1 < 2 ^ 64 → IsImage past (seen past) → all_records current layout (generation + 1) (seen past) ≡ []
+  none_new last is = none_counts current layout (generation + 1) generation (seen past) (top_fits current (generation + 1) last) (omega arith) (stores (seen past) is).none_later
+
   -- while a snapshot is written into the other slot
-  pub during_other : {new : Past} {body : List ℕ} → generation + 1 < 2 ^ 64 → length body ≤ body_limit layout
+  pub during_other : {new : Past} {body : List ℕ} → generation + 1 < 2 ^ 64 → length body ≤ body_limit layout → IsImage past (seen past)
       → During past new (AfterSnapshot layout past (other slot) (generation + 1) body) → During past new (EitherSnapshot layout past slot generation before body)
-  during_other {new} {body} last fits run = weaker past new _ _
-      (λ image m. ⊎_elim {C = EitherSnapshot layout past slot generation before body image} (λ kept. inl (record { from = m.from; was = m.was; store = kept })) (λ done. inr done) (either_store (stores m.from m.was) m.maybe last fits)) run
+  during_other {new} {body} last fits is run = weaker past new _ _
+      (λ image m. ⊎_elim {C = EitherSnapshot layout past slot generation before body image} (λ kept. inl (record { from = m.from; was = m.was; store = kept }))
+      (λ done. inr (subst (λ (l : List (List ℕ)). IsStore current layout image (other slot) (generation + 1) body l) (sym (none_new last is)) done))
+      (either_store (stores m.from m.was) m.maybe last fits)) run
 
   -- and behind it
   pub goes_on_other : {new : Past} {body : List ℕ} → generation + 1 < 2 ^ 64 → length body ≤ body_limit layout → IsImage past (seen past)

@@ -1,15 +1,17 @@
 ghost use Rattle.std.specs.Prelude.{◌≡◌, ◌⊎◌, ◌↔◌, Err, IfOk, IfErr, take};
+ghost use Rattle.um_model.specs.declared.layout.Format.{Format};
 ghost use Rattle.um_model.specs.declared.layout.Layout as declared;
 ghost use Rattle.um_model.specs.Store as store;
 
-use um_model::Layout;
+use um_model::{Format, Layout};
 use um_sector::{Fields, Sector, u32_at};
 use um_wire::Refusal;
 
-/// The first bytes of sector 0 of a store, and with them those that tell this format.
+/// The first bytes of sector 0 of a store of any format.
 const NAME: &[u8] = b"UMDISK";
 
-const FORMAT: &[u8] = b"UMDISK01";
+/// Those of a store of the first format.
+const NAME_ONE: &[u8] = b"UMDISK01";
 
 /// The byte of sector 0 at which the number of sectors of a slot begins, in four bytes.
 const SLOT_SECTORS_AT: usize = 8;
@@ -17,53 +19,65 @@ const SLOT_SECTORS_AT: usize = 8;
 /// The byte of sector 0 at which the number of sectors of the log begins, in four bytes.
 const LOG_SECTORS_AT: usize = 12;
 
-/// Sector 0 of a store: it tells the layout.
-pub fn superblock(layout: Layout) -> Sector
-    ensures { result ≡ store.superblock layout }
+/// The first bytes of sector 0 of a store in a format.
+fn name_of(format: Format) -> &'static [u8]
+    ensures { result.now ≡ store.format_name format }
+{
+    match format {
+        Format::One => NAME_ONE,
+    }
+}
+
+/// Sector 0 of a store: it tells the format and the layout.
+pub fn superblock(format: Format, layout: Layout) -> Sector
+    ensures { result ≡ store.superblock format layout }
 {
     let mut fields = Fields::new();
-    fields.put(FORMAT);
+    fields.put(name_of(format));
     fields.put_u32(layout.slot_sectors);
     fields.put_u32(layout.log_sectors);
     fields.sector()
 }
 
-/// Whether sector 0 begins as that of a store of this layout: E19 where it is of no store, E22 where it is of another layout.
-fn check_name(sector: &Sector) -> Result<(), Refusal>
+/// The format that sector 0 of a store begins with: E19 where it is of no store, E22 where it is of a store in another format.
+fn read_format(sector: &Sector) -> Result<Format, Refusal>
     ensures unformatted { (result ≡ Err Refusal.NotFormatted) ↔ ¬ (take 6 sector.now ≡ store.store_name) }
-    ensures other { (result ≡ Err Refusal.OtherLayout) ↔ ((take 6 sector.now ≡ store.store_name) × ¬ (take 8 sector.now ≡ store.store_format)) }
+    ensures other { (result ≡ Err Refusal.OtherLayout) ↔ ((take 6 sector.now ≡ store.store_name) × ((format : Format) → ¬ (take 8 sector.now ≡ store.format_name format))) }
     ensures only { IfErr result (λ e. (e ≡ Refusal.NotFormatted) ⊎ (e ≡ Refusal.OtherLayout)) }
+    ensures name { IfOk result (λ format. take 8 sector.now ≡ store.format_name format) }
 {
     let (name, _) = sector.split_at(NAME.len());
     if name != NAME {
         return Err(Refusal::NotFormatted);
     }
-    let (name, _) = sector.split_at(FORMAT.len());
-    if name != FORMAT {
-        return Err(Refusal::OtherLayout);
+    let (name, _) = sector.split_at(NAME_ONE.len());
+    if name == NAME_ONE {
+        Ok(Format::One)
+    } else {
+        Err(Refusal::OtherLayout)
     }
-    Ok(())
 }
 
-/// The layout that sector 0 of a store tells.
+/// The format and the layout that sector 0 of a store tells.
 ///
-/// E19 where it doesn't begin as that of a store; E22 where it begins as that of another layout; E18 with sector 0 where it isn't
-/// just as it is written for a layout within the limits.
-pub fn read_superblock(sector: &Sector) -> Result<Layout, Refusal>
-    ensures ok { IfOk result (λ layout. sector.now ≡ store.superblock layout) }
-    ensures err { IfErr result (λ e. ((e ≡ Refusal.NotFormatted) ⊎ (e ≡ Refusal.OtherLayout)) ⊎ ((e ≡ Refusal.Damaged 0) × ((layout : declared.Layout) → ¬ (sector.now ≡ store.superblock layout)))) }
+/// E19 where it doesn't begin as that of a store; E22 where it begins as that of a store in another format; E18 with sector 0 where it
+/// isn't just as it is written in this format for a layout within the limits.
+pub fn read_superblock(sector: &Sector) -> Result<(Format, Layout), Refusal>
+    ensures ok { IfOk result (λ told. sector.now ≡ store.superblock told.0 told.1) }
+    ensures err { IfErr result (λ e. ((e ≡ Refusal.NotFormatted) ⊎ (e ≡ Refusal.OtherLayout))
+        ⊎ ((e ≡ Refusal.Damaged 0) × ((format : Format) (layout : declared.Layout) → ¬ (sector.now ≡ store.superblock format layout)))) }
     ensures unformatted { (result ≡ Err Refusal.NotFormatted) ↔ ¬ (take 6 sector.now ≡ store.store_name) }
-    ensures other { (result ≡ Err Refusal.OtherLayout) ↔ ((take 6 sector.now ≡ store.store_name) × ¬ (take 8 sector.now ≡ store.store_format)) }
+    ensures other { (result ≡ Err Refusal.OtherLayout) ↔ ((take 6 sector.now ≡ store.store_name) × ((format : Format) → ¬ (take 8 sector.now ≡ store.format_name format))) }
 {
-    check_name(sector)?;
+    let format = read_format(sector)?;
     let Some(layout) = Layout::new(
         u32_at(sector, SLOT_SECTORS_AT),
         u32_at(sector, LOG_SECTORS_AT),
     ) else {
         return Err(Refusal::Damaged { sector: 0 });
     };
-    if *sector == superblock(layout) {
-        Ok(layout)
+    if *sector == superblock(format, layout) {
+        Ok((format, layout))
     } else {
         Err(Refusal::Damaged { sector: 0 })
     }

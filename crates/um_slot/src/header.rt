@@ -12,6 +12,22 @@ pub struct Home {
     pub generation: u64,
 }
 
+impl Home {
+    ghost use Rattle.um_model.specs.Store.{other};
+    ghost use Rattle.std.specs.Prelude.{◌+◌, ◌-◌, ◌^◌, ◌<◌};
+
+    /// Where the next snapshot goes: into the other slot, as the next generation.
+    pub fn next(self) -> Home
+        requires { self.generation < 2 ^ 64 - 1 }
+        ensures { (result.slot ≡ other self.slot) × (result.generation ≡ self.generation + 1) }
+    {
+        Home {
+            slot: self.slot.other(),
+            generation: self.generation + 1,
+        }
+    }
+}
+
 /// What a well-formed header says.
 #[derive(Clone, Copy)]
 pub struct Header {

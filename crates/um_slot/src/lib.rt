@@ -15,5 +15,5 @@ pub use laws::{
     the_newest_body_is_one, the_newest_body_is_told, unread_sectors_of_the_slots_do_not_count,
 };
 pub use read::{Snapshot, newest};
-pub use um_model::{Layout, Slot};
-pub use write::{write_first, write_other};
+pub use um_model::{Format, Layout, Slot};
+pub use write::{finish, write_first, write_other, write_part};

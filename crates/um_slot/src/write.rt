@@ -1,25 +1,149 @@
-ghost use Rattle.std.specs.Prelude.{◌≡◌, ◌⊎◌, ◌↔◌, ◌+◌, ◌-◌, ◌<◌, ◌≤◌, ◌^◌, ℕ, List, [], length, Ok, Err, Some, None, IfOk, IfErr, IfSome, OnOk, IsTrue};
+ghost use Rattle.std.specs.Prelude.{◌≡◌, ◌⊎◌, ◌↔◌, ◌+◌, ◌-◌, ◌<◌, ◌≤◌, ◌^◌, min, ℕ, List, [], length, Ok, Err, Some, None, IfOk, IfErr, IfSome, OnOk, IsTrue};
 ghost use Rattle.um_model.specs.Disk.{Sector, seen, Images, During, IsSettled};
-ghost use Rattle.um_model.specs.Store.{other, body_limit, log_start, sector_count, HasNoHeader, IsNewest, IsFree, IsStore, GoesOn};
+ghost use Rattle.um_model.specs.Store.{current, other, slot_start, body_limit, log_start, sector_count, HasNoHeader, IsNewest, IsNoneAbove, GoesOn};
+ghost use Rattle.um_model.specs.declared.layout.Format.{Format};
 ghost use Rattle.um_slot.specs.Snapshots.{HasStore, HasNewest, EitherNewest};
-ghost use Rattle.um_slot.specs.Snapshots.{IsSnapshot, MaybeSnapshot, AfterSnapshot, EitherSnapshot};
+ghost use Rattle.um_slot.specs.Snapshots.{IsWritten, IsBeside, IsSnapshot, MaybeSnapshot, AfterSnapshot, EitherSnapshot};
 ghost use Rattle.um_model.specs.declared.layout.Slot.TheVariants.{A};
 ghost use Rattle.um_sector.specs.Refused.{CountsDevice};
 ghost use Rattle.um_sector.specs.Runs.{more};
+ghost use Rattle.um_sector.specs.Unsynced.{sync_count};
 
 use crate::header::{Home, header_sector};
-use crate::sectors::write_body_synced;
+use crate::sectors::write_sectors;
 use um_model::{Layout, Slot};
-use um_sector::{Disk, Sector, write_run_synced};
+use um_sector::{Disk, SECTOR_BYTES, Sector, write_run_synced};
 use um_wire::Refusal;
 
-/// Writes the sectors of a body into a slot and syncs, then its header, and syncs.
-fn write_slot<D: Disk>(disk: &mut D, layout: Layout, to: Home, body: &[u8]) -> Result<(), Refusal>
+/// The lesser of two counts.
+fn lesser(a: usize, b: usize) -> usize
+    ensures { result ≡ min a b }
+{
+    if a < b { a } else { b }
+}
+
+/// Writes the next sectors of a body into the slot beside the one of the newest snapshot, from one of them on: so many, or all that are
+/// left. It syncs nothing and takes no memory.
+///
+/// Each image that a crash leaves during it is one of before, but for the body in that slot, which isn't read; after Ok a read gives these
+/// sectors too, and elsewhere what it gave. E16 where a disk call fails: it makes one a sector at most.
+pub fn write_part<D: Disk>(
+    disk: &mut D,
+    layout: Layout,
+    home: Home,
+    body: &[u8],
+    from: usize,
+    count: usize,
+) -> Result<(), Refusal>
     requires fits { length body.now ≤ body_limit layout }
-    ensures during { IsTrue (D.honest disk.old) → During (D.past disk.old) (D.past disk.new) (AfterSnapshot layout (D.past disk.old) to.slot to.generation body.now) }
-    ensures written { OnOk result (IsTrue (D.honest disk.old) → IsSnapshot layout (seen (D.past disk.new)) to.slot to.generation body.now) }
-    ensures beside { OnOk result (IsTrue (D.honest disk.old) → MaybeSnapshot layout (seen (D.past disk.old)) to.slot to.generation body.now (seen (D.past disk.new))) }
+    requires low { from ≤ sector_count (length body.now) }
+    ensures during { IsTrue (D.honest disk.old) → During (D.past disk.old) (D.past disk.new) (IsBeside layout (D.past disk.old) home.slot) }
+    ensures beside { OnOk result (IsTrue (D.honest disk.old) → (j : ℕ)
+        → (j ≤ slot_start layout (other home.slot)) ⊎ (slot_start layout (other home.slot) + layout.slot_sectors ≤ j) → seen (D.past disk.new) j ≡ seen (D.past disk.old) j) }
+    ensures written { OnOk result (IsTrue (D.honest disk.old) → IsWritten layout (seen (D.past disk.old)) (other home.slot) body.now from
+        → IsWritten layout (seen (D.past disk.new)) (other home.slot) body.now (min (from + count) (sector_count (length body.now)))) }
+    ensures syncs { IsTrue (D.honest disk.old) → sync_count (D.past disk.new) ≡ sync_count (D.past disk.old) }
+    ensures calls { D.calls disk.new ≤ D.calls disk.old + min count (sector_count (length body.now) - from) }
+    ensures all_calls { OnOk result (D.calls disk.new ≡ more (D.calls disk.old) (min count (sector_count (length body.now) - from))) }
+    ensures failures { CountsDevice result (D.failures disk.old) (D.failures disk.new) }
+    ensures err { IfErr result (λ e. e ≡ Refusal.Device) }
+    ensures size { D.size disk.new ≡ D.size disk.old }
+    ensures honest { D.honest disk.new ≡ D.honest disk.old }
+{
+    let left = body.len().div_ceil(SECTOR_BYTES) - from;
+    let count = lesser(count, left);
+    let at = layout.slot_start(home.slot.other()) + 1 + from;
+    write_sectors(disk, at, body, from, count)?;
+    Ok(())
+}
+
+/// Syncs, and writes the header of a body into a slot, in which a read gives the whole body, and syncs.
+fn seal<D: Disk>(disk: &mut D, layout: Layout, to: Home, size: usize) -> Result<(), Refusal>
+    requires fits { size ≤ body_limit layout }
+    ensures during { IsTrue (D.honest disk.old) → (body : List ℕ) → length body ≡ size → IsWritten layout (seen (D.past disk.old)) to.slot body (sector_count size)
+        → During (D.past disk.old) (D.past disk.new) (AfterSnapshot layout (D.past disk.old) to.slot to.generation body) }
+    ensures written { OnOk result (IsTrue (D.honest disk.old) → (body : List ℕ) → length body ≡ size → IsWritten layout (seen (D.past disk.old)) to.slot body (sector_count size)
+        → IsSnapshot layout (seen (D.past disk.new)) to.slot to.generation body) }
+    ensures beside { OnOk result (IsTrue (D.honest disk.old) → (body : List ℕ) → length body ≡ size → IsWritten layout (seen (D.past disk.old)) to.slot body (sector_count size)
+        → MaybeSnapshot layout (seen (D.past disk.old)) to.slot to.generation body (seen (D.past disk.new))) }
     ensures settled { OnOk result (IsTrue (D.honest disk.old) → IsSettled (D.past disk.new)) }
+    ensures calls { D.calls disk.new ≤ D.calls disk.old + 3 }
+    ensures all_calls { OnOk result (D.calls disk.new ≡ more (D.calls disk.old) 3) }
+    ensures failures { CountsDevice result (D.failures disk.old) (D.failures disk.new) }
+    ensures lost { IfErr result (λ e. e ≡ Refusal.Device) }
+    ensures size { D.size disk.new ≡ D.size disk.old }
+    ensures honest { D.honest disk.new ≡ D.honest disk.old }
+{
+    // The body is on the disk before a header names it.
+    disk.sync()?;
+    let header: [Sector; 1] = [header_sector(to.generation, size as u64)];
+    write_run_synced(disk, layout.slot_start(to.slot), &header)?;
+    Ok(())
+}
+
+/// Makes a body count that stands in the slot beside the one of the newest snapshot, with all of its sectors: a sync, its header as the next
+/// generation, a sync. Answers where it stands.
+///
+/// Where a read gives the whole body, and each image is that of a store whose newest snapshot is at `home`, each image that a crash leaves
+/// meanwhile is that of the store of an image of before, or of the store with this body and the records that a read gave beside it; after Ok
+/// it is the latter.
+///
+/// The generation at `home` may be above that of the newest snapshot, which stands in its slot: then no sector of the log is of a
+/// generation above it, meanwhile the newest snapshot and the log are those of an image of before, or this body stands there and no
+/// record counts, and after Ok it is the latter.
+///
+/// E16 where a disk call fails: it takes no memory. It makes at most three disk calls.
+pub fn finish<D: Disk>(
+    disk: &mut D,
+    layout: Layout,
+    home: Home,
+    size: usize,
+) -> Result<Home, Refusal>
+    requires early { home.generation < 2 ^ 64 - 1 }
+    requires fits { size ≤ body_limit layout }
+    ensures during { IsTrue (D.honest disk.old) → (before body : List ℕ) → length body ≡ size → IsWritten layout (seen (D.past disk.old)) (other home.slot) body (sector_count size)
+        → Images (D.past disk.old) (HasStore layout home.slot home.generation before)
+        → During (D.past disk.old) (D.past disk.new) (EitherSnapshot layout (D.past disk.old) home.slot home.generation before body) }
+    ensures ok { IfOk result (λ to. IsTrue (D.honest disk.old) → (before body : List ℕ) → length body ≡ size
+        → IsWritten layout (seen (D.past disk.old)) (other home.slot) body (sector_count size)
+        → Images (D.past disk.old) (HasStore layout home.slot home.generation before)
+        → GoesOn layout (D.past disk.new) to.slot to.generation body [] to.generation 0 (log_start layout to.generation)) }
+    ensures during_newest { IsTrue (D.honest disk.old) → (format : Format) (newest : ℕ) (before body : List ℕ) → newest ≤ home.generation → length body ≡ size
+        → IsWritten layout (seen (D.past disk.old)) (other home.slot) body (sector_count size)
+        → Images (D.past disk.old) (HasNewest format layout home.slot newest before home.generation)
+        → During (D.past disk.old) (D.past disk.new) (EitherNewest format layout (D.past disk.old) home.slot newest before home.generation body) }
+    ensures ok_newest { IfOk result (λ to. IsTrue (D.honest disk.old) → (newest : ℕ) (before body : List ℕ) → newest ≤ home.generation → length body ≡ size
+        → IsWritten layout (seen (D.past disk.old)) (other home.slot) body (sector_count size)
+        → Images (D.past disk.old) (HasNewest current layout home.slot newest before home.generation)
+        → GoesOn layout (D.past disk.new) to.slot to.generation body [] to.generation 0 (log_start layout to.generation)) }
+    ensures settled { OnOk result (IsTrue (D.honest disk.old) → IsSettled (D.past disk.new)) }
+    ensures home { IfOk result (λ to. (to.slot ≡ other home.slot) × (to.generation ≡ home.generation + 1)) }
+    ensures calls { D.calls disk.new ≤ D.calls disk.old + 3 }
+    ensures all_calls { OnOk result (D.calls disk.new ≡ more (D.calls disk.old) 3) }
+    ensures failures { CountsDevice result (D.failures disk.old) (D.failures disk.new) }
+    ensures err { IfErr result (λ e. e ≡ Refusal.Device) }
+    ensures size { D.size disk.new ≡ D.size disk.old }
+    ensures honest { D.honest disk.new ≡ D.honest disk.old }
+{
+    let to = home.next();
+    seal(disk, layout, to, size)?;
+    Ok(to)
+}
+
+/// Writes a whole body into the other slot and syncs, then its header as the next generation, and syncs.
+fn write_slot<D: Disk>(
+    disk: &mut D,
+    layout: Layout,
+    last: Home,
+    body: &[u8],
+) -> Result<Home, Refusal>
+    requires early { last.generation < 2 ^ 64 - 1 }
+    requires fits { length body.now ≤ body_limit layout }
+    ensures during { IsTrue (D.honest disk.old) → During (D.past disk.old) (D.past disk.new) (AfterSnapshot layout (D.past disk.old) (other last.slot) (last.generation + 1) body.now) }
+    ensures written { OnOk result (IsTrue (D.honest disk.old) → IsSnapshot layout (seen (D.past disk.new)) (other last.slot) (last.generation + 1) body.now) }
+    ensures beside { OnOk result (IsTrue (D.honest disk.old) → MaybeSnapshot layout (seen (D.past disk.old)) (other last.slot) (last.generation + 1) body.now (seen (D.past disk.new))) }
+    ensures settled { OnOk result (IsTrue (D.honest disk.old) → IsSettled (D.past disk.new)) }
+    ensures home { IfOk result (λ to. (to.slot ≡ other last.slot) × (to.generation ≡ last.generation + 1)) }
     ensures calls { D.calls disk.new ≤ D.calls disk.old + sector_count (length body.now) + 3 }
     ensures all_calls { OnOk result (D.calls disk.new ≡ more (D.calls disk.old) (sector_count (length body.now) + 3)) }
     ensures failures { CountsDevice result (D.failures disk.old) (D.failures disk.new) }
@@ -27,12 +151,10 @@ fn write_slot<D: Disk>(disk: &mut D, layout: Layout, to: Home, body: &[u8]) -> R
     ensures size { D.size disk.new ≡ D.size disk.old }
     ensures honest { D.honest disk.new ≡ D.honest disk.old }
 {
-    let start = layout.slot_start(to.slot);
-    write_body_synced(disk, start + 1, body)?;
-    // The body is on the disk before a header names it.
-    let header: [Sector; 1] = [header_sector(to.generation, body.len() as u64)];
-    write_run_synced(disk, start, &header)?;
-    Ok(())
+    write_part(disk, layout, last, body, 0, usize::MAX)?;
+    let to = last.next();
+    seal(disk, layout, to, body.len())?;
+    Ok(to)
 }
 
 /// Writes a body as the next generation into the other slot: the body, a sync, then its header, a sync. Answers where it
@@ -58,11 +180,11 @@ pub fn write_other<D: Disk>(
         → During (D.past disk.old) (D.past disk.new) (EitherSnapshot layout (D.past disk.old) home.slot home.generation before body.now) }
     ensures ok { IfOk result (λ to. IfSome to (λ to. IsTrue (D.honest disk.old) → (before : List ℕ) → Images (D.past disk.old) (HasStore layout home.slot home.generation before)
         → GoesOn layout (D.past disk.new) to.slot to.generation body.now [] to.generation 0 (log_start layout to.generation))) }
-    ensures during_newest { IsTrue (D.honest disk.old) → (newest : ℕ) (before : List ℕ) → newest ≤ home.generation
-        → Images (D.past disk.old) (HasNewest layout home.slot newest before home.generation)
-        → During (D.past disk.old) (D.past disk.new) (EitherNewest layout (D.past disk.old) home.slot newest before home.generation body.now) }
+    ensures during_newest { IsTrue (D.honest disk.old) → (format : Format) (newest : ℕ) (before : List ℕ) → newest ≤ home.generation
+        → Images (D.past disk.old) (HasNewest format layout home.slot newest before home.generation)
+        → During (D.past disk.old) (D.past disk.new) (EitherNewest format layout (D.past disk.old) home.slot newest before home.generation body.now) }
     ensures ok_newest { IfOk result (λ to. IfSome to (λ to. IsTrue (D.honest disk.old) → (newest : ℕ) (before : List ℕ) → newest ≤ home.generation
-        → Images (D.past disk.old) (HasNewest layout home.slot newest before home.generation)
+        → Images (D.past disk.old) (HasNewest current layout home.slot newest before home.generation)
         → GoesOn layout (D.past disk.new) to.slot to.generation body.now [] to.generation 0 (log_start layout to.generation))) }
     ensures settled { IfOk result (λ to. IfSome to (λ _. IsTrue (D.honest disk.old) → IsSettled (D.past disk.new))) }
     ensures home { IfOk result (λ to. IfSome to (λ to. (to.slot ≡ other home.slot) × (to.generation ≡ home.generation + 1))) }
@@ -82,11 +204,7 @@ pub fn write_other<D: Disk>(
     if body.len() > layout.body_limit() {
         return Ok(None);
     }
-    let to = Home {
-        slot: home.slot.other(),
-        generation: home.generation + 1,
-    };
-    write_slot(disk, layout, to, body)?;
+    let to = write_slot(disk, layout, home, body)?;
     Ok(Some(to))
 }
 
@@ -104,8 +222,8 @@ pub fn write_first<D: Disk>(
 ) -> Result<Option<Home>, Refusal>
     ensures during { IsTrue (D.honest disk.old) → (first : Sector) → Images (D.past disk.old) (λ image. image 0 ≡ first)
         → During (D.past disk.old) (D.past disk.new) (λ image. image 0 ≡ first) }
-    ensures ok { IfOk result (λ to. IfSome to (λ _. IsTrue (D.honest disk.old) → HasNoHeader layout (seen (D.past disk.old)) → IsFree layout 1 (seen (D.past disk.old)) (log_start layout 1)
-        → IsNewest layout (seen (D.past disk.new)) A 1 body.now × IsFree layout 1 (seen (D.past disk.new)) (log_start layout 1))) }
+    ensures ok { IfOk result (λ to. IfSome to (λ _. IsTrue (D.honest disk.old) → HasNoHeader layout (seen (D.past disk.old)) → IsNoneAbove layout (seen (D.past disk.old)) 0
+        → IsNewest layout (seen (D.past disk.new)) A 1 body.now × IsNoneAbove layout (seen (D.past disk.new)) 0)) }
     ensures settled { IfOk result (λ to. IfSome to (λ _. IsTrue (D.honest disk.old) → IsSettled (D.past disk.new))) }
     ensures home { IfOk result (λ to. IfSome to (λ home. (home.slot ≡ A) × (home.generation ≡ 1))) }
     ensures long { (result ≡ Ok None) ↔ (body_limit layout < length body.now) }
@@ -120,10 +238,10 @@ pub fn write_first<D: Disk>(
     if body.len() > layout.body_limit() {
         return Ok(None);
     }
-    let home = Home {
-        slot: Slot::A,
-        generation: 1,
+    let last = Home {
+        slot: Slot::B,
+        generation: 0,
     };
-    write_slot(disk, layout, home, body)?;
+    let home = write_slot(disk, layout, last, body)?;
     Ok(Some(home))
 }

@@ -4,28 +4,29 @@ use Rattle.std.proofs.Common.{◌<◌, ◌≤◌, ◌+◌, take, drop, slice_ind
 use Rattle.std.specs.Prelude.{⊤}
 use Rattle.std.proofs.lemmas.Bool.{ltb-true, ltb-false}
 use Rattle.std.proofs.lemmas.List.{drop-drop, take_rest}
-use Rattle.um_model.specs.Bytes.{Decoder, ◌>>=◌, arm_in, as_at, pair_at, none_at, number_at, option_at, text_at, table_at}
-use Rattle.um_model.specs.InputSpellings.{comes_at, for_unit_at, input_arms, input_at, install_at, nothing_at, texts_at, modes}
+use Rattle.um_model.specs.Bytes.{Decoder, ◌>>=◌, choice_at, arm_in, as_at, pair_at, none_at, number_at, option_at, text_at, table_at}
+use Rattle.um_model.specs.InputSpellings.{Timed, input_with, comes_at, for_unit_at, input_arms, input_at, install_at, nothing_at, texts_at, modes}
 use Rattle.um_model.specs.Machine.{PutFile, PutLink, Remove, DaemonReload, ForUnit, Cancel, ResetFailed, Install, ProcessEnded, ProcessExecuted, Tick, Booted, Event, Commanded, Happened, Input}
-use Rattle.um_model.specs.Spellings.{end_at, moment_at, unit_name_at}
+use Rattle.um_model.specs.Spellings.{profile_of, end_at, moment_at, unit_name_at}
 use Rattle.um_model.specs.StateSpellings.{boot_at}
 use Rattle.um_model.specs.declared.commands.UnitVerb.{UnitVerb}
 use Rattle.um_model.specs.declared.commands.UnitVerb.TheVariants as verb
 use Rattle.um_model.specs.declared.install.InstallVerb.{InstallVerb}
 use Rattle.um_model.specs.declared.install.InstallVerb.TheVariants as install
+use Rattle.um_model.specs.declared.profile.Profile.{Profile}
 use Rattle.um_state.proofs.Fronts.{two_first}
-use Rattle.um_state.specs.Arms.{command_arms, event_at, for_unit, happening_arms, input_of_fields, installs, timed_at}
+use Rattle.um_state.specs.Arms.{command_arms, event_at, for_unit, happening_arms, installs, timed_at}
 
 -- two readings are one
 abbrev Same : {A : Type 0} → Decoder A → Decoder A → Type 0
 Same one other = (bytes : List ℕ) → one bytes ≡ other bytes
 
 -- behind a moment
-abbrev timed : Decoder Event → Decoder Input
-timed one = as_at input_of_fields (pair_at moment_at one)
+abbrev timed : Decoder Event → Decoder Timed
+timed one = pair_at moment_at one
 
 -- what is read, told in another form, beside what was read before it
-abbrev told : {A B : Type 0} → (A → B) → Option (A × List ℕ) → Option (B × List ℕ)
+abbrev pub told : {A B : Type 0} → (A → B) → Option (A × List ℕ) → Option (B × List ℕ)
 told to o = o >>= λ a. Some (to a.0, a.1)
 
 abbrev beside : {A B : Type 0} → A → Option (B × List ℕ) → Option ((A × B) × List ℕ)
@@ -36,14 +37,14 @@ behind one o = o >>= λ a. beside a.0 (one a.1)
 
 -- the fields read in one form and told in another, and then in a third
 module _ {A B : Type 0} (to : A → B) (last : B → Event) (reading : Decoder A) where
-  abbrev input_by : ℕ × A → Input
-  input_by f = record { moment = f.0; event = last (to f.1) }
+  abbrev timed_by : ℕ × A → Timed
+  timed_by f = (f.0, last (to f.1))
 
-  at_fields : (m : ℕ) (o : Option (A × List ℕ)) → told input_by (beside m o) ≡ told input_of_fields (beside m (told last (told to o)))
+  at_fields : (m : ℕ) (o : Option (A × List ℕ)) → told timed_by (beside m o) ≡ beside m (told last (told to o))
   at_fields m None = refl
   at_fields m (Some x) = refl
 
-  at_moment : (o : Option (ℕ × List ℕ)) → told input_by (behind reading o) ≡ told input_of_fields (behind (as_at last (as_at to reading)) o)
+  at_moment : (o : Option (ℕ × List ℕ)) → told timed_by (behind reading o) ≡ behind (as_at last (as_at to reading)) o
   at_moment None = refl
   at_moment (Some x) = at_fields x.0 (reading x.1)
 
@@ -52,18 +53,18 @@ module _ {A B : Type 0} (to : A → B) (last : B → Event) (reading : Decoder A
 
 none_timed : Same none_at (timed none_at)
 none_timed bytes = by (moment_at bytes) where
-  by : (o : Option (ℕ × List ℕ)) → None ≡ told input_of_fields (behind (none_at {A = Event}) o)
+  by : (o : Option (ℕ × List ℕ)) → None ≡ behind (none_at {A = Event}) o
   by None = refl
   by (Some x) = refl
 
 -- each arm is the same as the timed one at its place
-abbrev AreSame : List (Decoder Input) → List (Decoder Event) → Type 0
+abbrev AreSame : List (Decoder Timed) → List (Decoder Event) → Type 0
 AreSame [] [] = ⊤
 AreSame [] (e ∷ es) = ⊥
 AreSame (i ∷ is) [] = ⊥
 AreSame (i ∷ is) (e ∷ es) = Same i (timed e) × AreSame is es
 
-same_arm : (is : List (Decoder Input)) (es : List (Decoder Event)) → AreSame is es → (tag : ℕ) → Same (arm_in is tag) (timed (arm_in es tag))
+same_arm : (is : List (Decoder Timed)) (es : List (Decoder Event)) → AreSame is es → (tag : ℕ) → Same (arm_in is tag) (timed (arm_in es tag))
 same_arm [] [] h tag = none_timed
 same_arm [] (e ∷ es) h tag = absurd h
 same_arm (i ∷ is) [] h tag = absurd h
@@ -158,26 +159,58 @@ event_here tag bytes = by (nat_lt tag 15) refl where
 
 timed_same : (one other : Decoder Event) → Same one other → Same (timed one) (timed other)
 timed_same one other h bytes = by (moment_at bytes) where
-  by : (o : Option (ℕ × List ℕ)) → told input_of_fields (behind one o) ≡ told input_of_fields (behind other o)
+  by : (o : Option (ℕ × List ℕ)) → behind one o ≡ behind other o
   by None = refl
-  by (Some x) = ap (λ r. told input_of_fields (beside x.0 r)) (h x.1)
+  by (Some x) = ap (beside x.0) (h x.1)
 
--- behind a 1 and a tag, an input is a moment, and the fields by the tag
-pub input_here : (bytes : List ℕ) → 2 ≤ length bytes → slice_index bytes 0 ≡ 1 → input_at bytes ≡ timed_at (slice_index bytes 1) (drop 2 bytes)
-input_here bytes long one =
+-- the profile of a tag, with the bytes behind it
+abbrev tagged_by : List ℕ → Option Profile → Option (Profile × List ℕ)
+tagged_by rest o = o >>= λ p. Some (p, rest)
+
+-- the input of what is read behind the tag of its profile
+abbrev input_behind : List ℕ → Option Profile → Option (Input × List ℕ)
+input_behind rest o = told input_with (behind (choice_at (arm_in input_arms)) (tagged_by rest o))
+
+-- behind the tag of a profile and another tag, an input is a moment, and the fields by the tag
+pub input_here : (bytes : List ℕ) → 2 ≤ length bytes → (profile : Profile) → profile_of (slice_index bytes 0) ≡ Some profile
+    → input_at bytes ≡ as_at (λ t. input_with (profile, t)) (timed_at (slice_index bytes 1)) (drop 2 bytes)
+input_here bytes long profile is =
     let tag = slice_index bytes 1 in
     let rest = drop 2 bytes in
-    ap input_at (two_first bytes long ∙ ap (λ b. b ∷ tag ∷ rest) one)
-    ∙ (same_arm input_arms event_arms all_same tag rest ∙ timed_same (arm_in event_arms tag) (event_at tag) (event_here tag) rest)
+    let arm = same_arm input_arms event_arms all_same tag rest ∙ timed_same (arm_in event_arms tag) (event_at tag) (event_here tag) rest in
+    ap input_at (two_first bytes long)
+    ∙ (by (profile_of (slice_index bytes 0)) is ∙ ap (told (λ t. input_with (profile, t))) arm)
+  where
+    with_profile : (o : Option (Timed × List ℕ)) → told input_with (beside profile o) ≡ told (λ t. input_with (profile, t)) o
+    with_profile None = refl
+    with_profile (Some x) = refl
+
+    by : (o : Option Profile) → o ≡ Some profile
+        → input_behind (slice_index bytes 1 ∷ drop 2 bytes) o ≡ told (λ t. input_with (profile, t)) (arm_in input_arms (slice_index bytes 1) (drop 2 bytes))
+    by o same = rw same (with_profile (arm_in input_arms (slice_index bytes 1) (drop 2 bytes)))
+
+-- a first byte that is no profile's tag tells no input
+pub unprofiled : (bytes : List ℕ) → 2 ≤ length bytes → profile_of (slice_index bytes 0) ≡ None → input_at bytes ≡ None
+unprofiled bytes long none = ap input_at (two_first bytes long) ∙ rw none refl
+
+-- nor do fewer than two bytes
+pub input_short : (bytes : List ℕ) → length bytes < 2 → input_at bytes ≡ None
+input_short [] short = refl
+input_short (b ∷ []) short = by (profile_of b)
+  where
+    by : (o : Option Profile) → input_behind [] o ≡ None
+    by None = refl
+    by (Some p) = refl
+input_short (b ∷ c ∷ bytes) short = absurd (omega (arith, short))
 
 -- what comes in is read behind its moment
 pub timed_here : (tag : ℕ) (bytes : List ℕ) (moment n : ℕ) (event : Event) (m : ℕ) → moment_at bytes ≡ Some (moment, drop n bytes)
     → event_at tag (take (length bytes - n) (drop n bytes)) ≡ Some (event, drop m (take (length bytes - n) (drop n bytes)))
-    → timed_at tag bytes ≡ Some (record { moment = moment; event = event }, drop (n + m) bytes)
+    → timed_at tag bytes ≡ Some ((moment, event), drop (n + m) bytes)
 timed_here tag bytes moment n event m first second =
     let rest = take_rest bytes n in
     let there = rw rest at second in
-    rw (first, there) (ap (λ l. Some (record { moment = moment; event = event }, l)) (drop-drop m n bytes))
+    rw (first, there) (ap (λ l. Some ((moment, event), l)) (drop-drop m n bytes))
 
 -- and there is none where it isn't there
 pub timed_none : (tag : ℕ) (bytes : List ℕ) (moment n : ℕ) → moment_at bytes ≡ Some (moment, drop n bytes) → event_at tag (take (length bytes - n) (drop n bytes)) ≡ None

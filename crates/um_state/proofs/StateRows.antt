@@ -3,6 +3,7 @@ use Rattle.std.proofs.Common.{◌≡◌, ◌∙◌, ◌≤◌, ℕ, Bool, true, 
 use Rattle.std.specs.FinMap as map
 use Rattle.um_model.specs.Jobs.{no_jobs, with_jobs}
 use Rattle.um_model.specs.Machine.{State}
+use Rattle.um_model.specs.Profiles.{ReadTree}
 use Rattle.um_model.specs.Service.{dead_unit, with_unit}
 use Rattle.um_model.specs.Standing.{Standing, Table}
 use Rattle.um_model.specs.Tree.{Tree}
@@ -18,7 +19,7 @@ use Rattle.um_state.proofs.PutLaws.{units_put, jobs_put_well}
 use Rattle.um_state.proofs.TableLaws.{put_past}
 
 -- a state with these fields, and no unit
-abbrev pub state_with : Tree → Tree → List ℕ → ℕ → ℕ → State
+abbrev pub state_with : Tree → ReadTree → List ℕ → ℕ → ℕ → State
 state_with tree loaded boot clock next = record { tree = tree; loaded = loaded; boot = boot; clock = clock; next = next; units = map.empty; pending = map.empty }
 
 -- a state with these tables

@@ -3,9 +3,9 @@
 -- The code that reads inputs stands on this file.
 use Rattle.std.specs.Prelude.{ℕ, ◌-◌, nat_lt, List, [], ◌∷◌, if◌then◌else◌}
 use Rattle.um_model.specs.Bytes.{Decoder, arm_in, as_at, none_at, number_at, option_at, pair_at, text_at, table_at}
-use Rattle.um_model.specs.InputSpellings.{nothing_at, texts_at, modes}
+use Rattle.um_model.specs.InputSpellings.{Timed, nothing_at, texts_at, modes}
 use Rattle.um_model.specs.Machine.{Command, PutFile, PutLink, Remove, DaemonReload, ForUnit, Cancel, ResetFailed, Install, Happening, ProcessEnded, ProcessExecuted, Tick, Booted, Event}
-use Rattle.um_model.specs.Machine.{Commanded, Happened, Input}
+use Rattle.um_model.specs.Machine.{Commanded, Happened}
 use Rattle.um_model.specs.Spellings.{end_at, moment_at, unit_name_at}
 use Rattle.um_model.specs.StateSpellings.{boot_at}
 use Rattle.um_model.specs.declared.commands.UnitVerb.{UnitVerb}
@@ -54,10 +54,6 @@ happening_arms =
 abbrev pub event_at : ℕ → Decoder Event
 event_at tag = if nat_lt tag 15 then as_at Commanded (arm_in command_arms tag) else as_at Happened (arm_in happening_arms (tag - 15))
 
--- the input of its two fields
-abbrev pub input_of_fields : ℕ × Event → Input
-input_of_fields (moment, event) = record { moment = moment; event = event }
-
 -- a moment, and behind it the fields of what comes in
-abbrev pub timed_at : ℕ → Decoder Input
-timed_at tag = as_at input_of_fields (pair_at moment_at (event_at tag))
+abbrev pub timed_at : ℕ → Decoder Timed
+timed_at tag = pair_at moment_at (event_at tag)

@@ -1,6 +1,7 @@
 -- Inputs, replies, actions and states of the code as those of the definitions.
-use Rattle.std.specs.Prelude.{map, string_bytes}
+use Rattle.std.specs.Prelude.{ℕ, map, string_bytes}
 use Rattle.um_model.specs.Machine as model
+use Rattle.um_model.specs.InputSpellings.{Timed}
 use Rattle.um_model.specs.Standing.{Standing}
 use Rattle.um_resolve.specs.View.{file_of}
 use Rattle.um_unit.specs.View.{warnings_seen}
@@ -41,7 +42,11 @@ event_of (event.Commanded command) = model.Commanded (command_of command)
 event_of (event.Happened happening) = model.Happened (happening_of happening)
 
 abbrev pub input_of : Input → model.Input
-input_of i = record { moment = i.moment; event = event_of i.event }
+input_of i = record { profile = i.profile; moment = i.moment; event = event_of i.event }
+
+-- a moment and what comes in at it
+abbrev pub timed_of : ℕ × Event → Timed
+timed_of t = (t.0, event_of t.1)
 
 abbrev pub query_of : Query → model.Query
 query_of (query.Show unit) = model.Show unit

@@ -1,8 +1,9 @@
 ghost use Rattle.std.specs.Prelude.{◌≡◌};
 ghost use Rattle.um_model.specs.Machine as model;
+ghost use Rattle.um_model.specs.Profiles.{current};
 
 use crate::boot::BootId;
-use um_model::{End, InstallVerb, JobMode, Moment, UnitVerb};
+use um_model::{End, InstallVerb, JobMode, Moment, Profile, UnitVerb};
 use um_name::UnitName;
 
 /// What is asked of the manager, and may be refused.
@@ -65,9 +66,10 @@ pub enum Event {
     Happened(Happening),
 }
 
-/// An event with its moment.
+/// An event with its moment, and the profile by which the tree in hand is read for it.
 #[derive(Debug, Drop)]
 pub struct Input {
+    pub(crate) profile: Profile,
     pub(crate) moment: Moment,
     pub(crate) event: Event,
 }
@@ -75,11 +77,22 @@ pub struct Input {
 impl Input {
     ghost use Rattle.um_state.specs.View.{input_of, event_of};
 
-    /// The event at this moment; one before the clock counts as the clock.
+    /// The event at this moment, of the current profile; a moment before the clock counts as the clock.
     pub fn new(moment: Moment, event: Event) -> Input
-        ensures { input_of result ≡ record { moment = moment; event = event_of event } }
+        ensures { input_of result ≡ record { profile = current; moment = moment; event = event_of event } }
     {
-        Input { moment, event }
+        Input {
+            profile: Profile::current(),
+            moment,
+            event,
+        }
+    }
+
+    /// Its profile.
+    pub fn profile(&self) -> Profile
+        ensures { result ≡ (input_of self.now).profile }
+    {
+        self.profile
     }
 
     /// Its moment.

@@ -1,24 +1,21 @@
-//! The canonical bytes of inputs: a version, a tag, the moment, and the fields of what comes in.
+//! The canonical bytes of inputs: the profile, a tag, the moment, and the fields of what comes in.
 ghost use Rattle.std.specs.Prelude.{◌≡◌, ◌≤◌, ◌++◌, ℕ, length, drop, IfOk, IfSome, OnOk, OnErr};
 ghost use Rattle.std.specs.Option.{option_map};
 ghost use Rattle.um_model.specs.Bytes.{IsInFront, arm_in, as_at, pair_at, table_at};
 ghost use Rattle.um_model.specs.InputSpellings.{FitCommand, FitEvent, FitHappening, FitInput, command_fields, command_tag, event_fields, event_tag, happening_fields, happening_tag, modes};
-ghost use Rattle.um_model.specs.InputSpellings.{input_at, input_spelling, install_tag, verb_tag};
+ghost use Rattle.um_model.specs.InputSpellings.{input_at, input_spelling, input_with as model_with, install_tag, verb_tag};
 ghost use Rattle.um_model.specs.Machine as model;
 ghost use Rattle.um_model.specs.Spellings.{unit_name_at};
 ghost use Rattle.um_model.proofs.InputSpellingsLaws.{canonical_input};
 ghost use Rattle.um_state.specs.Arms.{command_arms, event_at, happening_arms, timed_at};
-ghost use Rattle.um_state.specs.View.{command_of, event_of, happening_of, input_of};
+ghost use Rattle.um_state.specs.View.{command_of, event_of, happening_of, input_of, timed_of};
 
 use crate::boot::BootId;
 use crate::input::{Command, Event, Happening, Input};
 use std::alloc::{AllocError, Global};
-use um_model::{End, InstallVerb, JobMode, Moment, UnitVerb};
+use um_model::{End, InstallVerb, JobMode, Moment, Profile, UnitVerb};
 use um_name::UnitName;
-use um_wire::Canon;
-
-/// The first byte of an input.
-const INPUT_VERSION: u8 = 1;
+use um_wire::{Canon, Tagged};
 
 /// The tag of a command for a unit.
 fn verb_tag(verb: UnitVerb) -> u8
@@ -257,17 +254,33 @@ fn event_in(alloc: Global, tag: u8, bytes: &[u8]) -> Result<Option<(Event, usize
     }
 }
 
-/// What comes in with this tag, whose moment and fields stand in front of the bytes.
-fn input_in(alloc: Global, tag: u8, bytes: &[u8]) -> Result<Option<(Input, usize)>, AllocError>
-    ensures read { IfOk result (λ found. timed_at tag bytes.now ≡ option_map (λ x. (input_of x.0, drop x.1 bytes.now)) found) }
+/// The moment and what comes in with this tag, where the moment and the fields stand in front of the bytes.
+fn timed_in(
+    alloc: Global,
+    tag: u8,
+    bytes: &[u8],
+) -> Result<Option<((Moment, Event), usize)>, AllocError>
+    ensures read { IfOk result (λ found. timed_at tag bytes.now ≡ option_map (λ x. (timed_of x.0, drop x.1 bytes.now)) found) }
     ensures within { IfOk result (λ found. IfSome found (λ x. x.1 ≤ length bytes.now)) }
 {
     let Some((moment, n)) = Moment::get(alloc, bytes)? else {
         return Ok(None);
     };
     match event_in(alloc, tag, &bytes[n..])? {
-        Some((event, m)) => Ok(Some((Input { moment, event }, n + m))),
+        Some((event, m)) => Ok(Some(((moment, event), n + m))),
         None => Ok(None),
+    }
+}
+
+/// The input of this profile with this moment and event.
+fn input_with(profile: Profile, timed: (Moment, Event)) -> Input
+    ensures { input_of result ≡ model_with (profile, timed_of timed) }
+{
+    let (moment, event) = timed;
+    Input {
+        profile,
+        moment,
+        event,
     }
 }
 
@@ -283,19 +296,22 @@ impl Canon for Input {
     ghost reading = { input_at };
 
     fn put(&self, out: &mut Vec<u8>) -> Result<(), AllocError> {
-        out.push(INPUT_VERSION)?;
+        out.push(self.profile.tag())?;
         out.push(self.event.tag())?;
         self.moment.put(out)?;
         self.event.put_fields(out)
     }
 
     fn get(alloc: Global, bytes: &[u8]) -> Result<Option<(Input, usize)>, AllocError> {
-        match bytes {
-            [INPUT_VERSION, tag, rest @ ..] => match input_in(alloc, *tag, rest)? {
-                Some((input, n)) => Ok(Some((input, n + 2))),
-                None => Ok(None),
-            },
-            _ => Ok(None),
+        let [first, tag, rest @ ..] = bytes else {
+            return Ok(None);
+        };
+        let Some(profile) = Profile::from_tag(*first) else {
+            return Ok(None);
+        };
+        match timed_in(alloc, *tag, rest)? {
+            Some((timed, n)) => Ok(Some((input_with(profile, timed), n + 2))),
+            None => Ok(None),
         }
     }
 

@@ -5,8 +5,9 @@ ghost use Rattle.um_model.specs.Dependencies.{CountsFor};
 ghost use Rattle.um_model.specs.InputSpellings.{FitInput, input_limit, input_spelling};
 ghost use Rattle.um_model.specs.Jobs.{AreTidyJobs, jobs_of_unit};
 ghost use Rattle.um_model.specs.Machine as model;
-ghost use Rattle.um_model.specs.Machine.{IsHeld, Run, Step, empty_state};
+ghost use Rattle.um_model.specs.Machine.{IsHeld, Run, Step, empty_of};
 ghost use Rattle.um_model.specs.Refusals.{Refused};
+ghost use Rattle.um_model.specs.declared.profile.Profile.{Profile};
 ghost use Rattle.um_model.specs.Servable.{IsBlank};
 ghost use Rattle.um_model.specs.Service.{AreTidyUnits, Action, ByUnit, state_of_unit};
 ghost use Rattle.um_model.specs.StateSpellings.{FitState, state_at, state_spelling};
@@ -54,9 +55,9 @@ pub fn no_spelling_of_a_state_begins_another()
         → (s ≡ t) × (p ≡ q) }
 {}
 
-/// The empty state has a spelling.
+/// The empty state of each profile has a spelling.
 pub fn the_empty_state_has_a_spelling()
-    ensures { FitState empty_state }
+    ensures { (profile : Profile) → FitState (empty_of profile) }
 {}
 
 /// Each state of a run from one that has a spelling and in which nothing is held has a spelling.
@@ -69,7 +70,7 @@ pub fn each_state_of_a_run_has_a_spelling()
 pub fn no_spelling_of_a_run_is_longer_than_the_weight()
     ensures { (size : ℕ) (s : model.State) (inputs : List model.Input) (t : model.State) (units : ℕ) → IsBlank s → FitState s
         → AllByRecursion FitInput inputs → Run size s inputs t → CountsFor t.loaded (IsHeld t) units
-        → length (state_spelling t) ≤ weight_of t.tree t.loaded units }
+        → length (state_spelling t) ≤ weight_of t.tree t.loaded.entries units }
 {}
 
 /// Each input that can be made has a spelling, where its texts have fewer than 2^32 bytes. It only looks at the input, since its types

@@ -1,7 +1,8 @@
 ghost use Rattle.std.specs.Prelude.{◌≡◌, ◌↔◌, ℕ, List, true, is_some, Contains, string_bytes, IsTrue, IfOk, IfSome, OnOk, OnErr, IfErr, Ok, Err};
 ghost use Rattle.std.specs.Coded.{codes};
 ghost use Rattle.std.specs.FinMap as maps;
-ghost use Rattle.um_model.specs.Machine.{IsHeld, booted, empty_state};
+ghost use Rattle.um_model.specs.Machine.{IsHeld, as_loaded, booted, empty_state};
+ghost use Rattle.um_model.specs.Profiles.{read_by};
 ghost use Rattle.um_model.specs.Service.{with_unit};
 ghost use Rattle.um_model.specs.Standing.{Standing};
 ghost use Rattle.um_model.specs.Jobs.{with_jobs};
@@ -10,6 +11,7 @@ ghost use Rattle.um_name.specs.Names.{IsApart};
 ghost use Rattle.um_state.specs.Rows.{HasSameNumbers, common_names, put_row, timed};
 ghost use Rattle.um_state.specs.Working.{AreRowsOf, next_set};
 ghost use Rattle.um_tree.specs.Code.{tree_code};
+ghost use Rattle.um_unit.specs.View.{tree_read};
 ghost use Rattle.um_wire.specs.Refusal.{refused_of};
 ghost use Rattle.um_wire.specs.declared.refusal.Refusal.TheVariants.{NoMemory};
 
@@ -19,15 +21,18 @@ use crate::shared_tree::SharedTree;
 use crate::units::{Pending, Units};
 use std::alloc::{AllocError, Global};
 use std::marker::Model;
-use um_model::{Moment, NextNumber, UnitJobs, UnitState};
+use um_model::{Moment, NextNumber, Profile, UnitJobs, UnitState};
 use um_name::{Names, UnitName};
 use um_tree::Tree;
+use um_unit::Reading;
 use um_wire::Refusal;
 
 /// The state of the manager.
 pub struct State {
     pub(crate) tree: SharedTree,
     pub(crate) loaded: SharedTree,
+    /// By which the loaded tree is read.
+    pub(crate) profile: Profile,
     pub(crate) boot: BootId,
     pub(crate) clock: Moment,
     pub(crate) next: NextNumber,
@@ -45,7 +50,7 @@ impl Model for State {
     ghost view = { λ s. record {
       state = record {
         tree = s.tree;
-        loaded = s.loaded;
+        loaded = read_by s.profile s.loaded;
         boot = s.boot;
         clock = s.clock;
         next = s.next;
@@ -65,6 +70,7 @@ impl Drop for State {
         let State {
             tree: _tree,
             loaded: _loaded,
+            profile: _,
             boot: _boot,
             clock: _,
             next: _,
@@ -85,6 +91,7 @@ impl State {
         State {
             tree: SharedTree::empty(alloc),
             loaded: SharedTree::empty(alloc),
+            profile: Profile::current(),
             boot: BootId::none(alloc),
             clock: Moment::FIRST,
             next: NextNumber::FIRST,
@@ -105,11 +112,14 @@ impl State {
         self.tree.tree()
     }
 
-    /// The tree as it was last loaded.
-    pub fn loaded(&self) -> &Tree
-        ensures { result.now ≡ (state_of self.now).loaded }
+    /// The tree as it was last loaded, with the profile by which it is read.
+    pub fn loaded(&self) -> Reading<'_>
+        ensures { tree_read result ≡ (state_of self.now).loaded }
     {
-        self.loaded.tree()
+        Reading {
+            tree: self.loaded.tree(),
+            profile: self.profile,
+        }
     }
 
     /// The boot's id.
@@ -197,25 +207,28 @@ impl State {
         self.tree.remove(path)
     }
 
-    /// Loads the tree in hand. Where memory is refused, all is as before.
-    pub fn reload(&mut self) -> Result<(), AllocError>
-        ensures ok { OnOk result (state_of self.new ≡ record (state_of self.old) { loaded = (state_of self.old).tree }) }
+    /// Loads the tree in hand for an input of this profile, by which it is read from now on, or by the loaded profile where that is later. Where memory
+    /// is refused, all is as before.
+    pub fn reload(&mut self, profile: Profile) -> Result<(), AllocError>
+        ensures ok { OnOk result (state_of self.new ≡ record (state_of self.old) { loaded = as_loaded profile (state_of self.old) (state_of self.old).tree }) }
         ensures err { OnErr result (state_of self.new ≡ state_of self.old) }
         ensures numbers { HasSameNumbers self.old self.new }
     {
         self.loaded = self.tree.copy()?;
+        self.profile = self.profile.later(profile);
         Ok(())
     }
 
-    /// Takes the tree in hand and loads it. Where memory is refused, all is as before.
-    pub fn load_tree(&mut self, tree: Tree) -> Result<(), AllocError>
-        ensures ok { OnOk result (state_of self.new ≡ record (state_of self.old) { tree = tree; loaded = tree }) }
+    /// Takes the tree in hand and loads it for an input of this profile. Where memory is refused, all is as before.
+    pub fn load_tree(&mut self, tree: Tree, profile: Profile) -> Result<(), AllocError>
+        ensures ok { OnOk result (state_of self.new ≡ record (state_of self.old) { tree = tree; loaded = as_loaded profile (state_of self.old) tree }) }
         ensures err { OnErr result (state_of self.new ≡ state_of self.old) }
         ensures numbers { HasSameNumbers self.old self.new }
     {
         let tree = SharedTree::of(self.alloc(), tree)?;
         self.loaded = tree.copy()?;
         self.tree = tree;
+        self.profile = self.profile.later(profile);
         Ok(())
     }
 
@@ -279,7 +292,8 @@ impl State {
         self.set_next(next);
     }
 
-    /// Another boot begins: nothing is held of any unit, and what stood under `run/` is gone from both trees. It takes no memory.
+    /// Another boot begins: nothing is held of any unit, and what stood under `run/` is gone from both trees. The loaded profile stays. It takes no
+    /// memory.
     pub fn begin_boot(&mut self, alloc: Global, boot: BootId)
         ensures { state_of self.new ≡ booted boot (state_of self.old) }
     {
@@ -299,6 +313,7 @@ impl State {
             boot: self.boot.copy()?,
             tree: self.tree.copy()?,
             loaded: self.loaded.copy()?,
+            profile: self.profile,
             clock: self.clock,
             next: self.next,
             pending: self.pending.copy()?,

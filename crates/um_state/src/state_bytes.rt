@@ -1,4 +1,4 @@
-//! The canonical bytes of the state: its version and its fields in order.
+//! The canonical bytes of the state: its loaded profile and its other fields in order.
 ghost use Rattle.std.specs.Prelude.{◌≡◌, ◌++◌, true, nat_lt, IfOk, OnOk, OnErr, Some, None, if◌then◌else◌};
 ghost use Rattle.std.specs.List.{list_all};
 ghost use Rattle.std.specs.Option.{option_map};
@@ -14,17 +14,17 @@ use crate::state::State;
 use crate::unit_bytes::are_distinct;
 use crate::units::{Pending, Units};
 use std::alloc::{AllocError, Global};
-use um_model::{Moment, NextNumber};
+use um_model::{Moment, NextNumber, Profile};
 use um_tree::Tree;
-use um_wire::Canon;
-
-/// The first byte of a state.
-const STATE_VERSION: u8 = 1;
+use um_wire::{Canon, Tagged};
 
 /// The fields of a state, in the order of their bytes.
 type Fields = (
-    Tree,
-    (Tree, (BootId, (Moment, (NextNumber, (Units, Pending))))),
+    Profile,
+    (
+        Tree,
+        (Tree, (BootId, (Moment, (NextNumber, (Units, Pending))))),
+    ),
 );
 
 /// Whether each number is below the next one.
@@ -52,12 +52,14 @@ fn is_sound(alloc: Global, state: &State) -> Result<bool, AllocError>
 
 /// The state of these fields.
 fn state_with(alloc: Global, fields: Fields) -> Result<State, AllocError>
-    ensures { IfOk result (λ state. state_of state ≡ of_fields (fields.0, (fields.1.0, (fields.1.1.0, (fields.1.1.1.0, (fields.1.1.1.1.0, (fields.1.1.1.1.1.0.held, fields.1.1.1.1.1.1.held))))))) }
+    ensures { IfOk result (λ state. state_of state ≡ of_fields (fields.0, (fields.1.0, (fields.1.1.0, (fields.1.1.1.0, (fields.1.1.1.1.0,
+        (fields.1.1.1.1.1.0, (fields.1.1.1.1.1.1.0.held, fields.1.1.1.1.1.1.1.held)))))))) }
 {
-    let (tree, (loaded, (boot, (clock, (next, (units, pending)))))) = fields;
+    let (profile, (tree, (loaded, (boot, (clock, (next, (units, pending))))))) = fields;
     Ok(State {
         tree: SharedTree::of(alloc, tree)?,
         loaded: SharedTree::of(alloc, loaded)?,
+        profile,
         boot,
         clock,
         next,
@@ -85,13 +87,13 @@ fn if_sound(alloc: Global, state: State) -> Result<Option<State>, AllocError>
 }
 
 impl State {
-    /// Puts the version and the fields, sound or not.
+    /// Puts the profile and the fields, sound or not.
     fn put_fields(&self, out: &mut Vec<u8>) -> Result<(), AllocError>
         ensures put { OnOk result (out.new.items ≡ out.old.items ++ state_spelling (state_of self.now)) }
         ensures fits { OnOk result (is_sound (state_of self.now) ≡ true → FitState (state_of self.now)) }
         ensures front { OnErr result (IsInFront out.old.items out.new.items) }
     {
-        out.push(STATE_VERSION)?;
+        out.push(self.profile.tag())?;
         self.tree.tree().put(out)?;
         self.loaded.tree().put(out)?;
         self.boot.put(out)?;
@@ -123,15 +125,12 @@ impl Canon for State {
     }
 
     fn get(alloc: Global, bytes: &[u8]) -> Result<Option<(State, usize)>, AllocError> {
-        let [STATE_VERSION, rest @ ..] = bytes else {
-            return Ok(None);
-        };
-        let Some((fields, n)) = Fields::get(alloc, rest)? else {
+        let Some((fields, n)) = Fields::get(alloc, bytes)? else {
             return Ok(None);
         };
         let read = state_with(alloc, fields)?;
         match if_sound(alloc, read)? {
-            Some(state) => Ok(Some((state, n + 1))),
+            Some(state) => Ok(Some((state, n))),
             None => Ok(None),
         }
     }

@@ -1,11 +1,11 @@
 //! The canonical bytes of inputs: each of the 18, typed from the format, and what is no input.
-use crate::spelled::{hex, is_not_read, is_spelled};
+use crate::spelled::{hex, is_not_read, is_read, is_spelled};
 use std::process::Abort;
 use um_asserts::{same, text, unit};
-use um_model::{End, InstallVerb, JobMode, Moment, UnitVerb};
+use um_model::{End, InstallVerb, JobMode, Moment, Profile, UnitVerb};
 use um_state::{BootId, Command, Event, Happening, Input};
 use um_tree::Tree;
-use um_wire::spell;
+use um_wire::{Canon, spell};
 
 /// The unit of each command for one.
 const UNIT: &str = "a.service";
@@ -163,6 +163,29 @@ fn is_input(rt: &(impl AllocGlobal + Abort), coming: &Coming, bytes: &str) {
     drop(input);
 }
 
+/// Inputs that are the same but for the profile, which is the first byte.
+const PROFILES: &[(Profile, &str)] = &[
+    (Profile::One, "01 11 000000000010c8e0"),
+    (Profile::Two, "02 11 000000000010c8e0"),
+    (Profile::One, "01 04 000000000010c8e0"),
+    (Profile::Two, "02 04 000000000010c8e0"),
+];
+
+/// Asserts that an input of this profile is read from the bytes, and is spelled by them.
+fn is_of_profile(rt: &(impl AllocGlobal + Abort), profile: Profile, bytes: &[u8]) {
+    is_read::<Input>(rt, bytes);
+    let found = Input::get(rt.alloc(), bytes).expect(rt, "no memory");
+    let (input, _) = found.expect(rt, "it isn't read");
+    same!(rt, input.profile(), profile);
+}
+
+#[test]
+fn inputs_of_each_profile_are_read(rt: HostRuntime) {
+    for (profile, bytes) in PROFILES {
+        is_of_profile(&rt, *profile, hex(&rt, bytes).as_slice());
+    }
+}
+
 #[test]
 fn inputs_are_spelled_by_their_tags(rt: HostRuntime) {
     for (coming, bytes) in INPUTS {
@@ -200,7 +223,10 @@ fn the_longest_input_that_is_accepted_has_66078_bytes(rt: HostRuntime) {
 
 /// What is no input, and why.
 const NONE: &[(&str, &str)] = &[
-    ("another version", "02 11 000000000010c8e0"),
+    ("profile 0", "00 11 000000000010c8e0"),
+    ("profile 3", "03 11 000000000010c8e0"),
+    ("profile 255", "ff 11 000000000010c8e0"),
+    ("no profile", ""),
     ("no tag", "01"),
     ("tag 0", "01 00 000000000010c8e0"),
     ("tag 19", "01 13 000000000010c8e0"),

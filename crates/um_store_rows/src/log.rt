@@ -3,7 +3,7 @@ use crate::answers::{change, filled, sector_at};
 use std::fmt::Debug;
 use std::process::Abort;
 use um_asserts::{is_refused, same, same_at};
-use um_log::{Layout, Log, Record, scan};
+use um_log::{Format, Layout, Log, Record, scan};
 use um_sector::{Disk, Fuse, MemDisk};
 
 /// The first sector of the log, of slots of 64 sectors.
@@ -47,7 +47,9 @@ fn has_records<D: Disk, R: Debug + Drop>(
     wanted: &[(usize, usize)],
     row: R,
 ) {
-    let records = scan(rt.alloc(), disk, log.layout, log.generation).expect(rt, "no scan");
+    let records = scan(rt.alloc(), disk, Format::One, log.layout, log.generation).expect(
+        rt, "no scan",
+    );
     let told = told(rt, &records);
     same_at!(rt, told.as_slice(), wanted, row);
 }

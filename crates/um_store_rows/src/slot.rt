@@ -4,7 +4,9 @@ use std::fmt::Debug;
 use std::process::Abort;
 use um_asserts::{is_refused, same, same_at};
 use um_sector::{Disk, Fuse, MemDisk, Sector};
-use um_slot::{Home, Layout, Slot, newest, read_superblock, superblock, write_first, write_other};
+use um_slot::{
+    Format, Home, Layout, Slot, newest, read_superblock, superblock, write_first, write_other,
+};
 
 /// Slots of 64 sectors, a log of 512.
 fn small(rt: &impl Abort) -> Layout {
@@ -81,8 +83,12 @@ fn has_places(rt: &impl Abort, layout: Layout) {
 
 /// Asserts that the sector tells the layout of the small store.
 fn tells_layout(rt: &impl Abort, sector_0: &Sector) {
-    let read = read_superblock(sector_0).expect(rt, "no layout");
-    same!(rt, (read.slot_sectors, read.log_sectors), (64, 512));
+    let (format, read) = read_superblock(sector_0).expect(rt, "no layout");
+    same!(
+        rt,
+        (format, read.slot_sectors, read.log_sectors),
+        (Format::One, 64, 512)
+    );
 }
 
 /// Asserts that the sector is refused with this byte in the place of another.
@@ -97,7 +103,7 @@ fn is_ill_with(rt: &(impl AllocGlobal + Abort), sector_0: &Sector, at: usize, by
 #[test]
 fn sector_0_is_written_by_its_layout_and_tells_it(rt: HostRuntime) {
     has_places(&rt, small(&rt));
-    let sector_0 = superblock(small(&rt));
+    let sector_0 = superblock(Format::One, small(&rt));
     let wanted = [
         0x55, 0x4d, 0x44, 0x49, 0x53, 0x4b, 0x30, 0x31, 0, 0, 0, 0x40, 0, 0, 2, 0,
     ];

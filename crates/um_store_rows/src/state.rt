@@ -3,15 +3,15 @@ use crate::spelled::{are_not_read, are_read, hex, is_not_read, is_read, is_spell
 use std::process::Abort;
 use um_asserts::{same_at, text, unit};
 use um_model::{
-    Counted, Deadline, End, JobState, Moment, NextNumber, ProcessNumber, SubState, UnitJobs,
-    UnitResult, UnitState,
+    Counted, Deadline, End, JobState, Moment, NextNumber, ProcessNumber, Profile, SubState,
+    UnitJobs, UnitResult, UnitState,
 };
 use um_name::UnitName;
 use um_state::{BootId, State};
 use um_tree::Tree;
 use um_wire::{Canon, spell};
 
-/// The bytes of the empty state: the version, two empty trees, no boot, the clock, the next number, no unit, no job.
+/// The bytes of the empty state: the loaded profile, two empty trees, no boot, the clock, the next number, no unit, no job.
 const EMPTY: &str = "
     01
     00000000 00000000
@@ -21,7 +21,7 @@ const EMPTY: &str = "
     00000000
     00000000";
 
-/// The version, the tree with a file and a link, the loaded tree without either, the boot, the clock and the next number; then ten
+/// The loaded profile, the tree with a file and a link, the loaded tree without either, the boot, the clock and the next number; then ten
 /// units, each its name and its fields; then the jobs.
 const STATE: &str = "
     01
@@ -70,7 +70,9 @@ const DEAD: &str = "
 
 /// What no state has: a byte of the state above, and what stands in its place.
 const BROKEN: &[(&str, usize, u8)] = &[
-    ("another version", 0, 2),
+    ("profile 0", 0, 0),
+    ("profile 3", 0, 3),
+    ("profile 255", 0, 255),
     ("an entry with another tag", 22, 2),
     ("a path that no tree has", 9, 102),
     ("a path behind the next one", 13, 99),
@@ -316,7 +318,7 @@ fn put(rt: &impl Abort, state: &mut State, path: &str) {
 /// Puts an empty file, and loads the tree.
 fn load(rt: &impl Abort, state: &mut State, path: &str) {
     put(rt, state, path);
-    state.reload().expect(rt, "no memory");
+    state.reload(Profile::One).expect(rt, "no memory");
 }
 
 /// The same state again, in a box.
@@ -328,7 +330,7 @@ fn copied(rt: &(impl AllocGlobal + Abort), state: &State) -> Box<State> {
 /// Asserts in which of the two trees something stands at the path: in the one in hand, in the loaded one.
 fn stands(rt: &impl Abort, state: &State, path: &str, wanted: (bool, bool)) {
     let in_hand = state.tree().get(path).is_some();
-    let is_loaded = state.loaded().get(path).is_some();
+    let is_loaded = state.loaded().tree.get(path).is_some();
     same_at!(rt, (in_hand, is_loaded), wanted, path);
 }
 
@@ -359,7 +361,7 @@ fn state_is_not_read(rt: &(impl AllocGlobal + Abort), bytes: &[u8], row: &str) {
 fn is_of_the_empty_state(rt: &(impl AllocGlobal + Abort), bytes: &[u8]) {
     assert!(rt; bytes.len() == 37, "the empty state has other bytes");
     is_spelled(rt, empty(rt).as_ref(), bytes);
-    state_is_not_read(rt, &bytes[1..], "no version");
+    state_is_not_read(rt, &bytes[1..], "no profile");
 }
 
 /// Asserts that these are the bytes of the state above.
@@ -372,6 +374,37 @@ fn a_state_is_its_fields_in_order(rt: HostRuntime) {
     is_of_the_empty_state(&rt, hex(&rt, EMPTY).as_slice());
     is_of_the_full_state(&rt, hex(&rt, STATE).as_slice());
     is_read::<State>(&rt, hex(&rt, DEAD).as_slice());
+}
+
+/// The bytes with the tag of another profile in front.
+fn of_profile(rt: &(impl AllocGlobal + Abort), text: &str, tag: u8) -> Vec<u8> {
+    let mut bytes = hex(rt, text);
+    assert!(rt; bytes.len() > 0, "there is no byte");
+    bytes[0] = tag;
+    bytes
+}
+
+#[test]
+fn a_state_of_each_profile_is_read(rt: HostRuntime) {
+    for text in &[EMPTY, STATE, DEAD] {
+        is_read::<State>(&rt, of_profile(&rt, text, 1).as_slice());
+        is_read::<State>(&rt, of_profile(&rt, text, 2).as_slice());
+    }
+}
+
+/// Asserts that the state is the empty one but for the profile, of this tag.
+fn is_empty_of(rt: &(impl AllocGlobal + Abort), state: &State, tag: u8) {
+    is_spelled(rt, state, of_profile(rt, EMPTY, tag).as_slice());
+}
+
+#[test]
+fn a_tree_is_loaded_by_the_later_profile(rt: HostRuntime) {
+    let mut state = empty(&rt);
+    is_empty_of(&rt, &state, 1);
+    state.reload(Profile::Two).expect(&rt, "no memory");
+    is_empty_of(&rt, &state, 2);
+    state.reload(Profile::One).expect(&rt, "no memory");
+    is_empty_of(&rt, &state, 2);
 }
 
 #[test]

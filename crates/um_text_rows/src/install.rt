@@ -3,8 +3,10 @@ use crate::answers::{list, tree_of};
 use std::process::Abort;
 use um_asserts::{same_at, unit};
 use um_install::{Installed, disable, enable, mask, unmask};
+use um_model::Profile;
 use um_name::UnitName;
 use um_tree::{Entry, Tree};
+use um_unit::Reading;
 use um_wire::Refusal;
 
 /// A service that a target wants once it is enabled.
@@ -55,11 +57,15 @@ fn install(
     tree: &Tree,
     unit: &UnitName,
 ) -> Result<Installed, Refusal> {
+    let reading = Reading {
+        tree,
+        profile: Profile::One,
+    };
     match verb {
-        "enable" => enable(rt.alloc(), tree, unit),
-        "disable" => disable(rt.alloc(), tree, unit),
-        "mask" => mask(rt.alloc(), tree, unit),
-        _ => unmask(rt.alloc(), tree, unit),
+        "enable" => enable(rt.alloc(), reading, unit),
+        "disable" => disable(rt.alloc(), reading, unit),
+        "mask" => mask(rt.alloc(), reading, unit),
+        _ => unmask(rt.alloc(), reading, unit),
     }
 }
 

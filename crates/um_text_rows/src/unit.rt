@@ -2,9 +2,11 @@
 use crate::answers::{Wanted, commands_of, list, put, variables_of};
 use std::process::Abort;
 use um_asserts::{same_at, unit};
-use um_model::{End, RestartPolicy, Span, UnitKind};
+use um_model::{End, Profile, RestartPolicy, Span, UnitKind};
 use um_tree::{Entry, Tree};
-use um_unit::{FileWarnings, InstallSettings, LoadedUnit, Loading, ServiceSettings, Warning, load};
+use um_unit::{
+    FileWarnings, InstallSettings, LoadedUnit, Loading, Reading, ServiceSettings, Warning, load,
+};
 use um_value::ExitSet;
 use um_words::Command;
 
@@ -20,7 +22,12 @@ fn tree_with(rt: &(impl AllocGlobal + Abort), files: &[(&str, &str)]) -> Tree {
 /// What becomes of a unit in a tree of these files. Boxed, as it is large: the prover takes it apart, field by field, wherever it is
 /// let go.
 fn loaded(rt: &(impl AllocGlobal + Abort), name: &str, files: &[(&str, &str)]) -> Box<Loading> {
-    let loading = load(rt.alloc(), &tree_with(rt, files), &unit!(rt, name)).expect(rt, "no memory");
+    let tree = tree_with(rt, files);
+    let reading = Reading {
+        tree: &tree,
+        profile: Profile::One,
+    };
+    let loading = load(rt.alloc(), reading, &unit!(rt, name)).expect(rt, "no memory");
     Box::new(rt.alloc(), loading).expect(rt, "no memory")
 }
 

@@ -8,7 +8,7 @@ use Rattle.um_model.specs.Plan.{Scene}
 use Rattle.um_model.specs.Reached.{next}
 use Rattle.um_model.specs.Refusals.{Refused}
 use Rattle.um_model.specs.Service.{ByUnit}
-use Rattle.um_model.specs.Tree.{Tree}
+use Rattle.um_model.specs.Profiles.{ReadTree}
 use Rattle.um_model.specs.Units.{LoadedUnit, load}
 use Rattle.um_model.specs.declared.dependencies.DependencyKind.{DependencyKind}
 use Rattle.um_model.specs.declared.dependencies.DependencyKind.TheVariants.{Wants, Requires}
@@ -29,7 +29,7 @@ use Rattle.um_model.specs.declared.service.ActiveState.TheVariants.{Inactive}
 use Rattle.um_graph.proofs.NamedLaws.{among_or_apart, got_within, item_at, name_got, name_is, names_once}
 use Rattle.um_jobs.proofs.NamedLaws.{jobs_by_at, jobs_by_none}
 
-module _ (tree : Tree) (Extra : List ℕ → Type 0) (g : GraphView) (is : IsGraph g) (of : IsGraphOf tree Extra g) where
+module _ (tree : ReadTree) (Extra : List ℕ → Type 0) (g : GraphView) (is : IsGraph g) (of : IsGraphOf tree Extra g) where
   -- the known units have numbers
   number : (x : List ℕ) → IsKnown tree Extra x → (i : ℕ) × IsNumberOf g i x
   number x k = let c = (of.known x).1 k in (c.0, slice_get-get_or g.names c.0 x c.1 ∙ ap Some c.2)

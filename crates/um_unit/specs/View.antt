@@ -3,8 +3,10 @@ use Rattle.std.specs.Prelude.{ℕ, List, None, option_map, map, string_bytes}
 use Rattle.std.specs.List.{flat_map}
 use Rattle.um_model.specs.Resolution.{Resolution, AtFile, AtNoFile, AtMask, Nowhere}
 use Rattle.um_model.specs.FileForms.{without_install}
+use Rattle.um_model.specs.Profiles.{ReadTree, read_by}
 use Rattle.um_model.specs.Units as model
 use Rattle.um_unit.specs.ServiceView.{service_settings_of}
+use Rattle.um_unit.specs.declared.reading.Reading.{Reading}
 use Rattle.um_unit.specs.declared.warnings.FileWarnings.{FileWarnings}
 use Rattle.um_unit.specs.declared.warnings.Warning.{Warning}
 use Rattle.um_unit.specs.declared.settings.Dependencies.{Dependencies}
@@ -15,6 +17,10 @@ use Rattle.um_unit.specs.declared.singles.TypeSaid.TheVariants as said
 use Rattle.um_unit.specs.declared.loaded.LoadedUnit.{LoadedUnit}
 use Rattle.um_unit.specs.declared.loaded.Loading.{Loading}
 use Rattle.um_unit.specs.declared.loaded.Loading.TheVariants as loading
+
+-- the tree that is read so
+abbrev pub tree_read : Reading → ReadTree
+tree_read r = read_by r.profile r.tree.now
 
 -- a warning of the file at the path
 abbrev pub warning_of : List ℕ → Warning → model.Warning

@@ -1,7 +1,7 @@
 //! What the definitions of settings, of warnings and of names say together, as functions that do nothing.
 
 ghost use Rattle.std.specs.Prelude.{◌≡◌, ℕ, List, is_none};
-ghost use Rattle.um_model.specs.Tree.{Tree};
+ghost use Rattle.um_model.specs.Profiles.{ReadTree};
 ghost use Rattle.um_model.specs.Units.{load, name_in, unit_named, value_warning};
 ghost use Rattle.um_model.specs.declared.units.ValueKind as kinds;
 ghost use Rattle.um_model.specs.Units.{counts};
@@ -13,5 +13,5 @@ pub fn a_value_counts_or_warns()
 
 /// The unit that counts for a name, by where the name leads alone, is the one that is found under it.
 pub fn the_unit_of_a_name_is_the_one_found()
-    ensures { (tree : Tree) (asked : List ℕ) → unit_named tree asked ≡ name_in asked (load tree asked) }
+    ensures { (tree : ReadTree) (asked : List ℕ) → unit_named tree.entries asked ≡ name_in asked (load tree asked) }
 {}

@@ -4,18 +4,18 @@ ghost use Rattle.std.specs.Prelude.{◌≡◌, IfOk, Some, None, map};
 ghost use Rattle.um_model.specs.FileForms.{without_install};
 ghost use Rattle.um_model.specs.Units as model;
 ghost use Rattle.um_resolve.specs.View.{resolution_of, unit_file_of};
-ghost use Rattle.um_unit.specs.View.{loading_of, loading_with, unit_of};
+ghost use Rattle.um_unit.specs.View.{loading_of, loading_with, tree_read, unit_of};
 
 use crate::assignments::assignments;
 use crate::contents::{Contents, contents_of};
 use crate::loaded::{LoadedUnit, Loading};
+use crate::reading::Reading;
 use crate::reasons::reason_of;
 use crate::settings::{InstallSettings, settings_of};
 use std::alloc::{AllocError, Global};
 use std::rc::Rc;
 use um_name::UnitName;
 use um_resolve::{Resolution, SourceFile, resolve, source_files};
-use um_tree::Tree;
 
 /// A unit with a file: found, unless a setting is refused.
 fn loading_by_file(
@@ -81,14 +81,14 @@ fn loading_at(
     }
 }
 
-/// The unit of that name in the tree: found, masked, not found, or refused for a setting. Names lead on by links, templates
+/// The unit of that name in the tree as it is read: found, masked, not found, or refused for a setting. Names lead on by links, templates
 /// and masks (systemd.unit(5), "Unit File Load Path"); drop-ins are read behind the unit's own file. Units of the types other
 /// than service and target are never found; `shutdown.target` is found even where nothing holds it.
 #[tactic(auto, unfolding(um_model::specs::Units::load))]
-pub fn load(alloc: Global, tree: &Tree, unit: &UnitName) -> Result<Loading, AllocError>
-    ensures { IfOk result (λ l. loading_of l ≡ model.load tree.now unit.now) }
+pub fn load(alloc: Global, reading: Reading<'_>, unit: &UnitName) -> Result<Loading, AllocError>
+    ensures { IfOk result (λ l. loading_of l ≡ model.load (tree_read reading.entry) unit.now) }
 {
-    let resolution = resolve(alloc, tree, unit)?;
-    let files = source_files(alloc, tree, &resolution)?;
+    let resolution = resolve(alloc, reading.tree, unit)?;
+    let files = source_files(alloc, reading.tree, &resolution)?;
     loading_at(alloc, &resolution, files.as_slice())
 }

@@ -9,6 +9,7 @@ use Rattle.std.specs.Result.{result_unwrap_or}
 use Rattle.std.specs.Str.{bytes_eq}
 use Rattle.um_model.specs.Keys.{is_known_section, is_refused_key}
 use Rattle.um_model.specs.Names.{suffix_of}
+use Rattle.um_model.specs.Profiles.{current, read_by}
 use Rattle.um_model.specs.Requests.{is_among}
 use Rattle.um_model.specs.Resolution.{UnitFile, files_at, resolution_of}
 use Rattle.um_model.specs.Syntax.{Item, Assignment, Placed}
@@ -114,7 +115,8 @@ is_loaded other = false
 -- a command can be read of the value of an ExecStart= of the unit: a oneshot service with it alone can be loaded
 unfoldable pub holds_command : (unit value : List ℕ) → Bool
 holds_command unit value =
-    is_loaded (load (tree_with ((codes "lib/" ++ unit, codes "[Service]\nType=oneshot\nExecStart=" ++ (value ++ codes "\n")) ∷ [])) unit)
+    is_loaded
+    (load (read_by current (tree_with ((codes "lib/" ++ unit, codes "[Service]\nType=oneshot\nExecStart=" ++ (value ++ codes "\n")) ∷ []))) unit)
 
 -- the assignments of ExecStart= that count so far, with one more: an empty value takes those before it back
 abbrev pub with_start : (unit : List ℕ) → List Spot → Spot → List Spot
@@ -213,7 +215,8 @@ TellsIn tree unit reason t text = (r : Reason) × Spells r reason × TellsReason
 -- the reason why the unit can't be loaded is told where it stands, and the tree is without it behind that
 abbrev pub TakesOut : (before after : Tree) → (unit : List ℕ) → Told → Type 0
 TakesOut before after unit t =
-    (named reason text : List ℕ) × (load before unit ≡ BadSetting named reason) × TellsIn before named reason t text × (put_file before t.path text ≡ Ok after)
+    (named reason text : List ℕ) × (load (read_by current before) unit ≡ BadSetting named reason) × TellsIn before named reason t text
+    × (put_file before t.path text ≡ Ok after)
 
 -- these reasons are told, one behind the other, each by the tree that the one before has left
 abbrev pub Tells : (before : Tree) → (unit : List ℕ) → List Told → (after : Tree) → Type 0

@@ -2,6 +2,7 @@
 use Rattle.std.specs.Prelude.{◌≡◌, ◌⊎◌, ◌++◌, Ok, List, [], ℕ, true, Option, None, IsPermutation, MatchOption, map, string_bytes}
 use Rattle.um_model.specs.FileForms.{in_sections}
 use Rattle.um_model.specs.Names.{named}
+use Rattle.um_model.specs.Profiles.{current, read_by}
 use Rattle.um_model.specs.Tree.{Tree, put_file}
 use Rattle.um_model.specs.Units.{BadSetting, Found, LoadedUnit, Masked, NotFound, Source, load}
 use Rattle.um_syntax.specs.Items.{item_of}
@@ -46,15 +47,15 @@ IsTaken before after unit reason (taken.Left f) = before ≡ after
 -- what is told behind the reasons: the warnings of the unit that is found then, or whatever is told where a reason couldn't be taken out
 abbrev pub IsRest : Tree → List ℕ → List Finding → Type 0
 IsRest tree unit rest =
-    ((u : LoadedUnit) × (load tree unit ≡ Found u) × (map place_of rest ≡ map model.warning_place u.warnings))
-    ⊎ ((named reason : List ℕ) × (load tree unit ≡ BadSetting named reason))
+    ((u : LoadedUnit) × (load (read_by current tree) unit ≡ Found u) × (map place_of rest ≡ map model.warning_place u.warnings))
+    ⊎ ((named reason : List ℕ) × (load (read_by current tree) unit ≡ BadSetting named reason))
 
 -- what became of a look, by the tree that is left
 abbrev pub EndsAs : Tree → List ℕ → List model.Told → Looked → Type 0
 EndsAs tree unit reasons (looked.Found found) =
     (first rest : List Finding) × (found.items ≡ first ++ rest) × (map told_of first ≡ reasons) × IsRest tree unit rest
-EndsAs tree unit reasons looked.Masked = (named : List ℕ) × (load tree unit ≡ Masked named)
-EndsAs tree unit reasons looked.NotFound = load tree unit ≡ NotFound
+EndsAs tree unit reasons looked.Masked = (named : List ℕ) × (load (read_by current tree) unit ≡ Masked named)
+EndsAs tree unit reasons looked.NotFound = load (read_by current tree) unit ≡ NotFound
 
 -- each reason is told, one behind the other, and then the warnings
 abbrev pub LooksAt : (before after : Tree) → List ℕ → Looked → Type 0

@@ -1,10 +1,14 @@
 //! Files that are given by their texts, as a tree.
 
 ghost use Rattle.std.specs.Prelude.{◌≡◌, IfOk, OnOk, map};
+ghost use Rattle.um_model.specs.Profiles.{current, read_by};
+ghost use Rattle.um_unit.specs.View.{tree_read};
 ghost use Rattle.um_verify.specs.Findings.{tree_with, with_file};
 
 use std::alloc::{AllocError, Global};
+use um_model::Profile;
 use um_tree::Tree;
+use um_unit::Reading;
 use um_wire::Refusal;
 
 /// Puts a file into the tree; one that can't stand there is left out.
@@ -18,6 +22,16 @@ fn put(tree: &mut Tree, path: &str, text: &str) -> Result<(), AllocError>
             Ok(())
         }
         Ok(()) => Ok(()),
+    }
+}
+
+/// The tree as it is read: by the current profile.
+pub(crate) fn read_now(tree: &Tree) -> Reading<'_>
+    ensures { tree_read result ≡ read_by current tree.now }
+{
+    Reading {
+        tree,
+        profile: Profile::current(),
     }
 }
 

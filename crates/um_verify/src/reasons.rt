@@ -7,6 +7,7 @@ ghost use Rattle.um_verify.specs.View.{IsTaken, LooksAt, place_of};
 ghost use Rattle.um_verify.specs.declared.finding.Finding as findings_of;
 
 use crate::finding::Finding;
+use crate::given::read_now;
 use crate::marking::line_text;
 use crate::obstacle::{Obstacle, obstacle_of};
 use std::alloc::{AllocError, Global};
@@ -134,7 +135,7 @@ pub fn look_at(alloc: Global, tree: &mut Tree, unit: &UnitName) -> Result<Looked
 {
     let mut findings = Vec::new(alloc);
     for _ in 0..u64::MAX {
-        match load(alloc, tree, unit)? {
+        match load(alloc, read_now(tree), unit)? {
             Loading::Found(found) => {
                 let all = with_warnings(alloc, tree, findings, &found)?;
                 return Ok(Looked::Found(all));

@@ -5,7 +5,7 @@ ghost use Rattle.um_unit.specs.View.{loading_of};
 ghost use Rattle.um_verify.specs.Findings as model;
 ghost use Rattle.um_verify.specs.View.{spot_of};
 
-use crate::given::tree_of;
+use crate::given::{read_now, tree_of};
 use crate::spots::Spot;
 use std::alloc::{AllocError, Global};
 use um_name::UnitName;
@@ -29,7 +29,7 @@ fn holds_command(alloc: Global, unit: &UnitName, value: &str) -> Result<bool, Al
     let path = format!(in alloc; "lib/{name}")?;
     let text = format!(in alloc; "[Service]\nType=oneshot\nExecStart={value}\n")?;
     let tree = tree_of(alloc, &[(path.as_str(), text.as_str())])?;
-    let loading = load(alloc, &tree, unit)?;
+    let loading = load(alloc, read_now(&tree), unit)?;
     Ok(is_loaded(&loading))
 }
 

@@ -1,10 +1,10 @@
-//! What the state holds of one unit: choices by their tags, how a process ended, a start window, and the unit.
+//! What the state holds of one unit, and its profile: choices by their tags, how a process ended, a start window, and the unit.
 ghost use Rattle.um_model.specs.InputSpellings.{mode_tag, modes};
 ghost use Rattle.um_model.specs.Spellings.{FitCounted, FitEnd, FitUnit, counted_at, counted_spelling, end_at, end_spelling, unit_at, unit_of, unit_spelling};
-ghost use Rattle.um_model.specs.Spellings.{job_state_tag, job_states, kind_tag, kinds, result_tag, results, sub_states, sub_tag};
+ghost use Rattle.um_model.specs.Spellings.{job_state_tag, job_states, kind_tag, kinds, profile_of, profile_tag, result_tag, results, sub_states, sub_tag};
 ghost use Rattle.um_model.proofs.InputSpellingsLaws.{mode_again, mode_back};
 ghost use Rattle.um_model.proofs.SpellingsLaws.{canonical_counted, canonical_end, canonical_unit};
-ghost use Rattle.um_model.proofs.SpellingsLaws.{job_state_again, job_state_back, kind_again, kind_back, result_again, result_back, sub_again, sub_back};
+ghost use Rattle.um_model.proofs.SpellingsLaws.{job_state_again, job_state_back, kind_again, kind_back, profile_again, profile_back, result_again, result_back, sub_again, sub_back};
 ghost use Rattle.um_model.specs.declared.limit.Counted as counted;
 ghost use Rattle.um_model.specs.declared.service.End as end;
 ghost use Rattle.um_model.specs.declared.service.UnitState as unit;
@@ -15,7 +15,7 @@ use crate::canon::Canon;
 use crate::choices::Tagged;
 use std::alloc::{AllocError, Global};
 use um_model::{
-    Counted, Deadline, End, JobKind, JobMode, JobState, Moment, ProcessNumber, SubState,
+    Counted, Deadline, End, JobKind, JobMode, JobState, Moment, ProcessNumber, Profile, SubState,
     UnitResult, UnitState,
 };
 
@@ -172,6 +172,31 @@ impl Tagged for JobMode {
     ghost again = { mode_again };
 
     ghost back = { mode_back };
+}
+
+impl Tagged for Profile {
+    ghost tag_of = { profile_tag };
+
+    ghost with_tag = { profile_of };
+
+    fn tag(&self) -> u8 {
+        match self {
+            Profile::One => 1,
+            Profile::Two => 2,
+        }
+    }
+
+    fn from_tag(tag: u8) -> Option<Profile> {
+        match tag {
+            1 => Some(Profile::One),
+            2 => Some(Profile::Two),
+            _ => None,
+        }
+    }
+
+    ghost again = { profile_again };
+
+    ghost back = { profile_back };
 }
 
 impl Canon for End {

@@ -25,7 +25,7 @@ returns-in-Cat c loads =
 
 pub returns-in-IsEnabled : goal.returns-in-IsEnabled
 returns-in-IsEnabled c loads =
-    let enabled = rw c.tree-in-IsEnabled.ensures at c.enabled_as.ensures in
+    let enabled = rw c.in_hand.ensures at c.enabled_as.ensures in
     rw c.in-IsEnabled.is (IfOk-weaker c.enabled_as.result _ _ (λ r is. tells_enabling_so (state_of c.args.state.now) c.in-IsEnabled.unit (reply_of r) is) enabled)
 
 pub returns-in-ListUnits : goal.returns-in-ListUnits

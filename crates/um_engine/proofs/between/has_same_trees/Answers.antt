@@ -8,10 +8,10 @@ returns-then-not-is_same_tree c = (
   λ e. absurd (true≢false (sym (c.is_same_tree.ensures.1 (c.tree.ensures ∙ (e.0 ∙ sym c.tree-2.ensures))) ∙ c.if-not-is_same_tree.true)),
 )
 
-pub returns-then-not-is_same_tree-2 : goal.returns-then-not-is_same_tree-2
-returns-then-not-is_same_tree-2 c = (
+pub returns-then-not-is_same_reading : goal.returns-then-not-is_same_reading
+returns-then-not-is_same_reading c = (
   λ t. absurd (true≢false (sym t)),
-  λ e. absurd (true≢false (sym (c.is_same_tree-2.ensures.1 (c.loaded.ensures ∙ (e.1 ∙ sym c.loaded-2.ensures))) ∙ c.if-not-is_same_tree-2.true)),
+  λ e. absurd (true≢false (sym (c.is_same_reading.ensures.1 (c.loaded.ensures ∙ (e.1 ∙ sym c.loaded-2.ensures))) ∙ c.if-not-is_same_reading.true)),
 )
 
 pub returns : goal.returns
@@ -21,7 +21,7 @@ returns c =
     let other = c.as_str-2.ensures.text ∙ c.boot-2.ensures in (
       λ t. (
         sym c.tree.ensures ∙ (c.is_same_tree.ensures.0 c.if-not-is_same_tree.false ∙ c.tree-2.ensures),
-        sym c.loaded.ensures ∙ (c.is_same_tree-2.ensures.0 c.if-not-is_same_tree-2.false ∙ c.loaded-2.ensures),
+        sym c.loaded.ensures ∙ (c.is_same_reading.ensures.0 c.if-not-is_same_reading.false ∙ c.loaded-2.ensures),
         sym one ∙ (boots.0 (sym c.eq.ensures ∙ t) ∙ other),
       ),
       λ e. c.eq.ensures ∙ boots.1 (one ∙ (e.2 ∙ sym other)),

@@ -5,6 +5,7 @@ use Rattle.um_model.specs.Dependencies.{IsKnown}
 use Rattle.um_model.specs.Machine.{State, IsHeld}
 use Rattle.um_name.specs.Names.{AreAscending}
 use Rattle.um_state.specs.View.{state_of}
+use Rattle.um_unit.specs.View.{tree_read}
 use Rattle.um_engine.specs.Known.{KnownView, KnowsFor}
 use Rattle.um_engine.proofs.NamesLaws.{known_by_list}
 use Rattle.um_engine.proofs.between.known_names.Goals as goal
@@ -30,8 +31,8 @@ returns-clause-known c =
     let held = c.in_ok-held.held.items in
     let units = c.in_ok-units.units.items in
     subst (λ (x : State). (unit : List ℕ) → Contains c.in_ok-names-2.names unit ↔ IsKnown x.loaded (IsHeld x) unit) c.state-state.ensures.state
-    (known_by_list c.loaded.result.now s c.in_ok-names-2.names held units c.loaded.ensures c.in_ok-held.ensures
-    (subst (λ xs. (unit : List ℕ) → Contains units unit ↔ IsKnown c.loaded.result.now (Contains xs) unit) c.deref.ensures.value c.in_ok-units.ensures.known)
+    (known_by_list (tree_read c.loaded.result) s c.in_ok-names-2.names held units c.loaded.ensures c.in_ok-held.ensures
+    (subst (λ xs. (unit : List ℕ) → Contains units unit ↔ IsKnown (tree_read c.loaded.result) (Contains xs) unit) c.deref.ensures.value c.in_ok-units.ensures.known)
     (subst (λ xs. (unit : List ℕ) → list_any (bytes_eq unit) c.in_ok-names-2.names ≡ list_any (bytes_eq unit) xs) c.deref-2.ensures.value c.in_ok-names-2.ensures.whole))
 
 pub returns-clause-ascending : goal.returns-clause-ascending

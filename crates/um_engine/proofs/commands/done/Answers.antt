@@ -2,6 +2,7 @@ use Rattle.std.proofs.Common.{◌≡◌, ◌≢◌, ◌∙◌, ℕ, List, [], Re
 use Rattle.um_model.specs.Machine as model
 use Rattle.um_model.specs.Machine.{State, Command}
 use Rattle.um_model.specs.Refusals.{Refused}
+use Rattle.um_model.specs.declared.profile.Profile.{Profile}
 use Rattle.um_model.specs.Tree.{Tree}
 use Rattle.std.specs.Result.{IsErrAnd}
 use Rattle.um_wire.specs.Gives.{RefusesBy}
@@ -19,14 +20,14 @@ at_command : (P : State → Command → Type 0) (x s : State) (command q : Comma
 at_command P x s command q here is h = subst (λ (y : State). P y q) here (subst (P x) (sym is) h)
 
 -- a call that gives on the refusal of the command
-gives_on : {X : Type 0} (x s : State) (command q : Command) (result : Result X Refusal) (e : Refusal) → x ≡ s → q ≡ command → IsErrAnd result (λ f. f ≡ e)
-    → (e ≢ NoMemory → model.Refuses x command (refused_of e)) → RefusesBy (model.Refuses s q) result
-gives_on x s command q result e here is on cause =
-    refuses_on (model.Refuses s q) result e on (at_command (λ y p. e ≢ NoMemory → model.Refuses y p (refused_of e)) x s command q here is cause)
+gives_on : {X : Type 0} (profile : Profile) (x s : State) (command q : Command) (result : Result X Refusal) (e : Refusal) → x ≡ s → q ≡ command → IsErrAnd result (λ f. f ≡ e)
+    → (e ≢ NoMemory → model.Refuses profile x command (refused_of e)) → RefusesBy (model.Refuses profile s q) result
+gives_on profile x s command q result e here is on cause =
+    refuses_on (model.Refuses profile s q) result e on (at_command (λ y p. e ≢ NoMemory → model.Refuses profile y p (refused_of e)) x s command q here is cause)
 
 -- a command that isn't refused
-free_of : (x s : State) (command q : Command) → x ≡ s → q ≡ command → ((r : Refused) → ¬ model.Refuses x command r) → (r : Refused) → ¬ model.Refuses s q r
-free_of x s command q here is free = at_command (λ y p. (r : Refused) → ¬ model.Refuses y p r) x s command q here is free
+free_of : (profile : Profile) (x s : State) (command q : Command) → x ≡ s → q ≡ command → ((r : Refused) → ¬ model.Refuses profile x command r) → (r : Refused) → ¬ model.Refuses profile s q r
+free_of profile x s command q here is free = at_command (λ y p. (r : Refused) → ¬ model.Refuses profile y p r) x s command q here is free
 
 -- the command as it is read
 puts : (q : Command) (path path' text text' : List ℕ) → q ≡ model.PutFile path text → path' ≡ path → text' ≡ text → q ≡ model.PutFile path' text'
@@ -46,7 +47,7 @@ answers q command before after is done = sym (subst (λ (p : Command). model.rep
 pub returns-in_ok-reloaded-in-DaemonReload-clause-does : goal.returns-in_ok-reloaded-in-DaemonReload-clause-does
 returns-in_ok-reloaded-in-DaemonReload-clause-does c =
     let u = c.in_ok-reloaded-in-DaemonReload.field-0.state in
-    let told = at_command (λ x q. model.Changes x q u) (state_of c.state-state.result.now) c.args.served.now.state model.DaemonReload (command_of c.args.command.now) c.state-state.ensures.state (ap command_of c.in-DaemonReload.is) c.in_ok-reloaded-in-DaemonReload.ensures.changed in
+    let told = at_command (λ x q. model.Changes c.args.profile x q u) (state_of c.state-state.result.now) c.args.served.now.state model.DaemonReload (command_of c.args.command.now) c.state-state.ensures.state (ap command_of c.in-DaemonReload.is) c.in_ok-reloaded-in-DaemonReload.ensures.changed in
     does_so c.args.moment c.args.served.now.state u u (command_of c.args.command.now) [] told refl refl
 
 pub returns-in_ok-outcome-in-ForUnit-clause-does : goal.returns-in_ok-outcome-in-ForUnit-clause-does
@@ -54,14 +55,14 @@ returns-in_ok-outcome-in-ForUnit-clause-does c =
     let s = c.args.served.now.state in
     let o = c.in_ok-outcome-in-ForUnit.outcome in
     does_so c.args.moment s (state_by o) (state_by o) (command_of c.args.command.now) (actions_by o)
-    (subst (λ (q : Command). model.Changes s q (state_by o)) (sym (ap command_of c.in-ForUnit.is)) c.in_ok-outcome-in-ForUnit.ensures.changed) refl c.in_ok-outcome-in-ForUnit.ensures.silent.actions
+    (subst (λ (q : Command). model.Changes c.args.profile s q (state_by o)) (sym (ap command_of c.in-ForUnit.is)) (c.in_ok-outcome-in-ForUnit.ensures.changed c.args.profile)) refl c.in_ok-outcome-in-ForUnit.ensures.silent.actions
 
 pub returns-in_ok-without_waiting-in-Cancel-clause-does : goal.returns-in_ok-without_waiting-in-Cancel-clause-does
 returns-in_ok-without_waiting-in-Cancel-clause-does c =
     let s = c.args.served.now.state in
     let w = c.in_ok-without_waiting-in-Cancel.field-0 in
     does_so c.args.moment s (state_of w.now) (state_of w.now) (command_of c.args.command.now) w.actions
-    (subst (λ (q : Command). model.Changes s q (state_of w.now)) (sym (ap command_of c.in-Cancel.is)) c.in_ok-without_waiting-in-Cancel.ensures.changed) refl c.in_ok-without_waiting-in-Cancel.ensures.actions
+    (subst (λ (q : Command). model.Changes c.args.profile s q (state_of w.now)) (sym (ap command_of c.in-Cancel.is)) (c.in_ok-without_waiting-in-Cancel.ensures.changed c.args.profile)) refl c.in_ok-without_waiting-in-Cancel.ensures.actions
 
 pub returns-in_ok-served-in-Install-clause-does : goal.returns-in_ok-served-in-Install-clause-does
 returns-in_ok-served-in-Install-clause-does c =
@@ -69,7 +70,7 @@ returns-in_ok-served-in-Install-clause-does c =
     let command = model.Install c.in-Install.verb c.in-Install.unit in
     let u = c.in_ok-served-in-Install.served.state in
     does_so c.args.moment s u u (command_of c.args.command.now) []
-    (subst (λ q. model.Changes s q u) (sym (ap command_of c.in-Install.is)) (subst (λ (x : State). model.Changes x command u) c.state-state.ensures.state c.in_ok-served-in-Install.ensures.changed)) refl refl
+    (subst (λ q. model.Changes c.args.profile s q u) (sym (ap command_of c.in-Install.is)) (subst (λ (x : State). model.Changes c.args.profile x command u) c.state-state.ensures.state c.in_ok-served-in-Install.ensures.changed)) refl refl
 
 -- ---- why a command is refused
 
@@ -77,73 +78,73 @@ pub returns-in_err-reloaded-in-DaemonReload-clause-refused : goal.returns-in_err
 returns-in_err-reloaded-in-DaemonReload-clause-refused c =
     let s = c.args.served.now.state in
     let e = c.in_err-reloaded-in-DaemonReload.field-0.0 in
-    let step = subst (λ (x : State). e ≢ NoMemory → model.Refuses x model.DaemonReload (refused_of e)) c.state-state.ensures.state
+    let step = subst (λ (x : State). e ≢ NoMemory → model.Refuses c.args.profile x model.DaemonReload (refused_of e)) c.state-state.ensures.state
     c.in_err-reloaded-in-DaemonReload.ensures.refused in
-    refuses_on (model.Refuses s (command_of c.args.command.now)) c.from_residual-in_err-reloaded-in-DaemonReload.result e
+    refuses_on (model.Refuses c.args.profile s (command_of c.args.command.now)) c.from_residual-in_err-reloaded-in-DaemonReload.result e
     c.from_residual-in_err-reloaded-in-DaemonReload.ensures.1
-    (subst (λ (q : Command). e ≢ NoMemory → model.Refuses s q (refused_of e)) (sym (ap command_of c.in-DaemonReload.is)) step)
+    (subst (λ (q : Command). e ≢ NoMemory → model.Refuses c.args.profile s q (refused_of e)) (sym (ap command_of c.in-DaemonReload.is)) step)
 
 pub returns-in_err-outcome-in-ForUnit-clause-refused : goal.returns-in_err-outcome-in-ForUnit-clause-refused
 returns-in_err-outcome-in-ForUnit-clause-refused c =
     let s = c.args.served.now.state in
     let e = c.in_err-outcome-in-ForUnit.field-0.0 in
-    refuses_on (model.Refuses s (command_of c.args.command.now)) c.from_residual-in_err-outcome-in-ForUnit.result e
+    refuses_on (model.Refuses c.args.profile s (command_of c.args.command.now)) c.from_residual-in_err-outcome-in-ForUnit.result e
     c.from_residual-in_err-outcome-in-ForUnit.ensures.1
-    (subst (λ (q : Command). e ≢ NoMemory → model.Refuses s q (refused_of e)) (sym (ap command_of c.in-ForUnit.is)) c.in_err-outcome-in-ForUnit.ensures.refused)
+    (subst (λ (q : Command). e ≢ NoMemory → model.Refuses c.args.profile s q (refused_of e)) (sym (ap command_of c.in-ForUnit.is)) (c.in_err-outcome-in-ForUnit.ensures.refused c.args.profile))
 
 pub returns-in_ok-reloaded-in-DaemonReload-clause-refused : goal.returns-in_ok-reloaded-in-DaemonReload-clause-refused
 returns-in_ok-reloaded-in-DaemonReload-clause-refused c =
-    subst (λ (q : Command). (r : Refused) → model.Refuses c.args.served.now.state q r → ⊥) (sym (ap command_of c.in-DaemonReload.is))
-    (subst (λ (x : State). (r : Refused) → model.Refuses x model.DaemonReload r → ⊥) c.state-state.ensures.state c.in_ok-reloaded-in-DaemonReload.ensures.refused)
+    subst (λ (q : Command). (r : Refused) → model.Refuses c.args.profile c.args.served.now.state q r → ⊥) (sym (ap command_of c.in-DaemonReload.is))
+    (subst (λ (x : State). (r : Refused) → model.Refuses c.args.profile x model.DaemonReload r → ⊥) c.state-state.ensures.state c.in_ok-reloaded-in-DaemonReload.ensures.refused)
 
 pub returns-in_ok-outcome-in-ForUnit-clause-refused : goal.returns-in_ok-outcome-in-ForUnit-clause-refused
 returns-in_ok-outcome-in-ForUnit-clause-refused c =
-    subst (λ (q : Command). (r : Refused) → model.Refuses c.args.served.now.state q r → ⊥) (sym (ap command_of c.in-ForUnit.is))
-    c.in_ok-outcome-in-ForUnit.ensures.refused
+    subst (λ (q : Command). (r : Refused) → model.Refuses c.args.profile c.args.served.now.state q r → ⊥) (sym (ap command_of c.in-ForUnit.is))
+    (c.in_ok-outcome-in-ForUnit.ensures.refused c.args.profile)
 
 pub returns-in_ok-without_waiting-in-Cancel-clause-refused : goal.returns-in_ok-without_waiting-in-Cancel-clause-refused
 returns-in_ok-without_waiting-in-Cancel-clause-refused c =
-    subst (λ (q : Command). (r : Refused) → model.Refuses c.args.served.now.state q r → ⊥) (sym (ap command_of c.in-Cancel.is))
-    c.in_ok-without_waiting-in-Cancel.ensures.refused
+    subst (λ (q : Command). (r : Refused) → model.Refuses c.args.profile c.args.served.now.state q r → ⊥) (sym (ap command_of c.in-Cancel.is))
+    (c.in_ok-without_waiting-in-Cancel.ensures.refused c.args.profile)
 
 pub returns-in_ok-served-in-Install-clause-refused : goal.returns-in_ok-served-in-Install-clause-refused
 returns-in_ok-served-in-Install-clause-refused c =
     let command = model.Install c.in-Install.verb c.in-Install.unit in
-    subst (λ (q : Command). (r : Refused) → model.Refuses c.args.served.now.state q r → ⊥) (sym (ap command_of c.in-Install.is))
-    (subst (λ (x : State). (r : Refused) → model.Refuses x command r → ⊥) c.state-state.ensures.state c.in_ok-served-in-Install.ensures.refused)
+    subst (λ (q : Command). (r : Refused) → model.Refuses c.args.profile c.args.served.now.state q r → ⊥) (sym (ap command_of c.in-Install.is))
+    (subst (λ (x : State). (r : Refused) → model.Refuses c.args.profile x command r → ⊥) c.state-state.ensures.state c.in_ok-served-in-Install.ensures.refused)
 
 pub returns-in_err-served-in-Install-clause-refused : goal.returns-in_err-served-in-Install-clause-refused
 returns-in_err-served-in-Install-clause-refused c =
     let s = c.args.served.now.state in
     let command = model.Install c.in-Install.verb c.in-Install.unit in
     let e = c.in_err-served-in-Install.field-0.0 in
-    let step = subst (λ (x : State). e ≢ NoMemory → model.Refuses x command (refused_of e)) c.state-state.ensures.state c.in_err-served-in-Install.ensures.refused in
-    refuses_on (model.Refuses s (command_of c.args.command.now)) c.from_residual-in_err-served-in-Install.result e
+    let step = subst (λ (x : State). e ≢ NoMemory → model.Refuses c.args.profile x command (refused_of e)) c.state-state.ensures.state c.in_err-served-in-Install.ensures.refused in
+    refuses_on (model.Refuses c.args.profile s (command_of c.args.command.now)) c.from_residual-in_err-served-in-Install.result e
     c.from_residual-in_err-served-in-Install.ensures.1
-    (subst (λ (q : Command). e ≢ NoMemory → model.Refuses s q (refused_of e)) (sym (ap command_of c.in-Install.is)) step)
+    (subst (λ (q : Command). e ≢ NoMemory → model.Refuses c.args.profile s q (refused_of e)) (sym (ap command_of c.in-Install.is)) step)
 
 pub returns-in_err-without_waiting-in-Cancel-clause-refused : goal.returns-in_err-without_waiting-in-Cancel-clause-refused
 returns-in_err-without_waiting-in-Cancel-clause-refused c =
     let s = c.args.served.now.state in
-    gives_on s s (model.Cancel c.in-Cancel.unit) (command_of c.args.command.now) c.from_residual-in_err-without_waiting-in-Cancel.result c.in_err-without_waiting-in-Cancel.field-0.0
-    refl (ap command_of c.in-Cancel.is) c.from_residual-in_err-without_waiting-in-Cancel.ensures.1 c.in_err-without_waiting-in-Cancel.ensures.refused
+    gives_on c.args.profile s s (model.Cancel c.in-Cancel.unit) (command_of c.args.command.now) c.from_residual-in_err-without_waiting-in-Cancel.result c.in_err-without_waiting-in-Cancel.field-0.0
+    refl (ap command_of c.in-Cancel.is) c.from_residual-in_err-without_waiting-in-Cancel.ensures.1 (c.in_err-without_waiting-in-Cancel.ensures.refused c.args.profile)
 
 pub returns-in_err-without_failures-in-ResetFailed-clause-refused : goal.returns-in_err-without_failures-in-ResetFailed-clause-refused
 returns-in_err-without_failures-in-ResetFailed-clause-refused c =
     let s = c.args.served.now.state in
-    gives_on s s (model.ResetFailed c.in-ResetFailed.unit) (command_of c.args.command.now) c.from_residual-in_err-without_failures-in-ResetFailed.result c.in_err-without_failures-in-ResetFailed.field-0.0
-    refl (ap command_of c.in-ResetFailed.is) c.from_residual-in_err-without_failures-in-ResetFailed.ensures.1 c.in_err-without_failures-in-ResetFailed.ensures.refused
+    gives_on c.args.profile s s (model.ResetFailed c.in-ResetFailed.unit) (command_of c.args.command.now) c.from_residual-in_err-without_failures-in-ResetFailed.result c.in_err-without_failures-in-ResetFailed.field-0.0
+    refl (ap command_of c.in-ResetFailed.is) c.from_residual-in_err-without_failures-in-ResetFailed.ensures.1 (c.in_err-without_failures-in-ResetFailed.ensures.refused c.args.profile)
 
 pub returns-in_ok-without_failures-in-ResetFailed-clause-refused : goal.returns-in_ok-without_failures-in-ResetFailed-clause-refused
 returns-in_ok-without_failures-in-ResetFailed-clause-refused c =
     let s = c.args.served.now.state in
-    free_of s s (model.ResetFailed c.in-ResetFailed.unit) (command_of c.args.command.now) refl (ap command_of c.in-ResetFailed.is) c.in_ok-without_failures-in-ResetFailed.ensures.refused
+    free_of c.args.profile s s (model.ResetFailed c.in-ResetFailed.unit) (command_of c.args.command.now) refl (ap command_of c.in-ResetFailed.is) (c.in_ok-without_failures-in-ResetFailed.ensures.refused c.args.profile)
 
 pub returns-in_ok-without_failures-in-ResetFailed-clause-does : goal.returns-in_ok-without_failures-in-ResetFailed-clause-does
 returns-in_ok-without_failures-in-ResetFailed-clause-does c =
     let w = c.in_ok-without_failures-in-ResetFailed.field-0 in
-    subst (λ (q : Command). model.Does c.args.moment c.args.served.now.state q w.actions (state_of w.now)) (sym (ap command_of c.in-ResetFailed.is))
-    c.in_ok-without_failures-in-ResetFailed.ensures.does
+    subst (λ (q : Command). model.Does c.args.profile c.args.moment c.args.served.now.state q w.actions (state_of w.now)) (sym (ap command_of c.in-ResetFailed.is))
+    (c.in_ok-without_failures-in-ResetFailed.ensures.does c.args.profile)
 
 -- ---- what is answered, and on what the work goes
 
@@ -189,20 +190,20 @@ returns-in_ok-outcome-in-PutFile-clause-does c =
     let o = c.in_ok-outcome-in-PutFile.outcome in
     let is : command_of c.args.command.now ≡ model.PutFile c.as_str.result.now c.as_str-in-PutFile.result.now = puts (command_of c.args.command.now) _ c.as_str.result.now _ c.as_str-in-PutFile.result.now (ap command_of c.in-PutFile.is) c.as_str.ensures.value c.as_str-in-PutFile.ensures.value in
     does_so c.args.moment s (state_by o) (state_by o) (command_of c.args.command.now) (actions_by o)
-    (subst (λ (q : Command). model.Changes s q (state_by o)) (sym is) c.in_ok-outcome-in-PutFile.ensures.changed) refl c.in_ok-outcome-in-PutFile.ensures.silent.actions
+    (subst (λ (q : Command). model.Changes c.args.profile s q (state_by o)) (sym is) (c.in_ok-outcome-in-PutFile.ensures.changed c.args.profile)) refl c.in_ok-outcome-in-PutFile.ensures.silent.actions
 
 pub returns-in_err-outcome-in-PutFile-clause-refused : goal.returns-in_err-outcome-in-PutFile-clause-refused
 returns-in_err-outcome-in-PutFile-clause-refused c =
     let s = c.args.served.now.state in
     let e = c.in_err-outcome-in-PutFile.field-0.0 in
     let is : command_of c.args.command.now ≡ model.PutFile c.as_str.result.now c.as_str-in-PutFile.result.now = puts (command_of c.args.command.now) _ c.as_str.result.now _ c.as_str-in-PutFile.result.now (ap command_of c.in-PutFile.is) c.as_str.ensures.value c.as_str-in-PutFile.ensures.value in
-    refuses_on (model.Refuses s (command_of c.args.command.now)) c.from_residual.result e c.from_residual.ensures.1
-    (subst (λ (q : Command). e ≢ NoMemory → model.Refuses s q (refused_of e)) (sym is) c.in_err-outcome-in-PutFile.ensures.refused)
+    refuses_on (model.Refuses c.args.profile s (command_of c.args.command.now)) c.from_residual.result e c.from_residual.ensures.1
+    (subst (λ (q : Command). e ≢ NoMemory → model.Refuses c.args.profile s q (refused_of e)) (sym is) (c.in_err-outcome-in-PutFile.ensures.refused c.args.profile))
 
 pub returns-in_ok-outcome-in-PutFile-clause-refused : goal.returns-in_ok-outcome-in-PutFile-clause-refused
 returns-in_ok-outcome-in-PutFile-clause-refused c =
     let is : command_of c.args.command.now ≡ model.PutFile c.as_str.result.now c.as_str-in-PutFile.result.now = puts (command_of c.args.command.now) _ c.as_str.result.now _ c.as_str-in-PutFile.result.now (ap command_of c.in-PutFile.is) c.as_str.ensures.value c.as_str-in-PutFile.ensures.value in
-    subst (λ (q : Command). (r : Refused) → model.Refuses c.args.served.now.state q r → ⊥) (sym is) c.in_ok-outcome-in-PutFile.ensures.refused
+    subst (λ (q : Command). (r : Refused) → model.Refuses c.args.profile c.args.served.now.state q r → ⊥) (sym is) (c.in_ok-outcome-in-PutFile.ensures.refused c.args.profile)
 
 pub returns-in_ok-outcome-in-PutFile-clause-reply : goal.returns-in_ok-outcome-in-PutFile-clause-reply
 returns-in_ok-outcome-in-PutFile-clause-reply c =
@@ -218,20 +219,20 @@ returns-in_ok-outcome-in-PutLink-clause-does c =
     let o = c.in_ok-outcome-in-PutLink.outcome in
     let is : command_of c.args.command.now ≡ model.PutLink c.as_str-in-PutLink.result.now c.as_str-in-PutLink-2.result.now = links (command_of c.args.command.now) _ c.as_str-in-PutLink.result.now _ c.as_str-in-PutLink-2.result.now (ap command_of c.in-PutLink.is) c.as_str-in-PutLink.ensures.value c.as_str-in-PutLink-2.ensures.value in
     does_so c.args.moment s (state_by o) (state_by o) (command_of c.args.command.now) (actions_by o)
-    (subst (λ (q : Command). model.Changes s q (state_by o)) (sym is) c.in_ok-outcome-in-PutLink.ensures.changed) refl c.in_ok-outcome-in-PutLink.ensures.silent.actions
+    (subst (λ (q : Command). model.Changes c.args.profile s q (state_by o)) (sym is) (c.in_ok-outcome-in-PutLink.ensures.changed c.args.profile)) refl c.in_ok-outcome-in-PutLink.ensures.silent.actions
 
 pub returns-in_err-outcome-in-PutLink-clause-refused : goal.returns-in_err-outcome-in-PutLink-clause-refused
 returns-in_err-outcome-in-PutLink-clause-refused c =
     let s = c.args.served.now.state in
     let e = c.in_err-outcome-in-PutLink.field-0.0 in
     let is : command_of c.args.command.now ≡ model.PutLink c.as_str-in-PutLink.result.now c.as_str-in-PutLink-2.result.now = links (command_of c.args.command.now) _ c.as_str-in-PutLink.result.now _ c.as_str-in-PutLink-2.result.now (ap command_of c.in-PutLink.is) c.as_str-in-PutLink.ensures.value c.as_str-in-PutLink-2.ensures.value in
-    refuses_on (model.Refuses s (command_of c.args.command.now)) c.from_residual-in_err-outcome-in-PutLink.result e c.from_residual-in_err-outcome-in-PutLink.ensures.1
-    (subst (λ (q : Command). e ≢ NoMemory → model.Refuses s q (refused_of e)) (sym is) c.in_err-outcome-in-PutLink.ensures.refused)
+    refuses_on (model.Refuses c.args.profile s (command_of c.args.command.now)) c.from_residual-in_err-outcome-in-PutLink.result e c.from_residual-in_err-outcome-in-PutLink.ensures.1
+    (subst (λ (q : Command). e ≢ NoMemory → model.Refuses c.args.profile s q (refused_of e)) (sym is) (c.in_err-outcome-in-PutLink.ensures.refused c.args.profile))
 
 pub returns-in_ok-outcome-in-PutLink-clause-refused : goal.returns-in_ok-outcome-in-PutLink-clause-refused
 returns-in_ok-outcome-in-PutLink-clause-refused c =
     let is : command_of c.args.command.now ≡ model.PutLink c.as_str-in-PutLink.result.now c.as_str-in-PutLink-2.result.now = links (command_of c.args.command.now) _ c.as_str-in-PutLink.result.now _ c.as_str-in-PutLink-2.result.now (ap command_of c.in-PutLink.is) c.as_str-in-PutLink.ensures.value c.as_str-in-PutLink-2.ensures.value in
-    subst (λ (q : Command). (r : Refused) → model.Refuses c.args.served.now.state q r → ⊥) (sym is) c.in_ok-outcome-in-PutLink.ensures.refused
+    subst (λ (q : Command). (r : Refused) → model.Refuses c.args.profile c.args.served.now.state q r → ⊥) (sym is) (c.in_ok-outcome-in-PutLink.ensures.refused c.args.profile)
 
 pub returns-in_ok-outcome-in-PutLink-clause-reply : goal.returns-in_ok-outcome-in-PutLink-clause-reply
 returns-in_ok-outcome-in-PutLink-clause-reply c =
@@ -247,20 +248,20 @@ returns-in_ok-outcome-in-Remove-clause-does c =
     let o = c.in_ok-outcome-in-Remove.outcome in
     let is : command_of c.args.command.now ≡ model.Remove c.as_str-in-Remove.result.now = removes (command_of c.args.command.now) _ c.as_str-in-Remove.result.now (ap command_of c.in-Remove.is) c.as_str-in-Remove.ensures.value in
     does_so c.args.moment s (state_by o) (state_by o) (command_of c.args.command.now) (actions_by o)
-    (subst (λ (q : Command). model.Changes s q (state_by o)) (sym is) c.in_ok-outcome-in-Remove.ensures.changed) refl c.in_ok-outcome-in-Remove.ensures.silent.actions
+    (subst (λ (q : Command). model.Changes c.args.profile s q (state_by o)) (sym is) (c.in_ok-outcome-in-Remove.ensures.changed c.args.profile)) refl c.in_ok-outcome-in-Remove.ensures.silent.actions
 
 pub returns-in_err-outcome-in-Remove-clause-refused : goal.returns-in_err-outcome-in-Remove-clause-refused
 returns-in_err-outcome-in-Remove-clause-refused c =
     let s = c.args.served.now.state in
     let e = c.in_err-outcome-in-Remove.field-0.0 in
     let is : command_of c.args.command.now ≡ model.Remove c.as_str-in-Remove.result.now = removes (command_of c.args.command.now) _ c.as_str-in-Remove.result.now (ap command_of c.in-Remove.is) c.as_str-in-Remove.ensures.value in
-    refuses_on (model.Refuses s (command_of c.args.command.now)) c.from_residual-in_err-outcome-in-Remove.result e c.from_residual-in_err-outcome-in-Remove.ensures.1
-    (subst (λ (q : Command). e ≢ NoMemory → model.Refuses s q (refused_of e)) (sym is) c.in_err-outcome-in-Remove.ensures.refused)
+    refuses_on (model.Refuses c.args.profile s (command_of c.args.command.now)) c.from_residual-in_err-outcome-in-Remove.result e c.from_residual-in_err-outcome-in-Remove.ensures.1
+    (subst (λ (q : Command). e ≢ NoMemory → model.Refuses c.args.profile s q (refused_of e)) (sym is) (c.in_err-outcome-in-Remove.ensures.refused c.args.profile))
 
 pub returns-in_ok-outcome-in-Remove-clause-refused : goal.returns-in_ok-outcome-in-Remove-clause-refused
 returns-in_ok-outcome-in-Remove-clause-refused c =
     let is : command_of c.args.command.now ≡ model.Remove c.as_str-in-Remove.result.now = removes (command_of c.args.command.now) _ c.as_str-in-Remove.result.now (ap command_of c.in-Remove.is) c.as_str-in-Remove.ensures.value in
-    subst (λ (q : Command). (r : Refused) → model.Refuses c.args.served.now.state q r → ⊥) (sym is) c.in_ok-outcome-in-Remove.ensures.refused
+    subst (λ (q : Command). (r : Refused) → model.Refuses c.args.profile c.args.served.now.state q r → ⊥) (sym is) (c.in_ok-outcome-in-Remove.ensures.refused c.args.profile)
 
 pub returns-in_ok-outcome-in-Remove-clause-reply : goal.returns-in_ok-outcome-in-Remove-clause-reply
 returns-in_ok-outcome-in-Remove-clause-reply c =

@@ -8,12 +8,12 @@ use Rattle.um_state.specs.View.{state_of}
 use Rattle.um_engine.proofs.commands.with_link.Goals as goal
 
 pub returns-in_err-put_link-clause-refused : goal.returns-in_err-put_link-clause-refused
-returns-in_err-put_link-clause-refused c =
+returns-in_err-put_link-clause-refused c = λ profile.
     let step =
     links_none_to (state_of c.args.state.now) (state_of c.in_ok-changed.changed) c.args.path.now c.args.target.now c.in_err-put_link.field-0.0 c.in_ok-changed.ensures c.in_err-put_link.ensures.refused in
-    refuses_on (model.Refuses (state_of c.args.state.now) (model.PutLink c.args.path.now c.args.target.now)) c.from_residual-in_err-put_link.result c.in_err-put_link.field-0.0 c.from_residual-in_err-put_link.ensures.1 step
+    refuses_on (model.Refuses profile (state_of c.args.state.now) (model.PutLink c.args.path.now c.args.target.now)) c.from_residual-in_err-put_link.result c.in_err-put_link.field-0.0 c.from_residual-in_err-put_link.ensures.1 step
 
 pub returns-clause-changed : goal.returns-clause-changed
-returns-clause-changed c =
+returns-clause-changed c = λ profile.
     links_to (state_of c.args.state.now) (state_of c.in_ok-changed.changed) (state_of c.put_link.new.self) c.args.path.now c.args.target.now
     c.in_ok-changed.ensures c.in_ok-put_link.ensures.ok c.in_ok-put_link.ensures.rest

@@ -4,13 +4,14 @@ use Rattle.um_model.specs.Refusals.{Refused}
 use Rattle.um_state.specs.View.{state_of}
 use Rattle.um_wire.specs.Refusal.{refused_of}
 use Rattle.um_wire.specs.declared.refusal.Refusal.TheVariants.{NoMemory}
+use Rattle.um_unit.specs.View.{tree_read}
 use Rattle.um_engine.proofs.ExactLaws.{exact_at}
 use Rattle.um_engine.proofs.KnownLaws.{knows_of}
 use Rattle.um_engine.proofs.PlannedLaws.{refuses_on}
 use Rattle.um_engine.proofs.engine.served_of.Goals as goal
 
 pub numbered-requires : goal.numbered-requires
-numbered-requires c = knows_of c.in_ok-known.known.value (state_of c.args.state) c.loaded.result.now c.loaded.ensures c.in_ok-known.ensures.knows
+numbered-requires c = knows_of c.in_ok-known.known.value (state_of c.args.state) (tree_read c.loaded.result) c.loaded.ensures c.in_ok-known.ensures.knows
 
 pub returns-in_err-known-clause-refused : goal.returns-in_err-known-clause-refused
 returns-in_err-known-clause-refused c =
@@ -34,4 +35,4 @@ pub returns-clause-exact : goal.returns-clause-exact
 returns-clause-exact c =
     let s = state_of c.args.state in
     let known = c.in_ok-known.known.value in
-    exact_at c.in_ok-numbered.field-0 known s c.in_ok-numbered.ensures.state c.in_ok-numbered.ensures.known (knows_of known s c.loaded.result.now c.loaded.ensures c.in_ok-known.ensures.knows) c.in_ok-known.ensures.held
+    exact_at c.in_ok-numbered.field-0 known s c.in_ok-numbered.ensures.state c.in_ok-numbered.ensures.known (knows_of known s (tree_read c.loaded.result) c.loaded.ensures c.in_ok-known.ensures.knows) c.in_ok-known.ensures.held

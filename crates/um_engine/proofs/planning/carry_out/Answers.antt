@@ -13,15 +13,15 @@ pub planned_in-requires-clause-exact : goal.planned_in-requires-clause-exact
 planned_in-requires-clause-exact c = c.requires.exact
 
 pub returns-in_err-work-clause-refused : goal.returns-in_err-work-clause-refused
-returns-in_err-work-clause-refused c =
+returns-in_err-work-clause-refused c = λ profile.
     let wanted = c.args.wanted.now in
-    refuses_on (model.Refuses c.args.served.now.state (model.ForUnit wanted.verb wanted.asked.now wanted.mode)) c.from_residual.result c.in_err-work.field-0.0 c.from_residual.ensures.1
-    c.in_err-work.ensures.refused
+    refuses_on (model.Refuses profile c.args.served.now.state (model.ForUnit wanted.verb wanted.asked.now wanted.mode)) c.from_residual.result c.in_err-work.field-0.0 c.from_residual.ensures.1
+    (c.in_err-work.ensures.refused profile)
 
 pub returns-in_err-delta-clause-refused : goal.returns-in_err-delta-clause-refused
-returns-in_err-delta-clause-refused c =
+returns-in_err-delta-clause-refused c = λ profile.
     let wanted = c.args.wanted.now in
-    refuses_on (model.Refuses c.args.served.now.state (model.ForUnit wanted.verb wanted.asked.now wanted.mode)) c.from_residual-in_err-delta.result NoMemory c.from_residual-in_err-delta.ensures.1
+    refuses_on (model.Refuses profile c.args.served.now.state (model.ForUnit wanted.verb wanted.asked.now wanted.mode)) c.from_residual-in_err-delta.result NoMemory c.from_residual-in_err-delta.ensures.1
     (λ differs. absurd (differs refl))
 
 pub returns-clause-planned : goal.returns-clause-planned
@@ -31,7 +31,7 @@ returns-clause-planned c =
     c.in_ok-delta.ensures.after c.swap.ensures.state
 
 pub returns-clause-refused : goal.returns-clause-refused
-returns-clause-refused c = c.in_ok-work.ensures.refused
+returns-clause-refused c = λ profile. c.in_ok-work.ensures.refused profile
 
 pub returns-clause-same : goal.returns-clause-same
 returns-clause-same c none =

@@ -37,14 +37,14 @@ pub put_checked-requires-clause-tidy : goal.put_checked-requires-clause-tidy
 put_checked-requires-clause-tidy c = c.in_ok-situation.ensures.tidy
 
 pub returns-in_err-situation-clause-refused : goal.returns-in_err-situation-clause-refused
-returns-in_err-situation-clause-refused c =
+returns-in_err-situation-clause-refused c = λ profile.
     let wanted = c.args.wanted.now in
-    refuses_on (model.Refuses c.args.served.now.state (model.ForUnit wanted.verb wanted.asked.now wanted.mode)) c.from_residual.result NoMemory c.from_residual.ensures.1 (λ differs. absurd (differs refl))
+    refuses_on (model.Refuses profile c.args.served.now.state (model.ForUnit wanted.verb wanted.asked.now wanted.mode)) c.from_residual.result NoMemory c.from_residual.ensures.1 (λ differs. absurd (differs refl))
 
 pub returns-in_err-transaction-clause-refused : goal.returns-in_err-transaction-clause-refused
-returns-in_err-transaction-clause-refused c =
+returns-in_err-transaction-clause-refused c = λ profile.
     let wanted = c.args.wanted.now in
-    refuses_on (model.Refuses c.args.served.now.state (model.ForUnit wanted.verb wanted.asked.now wanted.mode)) c.from_residual-in_err-transaction.result NoMemory
+    refuses_on (model.Refuses profile c.args.served.now.state (model.ForUnit wanted.verb wanted.asked.now wanted.mode)) c.from_residual-in_err-transaction.result NoMemory
     c.from_residual-in_err-transaction.ensures.1 (λ differs. absurd (differs refl))
 
 pub returns-clause-planned : goal.returns-clause-planned
@@ -60,7 +60,7 @@ returns-clause-planned c =
     then_ok c.put_checked.result (λ f. f root is) c.put_checked.ensures.planned
 
 pub returns-clause-refused : goal.returns-clause-refused
-returns-clause-refused c =
+returns-clause-refused c = λ profile.
     let v = c.args.served.now in
     let w = c.args.work.now in
     let root : Demand × List ℕ = (c.args.demand, c.args.unit.now) in
@@ -69,7 +69,7 @@ returns-clause-refused c =
     let is : IsTransactionFor v.state root tr =
     made_here v w.moment w root c.graph.result.now at.activity.items at.pending.items tr c.requires.begins c.graph.ensures.graph c.requires.exact c.in_ok-situation.ensures.active
     c.in_ok-situation.ensures.pends c.in_ok-transaction.ensures.made in
-    c.put_checked.ensures.refused c.args.demand c.args.unit.now c.requires.demands is
+    (c.put_checked.ensures.refused profile) c.args.demand c.args.unit.now c.requires.demands is
 
 pub returns-clause-works : goal.returns-clause-works
 returns-clause-works c = c.put_checked.ensures.works

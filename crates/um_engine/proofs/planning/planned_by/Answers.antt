@@ -12,12 +12,12 @@ use Rattle.um_engine.proofs.PlannedLaws.{refuses_on}
 use Rattle.um_engine.proofs.planning.planned_by.Goals as goal
 
 pub returns-in_err-work-clause-refused : goal.returns-in_err-work-clause-refused
-returns-in_err-work-clause-refused c =
-    refuses_on (model.Refuses c.args.served.now.state (model.ForUnit c.args.wanted.now.verb c.args.wanted.now.asked.now c.args.wanted.now.mode)) c.from_residual.result c.in_err-work.field-0.0 c.from_residual.ensures.1 c.in_err-work.ensures.refused
+returns-in_err-work-clause-refused c = λ profile.
+    refuses_on (model.Refuses profile c.args.served.now.state (model.ForUnit c.args.wanted.now.verb c.args.wanted.now.asked.now c.args.wanted.now.mode)) c.from_residual.result c.in_err-work.field-0.0 c.from_residual.ensures.1 (c.in_err-work.ensures.refused profile)
 
 pub returns-in_err-planned-clause-refused : goal.returns-in_err-planned-clause-refused
-returns-in_err-planned-clause-refused c =
-    refuses_on (model.Refuses c.args.served.now.state (model.ForUnit c.args.wanted.now.verb c.args.wanted.now.asked.now c.args.wanted.now.mode)) c.from_residual-in_err-planned.result c.in_err-planned.field-0.0 c.from_residual-in_err-planned.ensures.1 c.in_err-planned.ensures.refused
+returns-in_err-planned-clause-refused c = λ profile.
+    refuses_on (model.Refuses profile c.args.served.now.state (model.ForUnit c.args.wanted.now.verb c.args.wanted.now.asked.now c.args.wanted.now.mode)) c.from_residual-in_err-planned.result c.in_err-planned.field-0.0 c.from_residual-in_err-planned.ensures.1 (c.in_err-planned.ensures.refused profile)
 
 pub planned_in-requires-clause-exact : goal.planned_in-requires-clause-exact
 planned_in-requires-clause-exact c =
@@ -37,7 +37,7 @@ pub returns-then-lasts_in-clause-silent : goal.returns-then-lasts_in-clause-sile
 returns-then-lasts_in-clause-silent c = record { reply = refl; actions = c.in_ok-work.ensures.actions }
 
 pub returns-then-lasts_in-clause-refused : goal.returns-then-lasts_in-clause-refused
-returns-then-lasts_in-clause-refused c = c.in_ok-work.ensures.refused
+returns-then-lasts_in-clause-refused c = λ profile. c.in_ok-work.ensures.refused profile
 
 pub returns-in_default-clause-planned : goal.returns-in_default-clause-planned
 returns-in_default-clause-planned c =
@@ -56,7 +56,7 @@ returns-clause-based c =
     record { tree = ap (λ (x : State). x.tree) plan.rest; loaded = ap (λ (x : State). x.loaded) plan.rest; boot = ap (λ (x : State). x.boot) plan.rest }
 
 pub returns-in_err-work-2-clause-refused : goal.returns-in_err-work-2-clause-refused
-returns-in_err-work-2-clause-refused c =
+returns-in_err-work-2-clause-refused c = λ profile.
     let wanted = c.args.wanted.now in
-    refuses_on (model.Refuses c.args.served.now.state (model.ForUnit wanted.verb wanted.asked.now wanted.mode)) c.from_residual-in_err-work-2.result NoMemory
+    refuses_on (model.Refuses profile c.args.served.now.state (model.ForUnit wanted.verb wanted.asked.now wanted.mode)) c.from_residual-in_err-work-2.result NoMemory
     c.from_residual-in_err-work-2.ensures.1 (λ differs. absurd (differs refl))

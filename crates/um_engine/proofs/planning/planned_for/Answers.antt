@@ -14,7 +14,7 @@ use Rattle.um_engine.proofs.PlannedLaws.{absent_at_rest, free_at_rest, plans_ask
 use Rattle.um_engine.proofs.planning.planned_for.Goals as goal
 
 pub returns-in_err-check_there-clause-refused : goal.returns-in_err-check_there-clause-refused
-returns-in_err-check_there-clause-refused c =
+returns-in_err-check_there-clause-refused c = λ profile.
     let s = c.args.served.now.state in
     let here = c.state-state.ensures.state in
     let unit = c.args.unit.now in
@@ -22,12 +22,12 @@ returns-in_err-check_there-clause-refused c =
     let is : None ≡ model.demand_of c.args.wanted.now.verb (active_state_of (state_of_unit s.units unit).sub) =
     subst (λ (x : State). None ≡ model.demand_of c.args.wanted.now.verb (active_state_of (state_of_unit x.units unit).sub)) here c.in_default.ensures in
     let e = c.in_err-check_there.field-0.0 in
-    refuses_on (model.Refuses s (model.ForUnit c.args.wanted.now.verb c.args.wanted.now.asked.now c.args.wanted.now.mode)) c.from_residual-in_err-check_there.result e c.from_residual-in_err-check_there.ensures.1
+    refuses_on (model.Refuses profile s (model.ForUnit c.args.wanted.now.verb c.args.wanted.now.asked.now c.args.wanted.now.mode)) c.from_residual-in_err-check_there.result e c.from_residual-in_err-check_there.ensures.1
     (λ differs. absent_at_rest s c.args.wanted.now.verb c.args.wanted.now.asked.now c.args.wanted.now.mode unit same is c.in_ok-known.ensures.refused (refused_of e)
     (subst (λ (x : State). model.IsNotThere x c.args.wanted.now.verb c.args.wanted.now.asked.now (refused_of e)) here (c.in_err-check_there.ensures differs)))
 
 pub returns-in_default-clause-changed : goal.returns-in_default-clause-changed
-returns-in_default-clause-changed c =
+returns-in_default-clause-changed c = λ profile.
     let s = c.args.served.now.state in
     let here = c.state-state.ensures.state in
     let unit = c.args.unit.now in
@@ -38,7 +38,7 @@ returns-in_default-clause-changed c =
     (ap (λ (z : WorkView). state_of z.now) c.in_ok-work.ensures.begins)
 
 pub returns-clause-changed : goal.returns-clause-changed
-returns-clause-changed c =
+returns-clause-changed c = λ profile.
     let s = c.args.served.now.state in
     let here = c.state-state.ensures.state in
     let unit = c.args.unit.now in
@@ -48,7 +48,7 @@ returns-clause-changed c =
     plans_asked s c.args.wanted.now.verb c.args.wanted.now.asked.now c.args.wanted.now.mode unit same c.in-Some.demand is (state_by c.in_ok-outcome.outcome) c.in_ok-outcome.ensures.planned
 
 pub returns-in_default-clause-refused : goal.returns-in_default-clause-refused
-returns-in_default-clause-refused c =
+returns-in_default-clause-refused c = λ profile.
     let s = c.args.served.now.state in
     let here = c.state-state.ensures.state in
     let unit = c.args.unit.now in
@@ -59,24 +59,24 @@ returns-in_default-clause-refused c =
     (λ q. subst (λ (x : State). ¬ model.IsNotThere x c.args.wanted.now.verb c.args.wanted.now.asked.now q) here (c.in_ok-check_there.ensures q))
 
 pub returns-in_err-known-clause-refused : goal.returns-in_err-known-clause-refused
-returns-in_err-known-clause-refused c =
+returns-in_err-known-clause-refused c = λ profile.
     let s = c.args.served.now.state in
     let here = c.state-state.ensures.state in
     let unit = c.args.unit.now in
     let same = c.requires.same in
     let e = c.in_err-known.field-0.0 in
-    refuses_on (model.Refuses s (model.ForUnit c.args.wanted.now.verb c.args.wanted.now.asked.now c.args.wanted.now.mode)) c.from_residual.result e c.from_residual.ensures.1
+    refuses_on (model.Refuses profile s (model.ForUnit c.args.wanted.now.verb c.args.wanted.now.asked.now c.args.wanted.now.mode)) c.from_residual.result e c.from_residual.ensures.1
     (λ differs. at_first (model.by_name (subst (λ x. model.IsCrowded s.loaded (model.IsHeldOr s x) (refused_of e)) same (c.in_err-known.ensures.refused differs))))
 
 pub returns-in_err-work-clause-refused : goal.returns-in_err-work-clause-refused
-returns-in_err-work-clause-refused c =
-    refuses_on (model.Refuses c.args.served.now.state (model.ForUnit c.args.wanted.now.verb c.args.wanted.now.asked.now c.args.wanted.now.mode)) c.from_residual-in_err-work.result NoMemory c.from_residual-in_err-work.ensures.1
+returns-in_err-work-clause-refused c = λ profile.
+    refuses_on (model.Refuses profile c.args.served.now.state (model.ForUnit c.args.wanted.now.verb c.args.wanted.now.asked.now c.args.wanted.now.mode)) c.from_residual-in_err-work.result NoMemory c.from_residual-in_err-work.ensures.1
     (λ differs. absurd (differs refl))
 
 pub returns-in_err-outcome-clause-refused : goal.returns-in_err-outcome-clause-refused
-returns-in_err-outcome-clause-refused c =
-    refuses_on (model.Refuses c.args.served.now.state (model.ForUnit c.args.wanted.now.verb c.args.wanted.now.asked.now c.args.wanted.now.mode)) c.from_residual-in_err-outcome.result c.in_err-outcome.field-0.0
-    c.from_residual-in_err-outcome.ensures.1 c.in_err-outcome.ensures.refused
+returns-in_err-outcome-clause-refused c = λ profile.
+    refuses_on (model.Refuses profile c.args.served.now.state (model.ForUnit c.args.wanted.now.verb c.args.wanted.now.asked.now c.args.wanted.now.mode)) c.from_residual-in_err-outcome.result c.in_err-outcome.field-0.0
+    c.from_residual-in_err-outcome.ensures.1 (c.in_err-outcome.ensures.refused profile)
 
 pub planned_by-requires-clause-demands : goal.planned_by-requires-clause-demands
 planned_by-requires-clause-demands c =
@@ -107,4 +107,4 @@ pub returns-clause-silent : goal.returns-clause-silent
 returns-clause-silent c = c.in_ok-outcome.ensures.silent
 
 pub returns-clause-refused : goal.returns-clause-refused
-returns-clause-refused c = c.in_ok-outcome.ensures.refused
+returns-clause-refused c = λ profile. c.in_ok-outcome.ensures.refused profile

@@ -21,15 +21,15 @@ pub plan_in-requires-clause-works : goal.plan_in-requires-clause-works
 plan_in-requires-clause-works c = c.in_ok-work.ensures.works
 
 pub returns-in_err-work-clause-refused : goal.returns-in_err-work-clause-refused
-returns-in_err-work-clause-refused c =
+returns-in_err-work-clause-refused c = λ profile.
     let wanted = c.args.wanted.now in
-    refuses_on (model.Refuses c.args.served.now.state (model.ForUnit wanted.verb wanted.asked.now wanted.mode)) c.from_residual.result NoMemory c.from_residual.ensures.1 (λ differs. absurd (differs refl))
+    refuses_on (model.Refuses profile c.args.served.now.state (model.ForUnit wanted.verb wanted.asked.now wanted.mode)) c.from_residual.result NoMemory c.from_residual.ensures.1 (λ differs. absurd (differs refl))
 
 pub returns-in_err-plan_in-clause-refused : goal.returns-in_err-plan_in-clause-refused
-returns-in_err-plan_in-clause-refused c =
+returns-in_err-plan_in-clause-refused c = λ profile.
     let wanted = c.args.wanted.now in
-    refuses_on (model.Refuses c.args.served.now.state (model.ForUnit wanted.verb wanted.asked.now wanted.mode)) c.from_residual-in_err-plan_in.result c.in_err-plan_in.field-0.0
-    c.from_residual-in_err-plan_in.ensures.1 c.in_err-plan_in.ensures.refused
+    refuses_on (model.Refuses profile c.args.served.now.state (model.ForUnit wanted.verb wanted.asked.now wanted.mode)) c.from_residual-in_err-plan_in.result c.in_err-plan_in.field-0.0
+    c.from_residual-in_err-plan_in.ensures.1 (c.in_err-plan_in.ensures.refused profile)
 
 pub returns-clause-planned : goal.returns-clause-planned
 returns-clause-planned c = c.in_ok-plan_in.ensures.planned
@@ -44,4 +44,4 @@ pub returns-clause-actions : goal.returns-clause-actions
 returns-clause-actions c = c.in_ok-plan_in.ensures.actions ∙ ap (λ (z : WorkView). z.actions) c.in_ok-work.ensures.begins
 
 pub returns-clause-refused : goal.returns-clause-refused
-returns-clause-refused c = c.in_ok-plan_in.ensures.refused
+returns-clause-refused c = λ profile. c.in_ok-plan_in.ensures.refused profile

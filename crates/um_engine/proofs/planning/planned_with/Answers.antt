@@ -27,23 +27,23 @@ carry_out-requires-clause-exact c =
     (subst (λ (k : KnownView). IsGraphFor c.args.served.now.state.loaded (IsHeldOr c.args.served.now.state unit) k.graph) (sym c.in_ok-changed.ensures.known) c.requires.exact)
 
 pub returns-in_err-state-clause-refused : goal.returns-in_err-state-clause-refused
-returns-in_err-state-clause-refused c =
+returns-in_err-state-clause-refused c = λ profile.
     let wanted = c.args.wanted.now in
-    refuses_on (model.Refuses c.args.served.now.state (model.ForUnit wanted.verb wanted.asked.now wanted.mode)) c.from_residual.result NoMemory c.from_residual.ensures.1 (λ differs. absurd (differs refl))
+    refuses_on (model.Refuses profile c.args.served.now.state (model.ForUnit wanted.verb wanted.asked.now wanted.mode)) c.from_residual.result NoMemory c.from_residual.ensures.1 (λ differs. absurd (differs refl))
 
 pub returns-in_err-changed-clause-refused : goal.returns-in_err-changed-clause-refused
-returns-in_err-changed-clause-refused c =
+returns-in_err-changed-clause-refused c = λ profile.
     let wanted = c.args.wanted.now in
-    refuses_on (model.Refuses c.args.served.now.state (model.ForUnit wanted.verb wanted.asked.now wanted.mode)) c.from_residual-in_err-changed.result NoMemory c.from_residual-in_err-changed.ensures.1
+    refuses_on (model.Refuses profile c.args.served.now.state (model.ForUnit wanted.verb wanted.asked.now wanted.mode)) c.from_residual-in_err-changed.result NoMemory c.from_residual-in_err-changed.ensures.1
     (λ differs. absurd (differs refl))
 
 pub returns-in_err-changes-clause-refused : goal.returns-in_err-changes-clause-refused
-returns-in_err-changes-clause-refused c =
+returns-in_err-changes-clause-refused c = λ profile.
     let wanted = c.args.wanted.now in
     let same : c.in_ok-changed.changed.state ≡ c.args.served.now.state = c.in_ok-changed.ensures.state ∙ (c.in_ok-state.ensures ∙ c.state.ensures.state) in
     let e = c.in_err-changes.field-0.0 in
-    refuses_on (model.Refuses c.args.served.now.state (model.ForUnit wanted.verb wanted.asked.now wanted.mode)) c.from_residual-in_err-changes.result e c.from_residual-in_err-changes.ensures.1
-    (subst (λ (s : State). e ≢ NoMemory → model.Refuses s (model.ForUnit wanted.verb wanted.asked.now wanted.mode) (refused_of e)) same c.in_err-changes.ensures.refused)
+    refuses_on (model.Refuses profile c.args.served.now.state (model.ForUnit wanted.verb wanted.asked.now wanted.mode)) c.from_residual-in_err-changes.result e c.from_residual-in_err-changes.ensures.1
+    (subst (λ (s : State). e ≢ NoMemory → model.Refuses profile s (model.ForUnit wanted.verb wanted.asked.now wanted.mode) (refused_of e)) same (c.in_err-changes.ensures.refused profile))
 
 pub returns-then-changes-clause-planned : goal.returns-then-changes-clause-planned
 returns-then-changes-clause-planned c =
@@ -51,10 +51,10 @@ returns-then-changes-clause-planned c =
     subst (λ (s : State). HasPlan s (c.args.demand, c.args.unit.now) c.carry_out.new.served.state) same c.in_ok-changes.ensures.planned
 
 pub returns-then-changes-clause-refused : goal.returns-then-changes-clause-refused
-returns-then-changes-clause-refused c =
+returns-then-changes-clause-refused c = λ profile.
     let wanted = c.args.wanted.now in
     let same : c.in_ok-changed.changed.state ≡ c.args.served.now.state = c.in_ok-changed.ensures.state ∙ (c.in_ok-state.ensures ∙ c.state.ensures.state) in
-    subst (λ (s : State). (r : Refused) → ¬ model.Refuses s (model.ForUnit wanted.verb wanted.asked.now wanted.mode) r) same c.in_ok-changes.ensures.refused
+    subst (λ (s : State). (r : Refused) → ¬ model.Refuses profile s (model.ForUnit wanted.verb wanted.asked.now wanted.mode) r) same (c.in_ok-changes.ensures.refused profile)
 
 pub returns-clause-planned : goal.returns-clause-planned
 returns-clause-planned c =
@@ -63,7 +63,7 @@ returns-clause-planned c =
     (subst (λ (s : State). HasPlan s (c.args.demand, c.args.unit.now) c.carry_out.new.served.state) same c.in_ok-changes.ensures.planned)
 
 pub returns-clause-refused : goal.returns-clause-refused
-returns-clause-refused c =
+returns-clause-refused c = λ profile.
     let wanted = c.args.wanted.now in
     let same : c.in_ok-changed.changed.state ≡ c.args.served.now.state = c.in_ok-changed.ensures.state ∙ (c.in_ok-state.ensures ∙ c.state.ensures.state) in
-    subst (λ (s : State). (r : Refused) → ¬ model.Refuses s (model.ForUnit wanted.verb wanted.asked.now wanted.mode) r) same c.in_ok-changes.ensures.refused
+    subst (λ (s : State). (r : Refused) → ¬ model.Refuses profile s (model.ForUnit wanted.verb wanted.asked.now wanted.mode) r) same (c.in_ok-changes.ensures.refused profile)

@@ -28,7 +28,7 @@ pub check_there-requires : goal.check_there-requires
 check_there-requires c = c.requires.finds ∙ sym (ap (λ (s : State). is_found (load s.loaded c.args.wanted.now.asked.now)) c.state.ensures.state)
 
 pub returns-in_err-check_crowded-clause-refused : goal.returns-in_err-check_crowded-clause-refused
-returns-in_err-check_crowded-clause-refused c = λ demand unit demands is.
+returns-in_err-check_crowded-clause-refused c = λ profile. λ demand unit demands is.
     let v = c.args.served.now in
     let w = c.args.work.now in
     let x = c.put_plan.new.work in
@@ -37,12 +37,12 @@ returns-in_err-check_crowded-clause-refused c = λ demand unit demands is.
     let so : state_of x.now ≡ record v.state { pending = jobs_by tr.graph.names tr.plan } =
     so_here v w.moment w x w.graph c.as_slice.result.now tr c.requires.begins refl c.requires.graph (c.as_slice.ensures ∙ c.plan.ensures.plan) c.in_ok-put_plan.ensures.state in
     let e = c.in_err-check_crowded.field-0.0 in
-    refuses_on (model.Refuses v.state (model.ForUnit wanted.verb wanted.asked.now wanted.mode)) c.from_residual-in_err-check_crowded.result e c.from_residual-in_err-check_crowded.ensures.1
+    refuses_on (model.Refuses profile v.state (model.ForUnit wanted.verb wanted.asked.now wanted.mode)) c.from_residual-in_err-check_crowded.result e c.from_residual-in_err-check_crowded.ensures.1
     (λ differs. full_here v.state (state_of x.now) wanted.verb wanted.asked.now wanted.is_found demand unit wanted.mode demands tr is so c.plan.ensures.planned (refused_of e)
     (c.in_err-check_crowded.ensures differs))
 
 pub returns-in_err-check_there-clause-refused : goal.returns-in_err-check_there-clause-refused
-returns-in_err-check_there-clause-refused c = λ demand unit demands is.
+returns-in_err-check_there-clause-refused c = λ profile. λ demand unit demands is.
     let v = c.args.served.now in
     let w = c.args.work.now in
     let x = c.put_plan.new.work in
@@ -51,12 +51,12 @@ returns-in_err-check_there-clause-refused c = λ demand unit demands is.
     let so : state_of x.now ≡ record v.state { pending = jobs_by tr.graph.names tr.plan } =
     so_here v w.moment w x w.graph c.as_slice.result.now tr c.requires.begins refl c.requires.graph (c.as_slice.ensures ∙ c.plan.ensures.plan) c.in_ok-put_plan.ensures.state in
     let e = c.in_err-check_there.field-0.0 in
-    refuses_on (model.Refuses v.state (model.ForUnit wanted.verb wanted.asked.now wanted.mode)) c.from_residual-in_err-check_there.result e c.from_residual-in_err-check_there.ensures.1
+    refuses_on (model.Refuses profile v.state (model.ForUnit wanted.verb wanted.asked.now wanted.mode)) c.from_residual-in_err-check_there.result e c.from_residual-in_err-check_there.ensures.1
     (λ differs. absent_here v.state (state_of x.now) wanted.verb wanted.asked.now wanted.is_found demand unit wanted.mode demands tr is so c.plan.ensures.planned c.in_ok-check_crowded.ensures (refused_of e)
     (subst (λ (s : State). model.IsNotThere s wanted.verb wanted.asked.now (refused_of e)) c.state.ensures.state (c.in_err-check_there.ensures differs)))
 
 pub returns-in_err-check-clause-refused : goal.returns-in_err-check-clause-refused
-returns-in_err-check-clause-refused c = λ demand unit demands is.
+returns-in_err-check-clause-refused c = λ profile. λ demand unit demands is.
     let v = c.args.served.now in
     let w = c.args.work.now in
     let x = c.put_plan.new.work in
@@ -67,12 +67,12 @@ returns-in_err-check-clause-refused c = λ demand unit demands is.
     let there : (q : Refused) → ¬ model.IsNotThere v.state wanted.verb wanted.asked.now q =
     subst (λ (s : State). (q : Refused) → ¬ model.IsNotThere s wanted.verb wanted.asked.now q) c.state.ensures.state c.in_ok-check_there.ensures in
     let e = c.in_err-check.field-0.0 in
-    refuses_on (model.Refuses v.state (model.ForUnit wanted.verb wanted.asked.now wanted.mode)) c.from_residual-in_err-check.result e c.from_residual-in_err-check.ensures.1
+    refuses_on (model.Refuses profile v.state (model.ForUnit wanted.verb wanted.asked.now wanted.mode)) c.from_residual-in_err-check.result e c.from_residual-in_err-check.ensures.1
     (λ differs. cause_here v.state (state_of x.now) wanted.verb wanted.asked.now wanted.is_found demand unit wanted.mode demands tr is so c.plan.ensures.planned c.in_ok-check_crowded.ensures there (refused_of e)
     (c.in_err-check.ensures.causes unit is.number differs))
 
 pub returns-clause-refused : goal.returns-clause-refused
-returns-clause-refused c = λ demand unit demands is.
+returns-clause-refused c = λ profile. λ demand unit demands is.
     let v = c.args.served.now in
     let w = c.args.work.now in
     let x = c.put_plan.new.work in

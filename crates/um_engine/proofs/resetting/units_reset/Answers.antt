@@ -7,9 +7,9 @@ use Rattle.um_engine.proofs.resetting.units_reset.Goals as goal
 
 pub returns-in_err-asked_unit-in-Some-clause-refused :
     goal.returns-in_err-asked_unit-in-Some-clause-refused
-returns-in_err-asked_unit-in-Some-clause-refused c =
+returns-in_err-asked_unit-in-Some-clause-refused c = λ profile.
     let s = c.args.served.now.state in
     let e = c.in_err-asked_unit-in-Some.field-0.0 in
-    let step : e ≢ NoMemory → model.Refuses s (model.ResetFailed c.args.asked.now) (refused_of e) =
-    λ differs. subst (λ o. model.Refuses s (model.ResetFailed o) (refused_of e)) (sym c.in-Some.is) ((c.in_err-asked_unit-in-Some.ensures.refused differs)) in
-    refuses_on (model.Refuses s (model.ResetFailed c.args.asked.now)) c.from_residual.result e c.from_residual.ensures.1 step
+    let step : e ≢ NoMemory → model.Refuses profile s (model.ResetFailed c.args.asked.now) (refused_of e) =
+    λ differs. subst (λ o. model.Refuses profile s (model.ResetFailed o) (refused_of e)) (sym c.in-Some.is) (c.in_err-asked_unit-in-Some.ensures.refused differs) in
+    refuses_on (model.Refuses profile s (model.ResetFailed c.args.asked.now)) c.from_residual.result e c.from_residual.ensures.1 step

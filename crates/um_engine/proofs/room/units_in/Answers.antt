@@ -3,6 +3,7 @@ use Rattle.um_model.specs.Dependencies.{CountsFor}
 use Rattle.um_model.specs.Machine.{IsHeld, State}
 use Rattle.um_graph.specs.Graph.{GraphView}
 use Rattle.um_state.specs.View.{state_of}
+use Rattle.um_unit.specs.View.{tree_read}
 use Rattle.um_engine.specs.Known.{KnownView, KnowsFor}
 use Rattle.um_engine.proofs.KnownLaws.{count_found, works_knows}
 use Rattle.um_engine.proofs.room.units_in.Goals as goal
@@ -27,5 +28,5 @@ returns c =
     let s : State = state_of c.args.work.now.now in
     let held : (x : List ℕ) → Contains c.deref.result.now x ↔ IsHeld s x =
     λ x. subst (λ xs. Contains xs x ↔ IsHeld s x) (sym c.deref.ensures.value) (c.in_ok-held.ensures x) in
-    let tree : c.loaded.result.now ≡ s.loaded = c.loaded.ensures ∙ (ap (λ (v : State). v.loaded) c.state.ensures.state ∙ sym c.requires.loaded) in
-    count_found s c.loaded.result.now c.deref.result.now tree held c.count_of.result c.count_of.ensures
+    let tree : (tree_read c.loaded.result) ≡ s.loaded = c.loaded.ensures ∙ (ap (λ (v : State). v.loaded) c.state.ensures.state ∙ sym c.requires.loaded) in
+    count_found s (tree_read c.loaded.result) c.deref.result.now tree held c.count_of.result c.count_of.ensures

@@ -5,12 +5,12 @@ use Rattle.um_sector.specs.Runs.{IsLaid, MaybeLaid, more}
 use Rattle.um_sector.proofs.RunLaws.{more-more}
 use Rattle.um_model.specs.Machine.{empty_state}
 use Rattle.um_model.specs.StateSpellings.{state_spelling}
-use Rattle.um_model.specs.Store.{superblock, sector_count, log_start, IsNewest, IsFree}
+use Rattle.um_model.specs.Store.{current, superblock, sector_count, IsNewest, IsNoneAbove}
 use Rattle.um_model.specs.declared.layout.Slot.TheVariants.{A}
 use Rattle.um_laws.proofs.DiskLaws.{at_end, followed, weaker}
 use Rattle.um_keeper.specs.Keeping.{snapshot_calls}
 use Rattle.um_keeper.specs.Creating.{blank, unsynced, NoneOrEmpty, IsEmptyStore}
-use Rattle.um_keeper.proofs.Wiping.{IsZeroed, while_zeroed, while_made, wiped_none, wiped_free, empty_room, made, made_maybe}
+use Rattle.um_keeper.proofs.Wiping.{IsZeroed, while_zeroed, while_made, wiped_none, wiped_above, empty_room, made, made_maybe}
 use Rattle.um_keeper.proofs.creating.lay.Goals as goal
 
 pub returns-in_err-unformat-clause-during : goal.returns-in_err-unformat-clause-during
@@ -41,11 +41,11 @@ unreachable-requires g c =
 
 -- what stands behind sector 0 before it is written
 module _ (layout : Rattle.um_model.specs.declared.layout.Layout.Layout) (first mid old new : Past) (body : List ℕ) (is : body ≡ state_spelling empty_state)
-    (newest : IsNewest layout (seen mid) A 1 body × IsFree layout 1 (seen mid) (log_start layout 1)) (zero : IsZeroed (seen mid)) where
-  made_run : During mid new (MaybeLaid (seen mid) 0 (superblock layout ∷ [])) → During mid new (NoneOrEmpty layout)
+    (newest : IsNewest layout (seen mid) A 1 body × IsNoneAbove layout (seen mid) 0) (zero : IsZeroed (seen mid)) where
+  made_run : During mid new (MaybeLaid (seen mid) 0 (superblock current layout ∷ [])) → During mid new (NoneOrEmpty layout)
   made_run run = weaker mid new _ _ (made_maybe layout (seen mid) (subst (IsNewest layout (seen mid) A 1) is newest.0) newest.1 zero) run
 
-  made_all : IsLaid (seen mid) 0 (superblock layout ∷ []) (seen new) → ((image : Image) → Rattle.um_model.specs.Disk.IsImage new image → image ≡ seen new) → Images new (IsEmptyStore layout)
+  made_all : IsLaid (seen mid) 0 (superblock current layout ∷ []) (seen new) → ((image : Image) → Rattle.um_model.specs.Disk.IsImage new image → image ≡ seen new) → Images new (IsEmptyStore layout)
   made_all laid settled image at = subst (IsEmptyStore layout) (sym (settled image at)) (made layout (seen mid) (subst (IsNewest layout (seen mid) A 1) is newest.0) newest.1 (seen new) laid)
 
 pub returns-in_err-write_run_synced-clause-during : goal.returns-in_err-write_run_synced-clause-during
@@ -62,7 +62,7 @@ returns-in_err-write_run_synced-clause-during g c h =
     let run = zero_run p1 p2 p3 (c.wipe.ensures.during h1 (c.in_ok-unformat.ensures.ok h)) (c.write_first.ensures.during h2) in
     let zero = at_end p1 p3 IsZeroed run (seen p3) (g.met.D.Disk.seen_is_image c.write_first.new.disk h3) in
     let w = c.in_ok-wipe.ensures.ok h1 (c.in_ok-unformat.ensures.ok h (seen p1) (g.met.D.Disk.seen_is_image c.unformat.new.disk h1)) in
-    let newest = some _ c.in_ok-write_first.ensures.ok h2 (wiped_none c.args.layout (seen p2) w) (wiped_free c.args.layout (seen p2) w) in
+    let newest = some _ c.in_ok-write_first.ensures.ok h2 (wiped_none c.args.layout (seen p2) w) (wiped_above c.args.layout (seen p2) w) in
     while_made c.args.layout p0 p1 (c.in_ok-unformat.ensures.first h) (c.unformat.ensures.during h) p3 p4 run
     (made_run c.args.layout p1 p3 p0 p4 c.args.body.now c.requires.empty newest zero
     (subst (λ (s : Sector). During p3 p4 (MaybeLaid (seen p3) 0 (s ∷ []))) c.superblock.ensures (c.write_run_synced.ensures.settled_during h3 (some _ c.in_ok-write_first.ensures.settled h2))))
@@ -81,7 +81,7 @@ returns-clause-during g c h =
     let run = zero_run p1 p2 p3 (c.wipe.ensures.during h1 (c.in_ok-unformat.ensures.ok h)) (c.write_first.ensures.during h2) in
     let zero = at_end p1 p3 IsZeroed run (seen p3) (g.met.D.Disk.seen_is_image c.write_first.new.disk h3) in
     let w = c.in_ok-wipe.ensures.ok h1 (c.in_ok-unformat.ensures.ok h (seen p1) (g.met.D.Disk.seen_is_image c.unformat.new.disk h1)) in
-    let newest = some _ c.in_ok-write_first.ensures.ok h2 (wiped_none c.args.layout (seen p2) w) (wiped_free c.args.layout (seen p2) w) in
+    let newest = some _ c.in_ok-write_first.ensures.ok h2 (wiped_none c.args.layout (seen p2) w) (wiped_above c.args.layout (seen p2) w) in
     while_made c.args.layout p0 p1 (c.in_ok-unformat.ensures.first h) (c.unformat.ensures.during h) p3 p4 run
     (made_run c.args.layout p1 p3 p0 p4 c.args.body.now c.requires.empty newest zero
     (subst (λ (s : Sector). During p3 p4 (MaybeLaid (seen p3) 0 (s ∷ []))) c.superblock.ensures (c.write_run_synced.ensures.settled_during h3 (some _ c.in_ok-write_first.ensures.settled h2))))
@@ -100,7 +100,7 @@ returns-clause-ok g c h =
     let run = zero_run p1 p2 p3 (c.wipe.ensures.during h1 (c.in_ok-unformat.ensures.ok h)) (c.write_first.ensures.during h2) in
     let zero = at_end p1 p3 IsZeroed run (seen p3) (g.met.D.Disk.seen_is_image c.write_first.new.disk h3) in
     let w = c.in_ok-wipe.ensures.ok h1 (c.in_ok-unformat.ensures.ok h (seen p1) (g.met.D.Disk.seen_is_image c.unformat.new.disk h1)) in
-    let newest = some _ c.in_ok-write_first.ensures.ok h2 (wiped_none c.args.layout (seen p2) w) (wiped_free c.args.layout (seen p2) w) in
+    let newest = some _ c.in_ok-write_first.ensures.ok h2 (wiped_none c.args.layout (seen p2) w) (wiped_above c.args.layout (seen p2) w) in
     made_all c.args.layout p1 p3 p0 p4 c.args.body.now c.requires.empty newest zero
     (subst (λ (s : Sector). IsLaid (seen p3) 0 (s ∷ []) (seen p4)) c.superblock.ensures (c.in_ok-write_run_synced.ensures.ok h3)) (c.in_ok-write_run_synced.ensures.settled h3)
 

@@ -3,7 +3,7 @@ use Rattle.std.specs.Prelude.{replicate}
 use Rattle.um_model.specs.Disk.{seen}
 use Rattle.um_sector.specs.Runs.{IsLaid, more}
 use Rattle.um_sector.proofs.RunLaws.{more-more}
-use Rattle.um_model.specs.Store.{log_start}
+use Rattle.um_model.specs.Store.{first_log_sector}
 use Rattle.um_keeper.specs.Creating.{blank}
 use Rattle.um_keeper.proofs.Results.{ok_from}
 use Rattle.um_keeper.proofs.Wiping.{zero_first, zero_goes_on, wiped}
@@ -26,11 +26,11 @@ pub returns-clause-during : goal.returns-clause-during
 returns-clause-during g c h all =
     let a : c.slot_start.result ≡ 1 = c.slot_start.ensures in
     let b : c.slot_start-2.result ≡ c.args.layout.slot_sectors + 1 = c.slot_start-2.ensures in
-    let l : c.log_start.result ≡ log_start c.args.layout 1 = c.log_start.ensures in
+    let l : c.first_log_sector.result ≡ first_log_sector c.args.layout = c.first_log_sector.ensures in
     let p0 = g.D.Disk.past c.args.disk.now in
     let p1 = g.D.Disk.past c.write_blank.new.disk in
     let p2 = g.D.Disk.past c.write_blank-2.new.disk in
-    zero_goes_on p0 p2 (g.D.Disk.past c.write_blank-3.new.disk) c.log_start.result (replicate c.args.layout.log_sectors blank) (omega (arith, l))
+    zero_goes_on p0 p2 (g.D.Disk.past c.write_blank-3.new.disk) c.first_log_sector.result (replicate c.args.layout.log_sectors blank) (omega (arith, l))
     (zero_goes_on p0 p1 p2 c.slot_start-2.result (replicate 1 blank) (omega (arith, b))
     (zero_first p0 p1 c.slot_start.result (replicate 1 blank) (omega (arith, a)) all (c.write_blank.ensures.during h))
     (c.write_blank-2.ensures.during (c.write_blank.ensures.honest ∙ h)))
@@ -48,7 +48,7 @@ returns-clause-ok g c =
     wiped c.args.layout (seen p0) (seen p1) (seen p2) (seen p3) zero
     (subst (λ (n : ℕ). IsLaid (seen p0) n (replicate 1 blank) (seen p1)) c.slot_start.ensures (c.in_ok-write_blank.ensures.ok h))
     (subst (λ (n : ℕ). IsLaid (seen p1) n (replicate 1 blank) (seen p2)) c.slot_start-2.ensures (c.in_ok-write_blank-2.ensures.ok h1))
-    (subst (λ (n : ℕ). IsLaid (seen p2) n (replicate c.args.layout.log_sectors blank) (seen p3)) c.log_start.ensures (laid (c.write_blank-2.ensures.honest ∙ h1))))
+    (subst (λ (n : ℕ). IsLaid (seen p2) n (replicate c.args.layout.log_sectors blank) (seen p3)) c.first_log_sector.ensures (laid (c.write_blank-2.ensures.honest ∙ h1))))
     c.write_blank-3.ensures.ok
 
 pub returns-clause-all_calls : goal.returns-clause-all_calls

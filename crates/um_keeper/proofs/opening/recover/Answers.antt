@@ -2,8 +2,9 @@ use Rattle.std.proofs.Common.{◌≡◌, ◌∙◌, ◌-◌, ◌^◌, inl, inr, 
 use Rattle.um_engine.specs.Engine.{state_in}
 use Rattle.um_model.specs.Disk.{seen, IsSettled, after, synced}
 use Rattle.um_laws.proofs.DiskLaws.{settled_after_sync}
+use Rattle.um_model.specs.Store.{top}
 use Rattle.um_log.specs.Greatest.{IsGreatest}
-use Rattle.um_keeper.specs.Opening.{IsUnread, IsUntaken, unread, spent, IsTakenUp, IsRead, StaysFor}
+use Rattle.um_keeper.specs.Opening.{IsUnread, IsUntaken, unread, spent, IsFound, IsRead, StaysFor}
 use Rattle.um_keeper.proofs.Results.{err_same, if_ok_from, if_err_from, if_err_all, or_more}
 use Rattle.um_keeper.proofs.Reopening.{sync_unwritten, stays_of, next_of}
 use Rattle.um_keeper.proofs.opening.recover.Goals as goal
@@ -36,16 +37,16 @@ returns-then-found-clause-err g c = inr (λ h.
     let found = c.in_ok-found.found in
     let h1 = c.sync.ensures.honest ∙ h in
     let synced_it : g.D.Disk.past c.sync.new.self ≡ after synced p0 = c.in_ok-sync.ensures.past h in
+    let is : IsFound (g.D.Disk.size c.args.disk.now) (seen p0) found.layout found.home.slot found.home.generation found.greatest (state_in found.engine) =
+    subst (λ n. IsFound n (seen p0) found.layout found.home.slot found.home.generation found.greatest (state_in found.engine)) c.sync.ensures.size
+    (subst (λ p. IsFound (g.D.Disk.size c.sync.new.self) (seen p) found.layout found.home.slot found.home.generation found.greatest (state_in found.engine)) synced_it (c.in_ok-found.ensures.found h1)) in
     spent (record {
       layout = found.layout;
       slot = found.home.slot;
       generation = found.home.generation;
       state = state_in found.engine;
-      taken =
-          subst (λ n. IsTakenUp n (seen p0) found.layout found.home.slot found.home.generation (state_in found.engine)) c.sync.ensures.size
-          (subst (λ p. IsTakenUp (g.D.Disk.size c.sync.new.self) (seen p) found.layout found.home.slot found.home.generation (state_in found.engine)) synced_it (c.in_ok-found.ensures.found h1));
-      last = subst (λ n. IsGreatest found.layout (seen p0) found.home.generation n) c.if-found.true
-          (subst (λ p. IsGreatest found.layout (seen p) found.home.generation found.greatest) synced_it (c.in_ok-found.ensures.greatest h1));
+      taken = is.taken;
+      last = subst (λ n. IsGreatest found.layout (seen p0) (top is.taken.has.format found.home.generation) n) c.if-found.true is.greatest_is;
     }))
 
 -- ---- the state is written
@@ -63,9 +64,8 @@ returns-clause-stays g c =
     subst (λ l. StaysFor l (state_in held.engine) p0 (g.D.Disk.past c.renew.new.disk)) (sym facts.2)
     (subst (λ s. StaysFor found.layout s p0 (g.D.Disk.past c.renew.new.disk)) (sym facts.0)
     (stays_of (g.D.Disk.size c.take_up.new.disk) found.layout found.home.slot found.home.generation found.greatest (state_in found.engine) p0 (g.D.Disk.past c.take_up.new.disk) (g.D.Disk.past c.renew.new.disk) same
-    (subst (λ n. IsTakenUp n (seen p0) found.layout found.home.slot found.home.generation (state_in found.engine)) (sym c.take_up.ensures.size)
-    (subst (λ p. IsTakenUp (g.D.Disk.size c.sync.new.self) (seen p) found.layout found.home.slot found.home.generation (state_in found.engine)) synced_it (c.in_ok-found.ensures.found h1)))
-    (subst (λ p. IsGreatest found.layout (seen p) found.home.generation found.greatest) synced_it (c.in_ok-found.ensures.greatest h1))
+    (subst (λ n. IsFound n (seen p0) found.layout found.home.slot found.home.generation found.greatest (state_in found.engine)) (sym c.take_up.ensures.size)
+    (subst (λ p. IsFound (g.D.Disk.size c.sync.new.self) (seen p) found.layout found.home.slot found.home.generation found.greatest (state_in found.engine)) synced_it (c.in_ok-found.ensures.found h1)))
     (c.renew.ensures.during h2))))
     c.renew.ensures.held
 
@@ -86,9 +86,8 @@ returns-clause-unwritten g c =
         state = state_in found.engine;
         stays =
             stays_of (g.D.Disk.size c.take_up.new.disk) found.layout found.home.slot found.home.generation found.greatest (state_in found.engine) p0 (g.D.Disk.past c.take_up.new.disk) (g.D.Disk.past c.renew.new.disk) same
-            (subst (λ n. IsTakenUp n (seen p0) found.layout found.home.slot found.home.generation (state_in found.engine)) (sym c.take_up.ensures.size)
-            (subst (λ p. IsTakenUp (g.D.Disk.size c.sync.new.self) (seen p) found.layout found.home.slot found.home.generation (state_in found.engine)) synced_it (c.in_ok-found.ensures.found h1)))
-            (subst (λ p. IsGreatest found.layout (seen p) found.home.generation found.greatest) synced_it (c.in_ok-found.ensures.greatest h1))
+            (subst (λ n. IsFound n (seen p0) found.layout found.home.slot found.home.generation found.greatest (state_in found.engine)) (sym c.take_up.ensures.size)
+            (subst (λ p. IsFound (g.D.Disk.size c.sync.new.self) (seen p) found.layout found.home.slot found.home.generation found.greatest (state_in found.engine)) synced_it (c.in_ok-found.ensures.found h1)))
             (c.renew.ensures.during h2);
       },
     ))
@@ -105,10 +104,9 @@ returns-clause-ok g c =
     let synced_it : g.D.Disk.past c.sync.new.self ≡ after synced p0 = c.in_ok-sync.ensures.past h in
     let same = c.take_up.ensures.past h1 ∙ synced_it in
     keeps h2 (subst IsSettled (sym same) (settled_after_sync p0))
-    (subst (λ n. IsTakenUp n (seen (g.D.Disk.past c.take_up.new.disk)) found.layout found.home.slot found.home.generation (state_in found.engine)) (sym c.take_up.ensures.size)
-    (subst (λ p. IsTakenUp (g.D.Disk.size c.sync.new.self) (seen p) found.layout found.home.slot found.home.generation (state_in found.engine))
-    (sym (c.take_up.ensures.past h1)) (c.in_ok-found.ensures.found h1)))
-    (subst (λ p. IsGreatest found.layout (seen p) found.home.generation found.greatest) (sym (c.take_up.ensures.past h1)) (c.in_ok-found.ensures.greatest h1)))
+    (subst (λ n. IsFound n (seen (g.D.Disk.past c.take_up.new.disk)) found.layout found.home.slot found.home.generation found.greatest (state_in found.engine)) (sym c.take_up.ensures.size)
+    (subst (λ p. IsFound (g.D.Disk.size c.sync.new.self) (seen p) found.layout found.home.slot found.home.generation found.greatest (state_in found.engine))
+    (sym (c.take_up.ensures.past h1)) (c.in_ok-found.ensures.found h1))))
     c.renew.ensures.ok
 
 pub returns-clause-taken : goal.returns-clause-taken
@@ -122,9 +120,8 @@ returns-clause-taken g c =
     let synced_it : g.D.Disk.past c.sync.new.self ≡ after synced p0 = c.in_ok-sync.ensures.past h in
     next_of (g.D.Disk.size c.args.disk.now) (seen p0) found.layout held.log.layout found.home.slot held.home.slot found.home.generation found.greatest held.home.generation (state_in found.engine) (state_in held.engine)
     facts.0 facts.2 facts.3 facts.4
-    (subst (λ p. IsGreatest found.layout (seen p) found.home.generation found.greatest) synced_it (c.in_ok-found.ensures.greatest h1))
-    (subst (λ n. IsTakenUp n (seen p0) found.layout found.home.slot found.home.generation (state_in found.engine)) c.sync.ensures.size
-    (subst (λ p. IsTakenUp (g.D.Disk.size c.sync.new.self) (seen p) found.layout found.home.slot found.home.generation (state_in found.engine)) synced_it (c.in_ok-found.ensures.found h1))))
+    (subst (λ n. IsFound n (seen p0) found.layout found.home.slot found.home.generation found.greatest (state_in found.engine)) c.sync.ensures.size
+    (subst (λ p. IsFound (g.D.Disk.size c.sync.new.self) (seen p) found.layout found.home.slot found.home.generation found.greatest (state_in found.engine)) synced_it (c.in_ok-found.ensures.found h1))))
     c.renew.ensures.held
 
 pub returns-clause-opened : goal.returns-clause-opened

@@ -2,7 +2,7 @@ use Rattle.std.proofs.Common.{◌≡◌, ◌-◌, IsTrue}
 use Rattle.um_engine.specs.Engine.{state_in, size_in}
 use Rattle.um_model.specs.Disk.{seen}
 use Rattle.um_model.specs.Servable.{IsServable}
-use Rattle.um_model.specs.Store.{log_end}
+use Rattle.um_model.specs.Store.{area_end}
 use Rattle.um_keeper.proofs.Replaying.{IsReached}
 use Rattle.um_keeper.proofs.opening.replay.Given as goal
 
@@ -11,11 +11,12 @@ invariant-loop-found g l =
     let past = g.D.Disk.past in
     record {
       reached : IsTrue (g.D.Disk.honest l.fn.disk)
-          → IsReached l.fn.log.layout l.fn.log.generation (seen (past l.fn.disk)) (size_in l.fn.engine) (state_in l.fn.engine) (state_in l.engine) l.log.number l.log.next;
+          → IsReached l.fn.reader.format l.fn.reader.layout l.fn.reader.generation (seen (past l.fn.disk)) (size_in l.fn.engine) (state_in l.fn.engine) (state_in l.engine) l.reader.number l.reader.next;
       servable : IsServable (size_in l.engine) (state_in l.engine);
       size : size_in l.engine ≡ size_in l.fn.engine;
-      layout_is : l.log.layout ≡ l.fn.log.layout;
-      generation_is : l.log.generation ≡ l.fn.log.generation;
+      format_is : l.reader.format ≡ l.fn.reader.format;
+      layout_is : l.reader.layout ≡ l.fn.reader.layout;
+      generation_is : l.reader.generation ≡ l.fn.reader.generation;
       past : IsTrue (g.D.Disk.honest l.fn.disk) → past l.disk ≡ past l.fn.disk;
       failures : g.D.Disk.failures l.disk ≡ g.D.Disk.failures l.fn.disk;
       disk_size : g.D.Disk.size l.disk ≡ g.D.Disk.size l.fn.disk;
@@ -23,4 +24,4 @@ invariant-loop-found g l =
     }
 
 abbrev pub decreases-loop-found : goal.decreases-loop-found
-decreases-loop-found g l = log_end l.fn.log.layout l.fn.log.generation - l.log.next
+decreases-loop-found g l = area_end l.fn.reader.format l.fn.reader.layout l.fn.reader.generation - l.reader.next

@@ -1,4 +1,4 @@
-use Rattle.std.proofs.Common.{◌∙◌, Ok, length, sym, ap, subst, arith}
+use Rattle.std.proofs.Common.{◌∙◌, Ok, length, ap, subst, arith}
 use Rattle.um_model.specs.StateSpellings.{FitState, state_spelling}
 use Rattle.um_keeper.proofs.Kept.{at_some, spelled_fits}
 use Rattle.um_keeper.proofs.Underway.{still_begun, each_has, snapshot_begun, underway_renewed, may_hold}
@@ -12,15 +12,15 @@ returns-in_err-body-clause-during g c h s taken under = still_begun under
 
 pub returns-in-Ok-Some-clause-during : goal.returns-in-Ok-Some-clause-during
 returns-in-Ok-Some-clause-during g c h s taken under =
-    snapshot_begun under (subst FitState c.state.ensures c.in_ok-body.ensures.fits) (may_hold c.requires.held) (sym c.args.ahead.now.same)
-    (c.deref.ensures.value ∙ c.in_ok-body.ensures.bytes ∙ ap state_spelling c.state.ensures) (c.write_other.ensures.during h under.body (each_has under (sym c.args.ahead.now.same)))
+    snapshot_begun under (subst FitState c.state.ensures c.in_ok-body.ensures.fits) (may_hold c.requires.held) (omega (arith, c.if-ahead.false, c.args.ahead.now.same, under.ahead.store.newest.header.last))
+    (c.deref.ensures.value ∙ c.in_ok-body.ensures.bytes ∙ ap state_spelling c.state.ensures) (c.write_other.ensures.during h under.body (each_has under))
 
 pub returns-in-Ok-Some-clause-ok : goal.returns-in-Ok-Some-clause-ok
 returns-in-Ok-Some-clause-ok g c h s taken under =
     underway_renewed under (subst FitState c.state.ensures c.in_ok-body.ensures.fits) (may_hold c.requires.held) (g.met.D.Disk.seen_is_image c.write_other.new.disk (c.write_other.ensures.honest ∙ h))
     c.new.ensures.of.0 c.new.ensures.of.1 c.new.ensures.empty.0 c.new.ensures.empty.1
     (c.deref.ensures.value ∙ c.in_ok-body.ensures.bytes ∙ ap state_spelling c.state.ensures)
-    (at_some _ c.write_other.result c.in-Ok-Some.field-0 c.in-Ok-Some.home c.write_other.ensures.ok c.in-Ok-Some.is c.in-Ok-Some.field-0-is h under.body (each_has under (sym c.args.ahead.now.same)))
+    (at_some _ c.write_other.result c.in-Ok-Some.field-0 c.in-Ok-Some.home c.write_other.ensures.ok c.in-Ok-Some.is c.in-Ok-Some.field-0-is h under.body (each_has under))
 
 pub unreachable-requires : goal.unreachable-requires
 unreachable-requires g c =
@@ -31,5 +31,5 @@ unreachable-requires g c =
 
 pub returns-clause-during : goal.returns-clause-during
 returns-clause-during g c h s taken under =
-    snapshot_begun under (subst FitState c.state.ensures c.in_ok-body.ensures.fits) (may_hold c.requires.held) (sym c.args.ahead.now.same)
-    (c.deref.ensures.value ∙ c.in_ok-body.ensures.bytes ∙ ap state_spelling c.state.ensures) (c.write_other.ensures.during h under.body (each_has under (sym c.args.ahead.now.same)))
+    snapshot_begun under (subst FitState c.state.ensures c.in_ok-body.ensures.fits) (may_hold c.requires.held) (omega (arith, c.if-ahead.false, c.args.ahead.now.same, under.ahead.store.newest.header.last))
+    (c.deref.ensures.value ∙ c.in_ok-body.ensures.bytes ∙ ap state_spelling c.state.ensures) (c.write_other.ensures.during h under.body (each_has under))

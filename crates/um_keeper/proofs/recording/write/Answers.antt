@@ -36,8 +36,8 @@ returns-in-Ok-true-clause-during g c h next planned s taken under =
     let here = c.in_ok-make_room.ensures.ok h s taken under in
     then_begun (input_of c.args.input.now ∷ []) c.make_room.ensures.layout (c.make_room.ensures.during h s taken under)
     (during_recorded here c.in_ok-bytes.ensures.fits (step_on (held_at c.requires.held c.make_room.ensures.layout refl refl) planned.step refl)
-    (subst (λ (b : List ℕ). During mid new (HasSome a.log.layout a.home.slot a.log.generation here.body here.records (here.more ++ b ∷ []))) (c.deref.ensures.value ∙ c.in_ok-bytes.ensures.bytes)
-    (c.write.ensures.during h1 a.home.slot here.body here.records here.more here.ahead)))
+    (subst (λ (b : List ℕ). During mid new (HasSome a.log.layout a.home.slot a.home.generation here.body here.records (here.more ++ b ∷ []))) (c.deref.ensures.value ∙ c.in_ok-bytes.ensures.bytes)
+    (c.write.ensures.during h1 a.home.slot a.home.generation here.body here.records here.more here.ahead)))
 
 pub returns-in-Ok-true-clause-under : goal.returns-in-Ok-true-clause-under
 returns-in-Ok-true-clause-under g c h next planned s taken under =
@@ -47,8 +47,8 @@ returns-in-Ok-true-clause-under g c h next planned s taken under =
     let h1 = c.make_room.ensures.honest ∙ h in
     let here = c.in_ok-make_room.ensures.ok h s taken under in
     underway_recorded here c.in_ok-bytes.ensures.fits (step_on (held_at c.requires.held c.make_room.ensures.layout refl refl) planned.step refl) c.write.ensures.of.0
-    (subst (λ (b : List ℕ). GoesOnAhead log.layout new a.home.slot log.generation here.body here.records (here.more ++ b ∷ []) log.number log.next) (c.deref.ensures.value ∙ c.in_ok-bytes.ensures.bytes)
-    (c.write.ensures.ok (c.in-Ok-true.is ∙ ap Ok c.in-Ok-true.field-0-test) h1 a.home.slot here.body here.records here.more here.ahead))
+    (subst (λ (b : List ℕ). GoesOnAhead log.layout new a.home.slot a.home.generation here.body here.records (here.more ++ b ∷ []) log.generation log.number log.next) (c.deref.ensures.value ∙ c.in_ok-bytes.ensures.bytes)
+    (c.write.ensures.ok (c.in-Ok-true.is ∙ ap Ok c.in-Ok-true.field-0-test) h1 a.home.slot a.home.generation here.body here.records here.more here.ahead))
 
 pub returns-clause-during : goal.returns-clause-during
 returns-clause-during g c h next planned s taken under =
@@ -59,8 +59,8 @@ returns-clause-during g c h next planned s taken under =
     let here = c.in_ok-make_room.ensures.ok h s taken under in
     then_begun (input_of c.args.input.now ∷ []) c.make_room.ensures.layout (c.make_room.ensures.during h s taken under)
     (during_recorded here c.in_ok-bytes.ensures.fits (step_on (held_at c.requires.held c.make_room.ensures.layout refl refl) planned.step refl)
-    (subst (λ (b : List ℕ). During mid new (HasSome a.log.layout a.home.slot a.log.generation here.body here.records (here.more ++ b ∷ []))) (c.deref.ensures.value ∙ c.in_ok-bytes.ensures.bytes)
-    (c.write.ensures.during h1 a.home.slot here.body here.records here.more here.ahead)))
+    (subst (λ (b : List ℕ). During mid new (HasSome a.log.layout a.home.slot a.home.generation here.body here.records (here.more ++ b ∷ []))) (c.deref.ensures.value ∙ c.in_ok-bytes.ensures.bytes)
+    (c.write.ensures.during h1 a.home.slot a.home.generation here.body here.records here.more here.ahead)))
 
 pub returns-in-Ok-true-clause-filled : goal.returns-in-Ok-true-clause-filled
 returns-in-Ok-true-clause-filled g c from free =

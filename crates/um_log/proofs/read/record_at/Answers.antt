@@ -11,7 +11,7 @@ pub returns-then-not-fits-clause-found : goal.returns-then-not-fits-clause-found
 returns-then-not-fits-clause-found g c h =
     let image = seen (g.D.Disk.past c.args.disk.now) in
     let told : c.u32_at-size.result ≡ big_number 4 (drop 28 (image c.args.at)) = c.u32_at-size.ensures ∙ ap (λ (s : List ℕ). big_number 4 (drop 28 s)) (c.in_ok-read.ensures.value h) in
-    none_fits c.args.layout c.args.generation c.args.number c.args.at c.u32_at-size.result image told (λ room. true≢false (sym (c.fits.ensures.1 room) ∙ c.if-not-fits.true))
+    none_fits c.args.format c.args.layout c.args.generation c.args.number c.args.at c.u32_at-size.result image told (λ room. true≢false (sym (c.fits.ensures.1 room) ∙ c.if-not-fits.true))
 
 pub returns-then-ne-clause-found : goal.returns-then-ne-clause-found
 returns-then-ne-clause-found g c h =
@@ -21,7 +21,7 @@ returns-then-ne-clause-found g c h =
     ∙ ap (λ (p : Past). seen p (c.args.at + c.loop-part.part)) (c.loop-part.invariant.past h) in
     let low : c.loop-part.part < part_count c.u32_at-size.result = omega (arith, c.loop-part-test.true, c.div_ceil-part-end.ensures) in
     let is_told = c.log_sector.ensures in
-    none_part c.args.layout c.args.generation c.args.number c.args.at c.u32_at-size.result c.loop-part.part image c.read_part.new.sector c.payload-payload.result.now told low is c.payload-payload.ensures.payload
+    none_part c.args.format c.args.layout c.args.generation c.args.number c.args.at c.u32_at-size.result c.loop-part.part image c.read_part.new.sector c.payload-payload.result.now told low is c.payload-payload.ensures.payload
     (λ same. differ _ _ c.ne.result c.ne.ensures c.if-ne.true (same ∙ sym is_told))
 
 pub loop-part-preserved : goal.loop-part-preserved

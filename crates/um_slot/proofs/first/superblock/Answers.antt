@@ -1,5 +1,5 @@
-use Rattle.std.specs.Prelude.{List, ℕ, ◌++◌, codes}
-use Rattle.std.proofs.Common.{◌∙◌, ap}
+use Rattle.std.specs.Prelude.{List, ℕ, ◌++◌}
+use Rattle.std.proofs.Common.{◌∙◌, ap, append_assoc}
 use Rattle.byteorder.specs.Endian.{big_bytes}
 use Rattle.um_model.specs.Store as store
 use Rattle.um_model.specs.Store.{filled}
@@ -8,5 +8,8 @@ use Rattle.um_slot.proofs.first.superblock.Goals as goal
 pub returns : goal.returns
 unfolding store.superblock
 returns c =
-    c.sector.ensures ∙ ap filled (c.put_u32-2.ensures ∙ ap (λ (l : List ℕ). l ++ big_bytes 4 c.args.layout.log_sectors) (c.put_u32.ensures ∙ ap (λ (l : List ℕ). l ++ big_bytes 4 c.args.layout.slot_sectors)
-    (c.put.ensures ∙ ap (λ (l : List ℕ). l ++ codes "UMDISK01") c.new-fields.ensures)))
+    let name = store.format_name c.args.format in
+    let slots = big_bytes 4 c.args.layout.slot_sectors in
+    let log = big_bytes 4 c.args.layout.log_sectors in
+    c.sector.ensures ∙ ap filled (c.put_u32-2.ensures ∙ ap (λ (l : List ℕ). l ++ log) (c.put_u32.ensures ∙ ap (λ (l : List ℕ). l ++ slots)
+    (c.put.ensures ∙ (λ i. c.new-fields.ensures i ++ c.name_of.ensures i))) ∙ append_assoc name slots log)

@@ -1,69 +1,86 @@
-use Rattle.std.specs.Prelude.{List, ℕ, [], ◌∷◌, ◌+◌, ◌≡◌, length}
-use Rattle.std.proofs.Common.{◌∙◌, refl, ap, subst, arith}
-use Rattle.um_model.specs.Store.{sector_count}
-use Rattle.um_sector.proofs.RunLaws.{more-more}
-use Rattle.um_model.specs.Disk.{Sector, seen, During}
-use Rattle.um_sector.specs.Runs.{IsLaid, MaybeLaid, AfterRun, more}
-use Rattle.um_slot.specs.Snapshots.{body_run}
-use Rattle.um_slot.proofs.Writing.{first_run, both_runs, header_done, done_maybe}
+use Rattle.std.proofs.Common.{◌≡◌, ◌+◌, ◌∙◌, min, ℕ, length, refl, sym, subst, arith}
+use Rattle.um_model.specs.Disk.{seen, During}
+use Rattle.um_model.specs.Store.{other, sector_count}
+use Rattle.um_model.specs.declared.layout.Slot.{Slot}
+use Rattle.um_slot.specs.Snapshots.{IsWritten, IsSnapshot, MaybeSnapshot, AfterSnapshot}
+use Rattle.um_slot.proofs.Writing.{parts_maybe, both_maybe, both_beside, none_written}
 use Rattle.um_slot.proofs.write.write_slot.Goals as goal
 
--- what a run at a place says, of the same run at the same place
-abbrev moved : (P : ℕ → List Sector → Type 0) {at to : ℕ} {run items : List Sector} → at ≡ to → run ≡ items → P at run → P to items
-moved P {at} {to} {run} {items} is_at is_run p = subst (P to) is_run (subst (λ n. P n run) is_at p)
+pub returns-in_err-write_part-clause-during : goal.returns-in_err-write_part-clause-during
+returns-in_err-write_part-clause-during g c h =
+    parts_maybe c.args.layout c.args.last.slot (c.args.last.generation + 1) c.args.body.now (g.D.Disk.past c.args.disk.now) (g.D.Disk.past c.write_part.new.disk) (c.write_part.ensures.during h)
 
-pub returns-in_err-write_body_synced-clause-during : goal.returns-in_err-write_body_synced-clause-during
-returns-in_err-write_body_synced-clause-during g c h =
+pub returns-in_err-seal-clause-during : goal.returns-in_err-seal-clause-during
+returns-in_err-seal-clause-during g c h =
+    let layout = c.args.layout in
+    let last = c.args.last in
+    let body = c.args.body.now in
+    let to = c.next-to.result in
+    let turned = c.next-to.ensures in
     let old = g.D.Disk.past c.args.disk.now in
-    let mid = g.D.Disk.past c.write_body_synced.new.disk in
-    first_run c.args.layout c.args.to.slot c.args.to.generation c.args.body.now c.requires.fits old mid
-    (subst (λ n. During old mid (AfterRun old (n + 1) (body_run c.args.body.now))) c.slot_start-start.ensures (c.write_body_synced.ensures.during h))
-
-pub returns-in_err-write_run_synced-clause-during : goal.returns-in_err-write_run_synced-clause-during
-returns-in_err-write_run_synced-clause-during g c h =
-    let old = g.D.Disk.past c.args.disk.now in
-    let mid = g.D.Disk.past c.write_body_synced.new.disk in
-    let new = g.D.Disk.past c.write_run_synced.new.disk in
-    let start = c.slot_start-start.ensures in
-    both_runs c.args.layout c.args.to.slot c.args.to.generation c.args.body.now c.requires.fits old mid new (g.met.D.Disk.seen_is_image c.args.disk.now h)
-    (moved (λ n r. During old mid (AfterRun old (n + 1) r)) start refl (c.write_body_synced.ensures.during h))
-    (moved (λ n r. IsLaid (seen old) (n + 1) r (seen mid)) start refl (c.in_ok-write_body_synced.ensures.ok h))
-    (moved (λ n r. During mid new (MaybeLaid (seen mid) n r)) start (ap (λ (s : Sector). s ∷ []) c.header_sector.ensures)
-    (c.write_run_synced.ensures.settled_during (c.write_body_synced.ensures.honest ∙ h) (c.in_ok-write_body_synced.ensures.settled h)))
+    let mid = g.D.Disk.past c.write_part.new.disk in
+    let new = g.D.Disk.past c.seal.new.disk in
+    let h1 = c.write_part.ensures.honest ∙ h in
+    let full : min (0 + 18446744073709551615) (sector_count (length body)) ≡ sector_count (length body) = omega (arith, c.requires.fits, layout.slot_most) in
+    let whole : IsWritten layout (seen mid) (other last.slot) body (sector_count (length body)) =
+    subst (IsWritten layout (seen mid) (other last.slot) body) full (c.in_ok-write_part.ensures.written h (none_written layout (seen old) (other last.slot) body)) in
+    let there = subst (λ (s : Slot). IsWritten layout (seen mid) s body (sector_count (length body))) (sym turned.0) whole in
+    both_maybe layout last.slot (last.generation + 1) body old mid new (c.write_part.ensures.during h)
+    (subst (λ (n : ℕ). During mid new (AfterSnapshot layout mid (other last.slot) n body)) turned.1
+    (subst (λ (s : Slot). During mid new (AfterSnapshot layout mid s to.generation body)) turned.0 (c.seal.ensures.during h1 body refl there)))
 
 pub returns-clause-during : goal.returns-clause-during
 returns-clause-during g c h =
+    let layout = c.args.layout in
+    let last = c.args.last in
+    let body = c.args.body.now in
+    let to = c.next-to.result in
+    let turned = c.next-to.ensures in
     let old = g.D.Disk.past c.args.disk.now in
-    let mid = g.D.Disk.past c.write_body_synced.new.disk in
-    let new = g.D.Disk.past c.write_run_synced.new.disk in
-    let start = c.slot_start-start.ensures in
-    both_runs c.args.layout c.args.to.slot c.args.to.generation c.args.body.now c.requires.fits old mid new (g.met.D.Disk.seen_is_image c.args.disk.now h)
-    (moved (λ n r. During old mid (AfterRun old (n + 1) r)) start refl (c.write_body_synced.ensures.during h))
-    (moved (λ n r. IsLaid (seen old) (n + 1) r (seen mid)) start refl (c.in_ok-write_body_synced.ensures.ok h))
-    (moved (λ n r. During mid new (MaybeLaid (seen mid) n r)) start (ap (λ (s : Sector). s ∷ []) c.header_sector.ensures)
-    (c.write_run_synced.ensures.settled_during (c.write_body_synced.ensures.honest ∙ h) (c.in_ok-write_body_synced.ensures.settled h)))
+    let mid = g.D.Disk.past c.write_part.new.disk in
+    let new = g.D.Disk.past c.seal.new.disk in
+    let h1 = c.write_part.ensures.honest ∙ h in
+    let full : min (0 + 18446744073709551615) (sector_count (length body)) ≡ sector_count (length body) = omega (arith, c.requires.fits, layout.slot_most) in
+    let whole : IsWritten layout (seen mid) (other last.slot) body (sector_count (length body)) =
+    subst (IsWritten layout (seen mid) (other last.slot) body) full (c.in_ok-write_part.ensures.written h (none_written layout (seen old) (other last.slot) body)) in
+    let there = subst (λ (s : Slot). IsWritten layout (seen mid) s body (sector_count (length body))) (sym turned.0) whole in
+    both_maybe layout last.slot (last.generation + 1) body old mid new (c.write_part.ensures.during h)
+    (subst (λ (n : ℕ). During mid new (AfterSnapshot layout mid (other last.slot) n body)) turned.1
+    (subst (λ (s : Slot). During mid new (AfterSnapshot layout mid s to.generation body)) turned.0 (c.seal.ensures.during h1 body refl there)))
 
 pub returns-clause-written : goal.returns-clause-written
 returns-clause-written g c h =
+    let layout = c.args.layout in
+    let last = c.args.last in
+    let body = c.args.body.now in
+    let to = c.next-to.result in
+    let turned = c.next-to.ensures in
     let old = g.D.Disk.past c.args.disk.now in
-    let mid = g.D.Disk.past c.write_body_synced.new.disk in
-    let new = g.D.Disk.past c.write_run_synced.new.disk in
-    header_done c.args.layout c.args.to.slot c.args.to.generation c.args.body.now c.requires.fits (seen old) (seen mid)
-    (moved (λ n r. IsLaid (seen old) (n + 1) r (seen mid)) c.slot_start-start.ensures refl (c.in_ok-write_body_synced.ensures.ok h)) (seen new)
-    (moved (λ n r. IsLaid (seen mid) n r (seen new)) c.slot_start-start.ensures (ap (λ (s : Sector). s ∷ []) c.header_sector.ensures) (c.in_ok-write_run_synced.ensures.ok (c.write_body_synced.ensures.honest ∙ h)))
+    let mid = g.D.Disk.past c.write_part.new.disk in
+    let new = g.D.Disk.past c.seal.new.disk in
+    let h1 = c.write_part.ensures.honest ∙ h in
+    let full : min (0 + 18446744073709551615) (sector_count (length body)) ≡ sector_count (length body) = omega (arith, c.requires.fits, layout.slot_most) in
+    let whole : IsWritten layout (seen mid) (other last.slot) body (sector_count (length body)) =
+    subst (IsWritten layout (seen mid) (other last.slot) body) full (c.in_ok-write_part.ensures.written h (none_written layout (seen old) (other last.slot) body)) in
+    let there = subst (λ (s : Slot). IsWritten layout (seen mid) s body (sector_count (length body))) (sym turned.0) whole in
+    subst (λ (n : ℕ). IsSnapshot layout (seen new) (other last.slot) n body) turned.1
+    (subst (λ (s : Slot). IsSnapshot layout (seen new) s to.generation body) turned.0 (c.in_ok-seal.ensures.written h1 body refl there))
 
 pub returns-clause-beside : goal.returns-clause-beside
 returns-clause-beside g c h =
+    let layout = c.args.layout in
+    let last = c.args.last in
+    let body = c.args.body.now in
+    let to = c.next-to.result in
+    let turned = c.next-to.ensures in
     let old = g.D.Disk.past c.args.disk.now in
-    let mid = g.D.Disk.past c.write_body_synced.new.disk in
-    let new = g.D.Disk.past c.write_run_synced.new.disk in
-    done_maybe c.args.layout c.args.to.slot c.args.to.generation c.args.body.now c.requires.fits (seen old) (seen mid)
-    (moved (λ n r. IsLaid (seen old) (n + 1) r (seen mid)) c.slot_start-start.ensures refl (c.in_ok-write_body_synced.ensures.ok h)) (seen new)
-    (moved (λ n r. IsLaid (seen mid) n r (seen new)) c.slot_start-start.ensures (ap (λ (s : Sector). s ∷ []) c.header_sector.ensures) (c.in_ok-write_run_synced.ensures.ok (c.write_body_synced.ensures.honest ∙ h)))
-
-pub returns-clause-all_calls : goal.returns-clause-all_calls
-returns-clause-all_calls g c =
-    let first = g.D.Disk.calls c.args.disk.now in
-    let body = sector_count (length c.args.body.now) in
-    let e : body + 1 + 2 ≡ body + 3 = omega arith in
-    c.in_ok-write_run_synced.ensures.all_calls ∙ ap (λ n. more n 2) c.in_ok-write_body_synced.ensures.all_calls ∙ more-more first (body + 1) 2 ∙ ap (more first) e
+    let mid = g.D.Disk.past c.write_part.new.disk in
+    let new = g.D.Disk.past c.seal.new.disk in
+    let h1 = c.write_part.ensures.honest ∙ h in
+    let full : min (0 + 18446744073709551615) (sector_count (length body)) ≡ sector_count (length body) = omega (arith, c.requires.fits, layout.slot_most) in
+    let whole : IsWritten layout (seen mid) (other last.slot) body (sector_count (length body)) =
+    subst (IsWritten layout (seen mid) (other last.slot) body) full (c.in_ok-write_part.ensures.written h (none_written layout (seen old) (other last.slot) body)) in
+    let there = subst (λ (s : Slot). IsWritten layout (seen mid) s body (sector_count (length body))) (sym turned.0) whole in
+    both_beside layout last.slot (last.generation + 1) body (seen old) (seen mid) (seen new) (c.in_ok-write_part.ensures.beside h)
+    (subst (λ (n : ℕ). MaybeSnapshot layout (seen mid) (other last.slot) n body (seen new)) turned.1
+    (subst (λ (s : Slot). MaybeSnapshot layout (seen mid) s to.generation body (seen new)) turned.0 (c.in_ok-seal.ensures.beside h1 body refl there)))

@@ -1,5 +1,6 @@
 use Rattle.std.proofs.Common.{◌≡◌, [], ◌∷◌, map, refl, sym, ap, ◌∙◌, subst, inr, string_bytes}
 use Rattle.std.proofs.lemmas.List.{map-append}
+use Rattle.um_model.specs.Profiles.{current, read_by}
 use Rattle.um_model.specs.Units.{BadSetting, load}
 use Rattle.um_unit.specs.View.{loading_of}
 use Rattle.um_verify.specs.Findings.{TakesOut, Tells}
@@ -11,12 +12,12 @@ pub returns-in-Left : goal.returns-in-Left
 returns-in-Left c =
     let unit = c.args.unit.now in
     let found = c.loop.findings.items in
-    let bad = sym c.in_ok-found.ensures ∙ ap loading_of c.in-BadSetting.is in
+    let bad = ap (λ t. load t unit) (sym c.read_now.ensures) ∙ sym c.in_ok-found.ensures ∙ ap loading_of c.in-BadSetting.is in
     let same = subst (IsTaken c.loop.tree c.take_out.new.tree c.in-BadSetting.unit c.as_str.result.now) c.in-Left.is c.in_ok-finding-in-BadSetting.ensures in
     let more = c.in_ok-with_last-in-Left.ensures in (
       map told_of found,
       subst (λ t. Tells c.args.tree.now unit (map told_of found) t) same c.loop.invariant,
-      (found, more.0, more.1, refl, inr (c.in-BadSetting.unit, string_bytes c.in-BadSetting.reason, subst (λ t. load t unit ≡ BadSetting c.in-BadSetting.unit (string_bytes c.in-BadSetting.reason)) same bad)),
+      (found, more.0, more.1, refl, inr (c.in-BadSetting.unit, string_bytes c.in-BadSetting.reason, subst (λ t. load (read_by current t) unit ≡ BadSetting c.in-BadSetting.unit (string_bytes c.in-BadSetting.reason)) same bad)),
     )
 
 pub loop-preserved : goal.loop-preserved
@@ -25,7 +26,7 @@ loop-preserved c =
     let found = c.loop.findings.items in
     let one = c.in-Out.finding in
     let after = c.take_out.new.tree in
-    let bad = sym c.in_ok-found.ensures ∙ ap loading_of c.in-BadSetting.is in
+    let bad = ap (λ t. load t unit) (sym c.read_now.ensures) ∙ sym c.in_ok-found.ensures ∙ ap loading_of c.in-BadSetting.is in
     let named = c.in-BadSetting.unit in
     let taken = subst (λ r. IsTaken c.loop.tree after named r c.in_ok-finding-in-BadSetting.field-0) c.as_str.ensures.value c.in_ok-finding-in-BadSetting.ensures in
     let out = subst (IsTaken c.loop.tree after named (string_bytes c.in-BadSetting.reason)) c.in-Out.is taken in

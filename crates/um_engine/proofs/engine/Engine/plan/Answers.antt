@@ -1,9 +1,10 @@
-use Rattle.std.proofs.Common.{◌≡◌, ◌≢◌, ◌∙◌, [], false, true≢false, refl, sym, ap, rules, map}
+use Rattle.std.proofs.Common.{◌≡◌, ◌≢◌, ◌∙◌, [], false, true≢false, refl, sym, subst, ap, rules, map}
 use Rattle.um_model.specs.Machine as model
 use Rattle.um_state.specs.View.{input_of, action_of, command_of, happening_of}
 use Rattle.um_wire.specs.Refusal.{refused_of}
 use Rattle.um_wire.specs.declared.refusal.Refusal.TheVariants.{NoMemory}
-use Rattle.um_engine.specs.Engine.{actions_in, reply_in, standing_in}
+use Rattle.um_engine.specs.Engine.{Obeys, actions_in, reply_in, standing_in}
+use Rattle.um_engine.specs.Planned.{Declines}
 use Rattle.um_engine.specs.OfStore.{is_of_store}
 use Rattle.um_engine.proofs.AcceptedLaws.{never_refused}
 use Rattle.um_engine.proofs.ExactLaws.{exact_after}
@@ -21,13 +22,14 @@ returns-in_err-next-in-Commanded-clause-refused c =
     → model.Step c.args.self.now.size s (input_of c.args.input.now) (model.Refusal (refused_of c.in_err-next-in-Commanded.field-0.0)) [] s =
     λ differs.
     declined_step c.args.self.now.size s (input_of c.args.input.now) c.or_later-moment.result (command_of c.in-Commanded.command) _ event moment
-    (c.in_err-next-in-Commanded.ensures.refused differs) in
+    (subst (λ p. Declines p c.args.self.now.size c.or_later-moment.result s (command_of c.in-Commanded.command) (refused_of c.in_err-next-in-Commanded.field-0.0)) c.profile.ensures
+    (c.in_err-next-in-Commanded.ensures.refused differs)) in
     search (rules, step)
 
 pub returns-in_err-next-in-Commanded-clause-only : goal.returns-in_err-next-in-Commanded-clause-only
 returns-in_err-next-in-Commanded-clause-only c =
     let step : is_of_store c.in_err-next-in-Commanded.field-0.0 ≡ false =
-    declined_of_no_store c.args.self.now.size c.or_later-moment.result c.args.self.now.served.state (command_of c.in-Commanded.command) c.in_err-next-in-Commanded.field-0.0
+    declined_of_no_store c.profile.result c.args.self.now.size c.or_later-moment.result c.args.self.now.served.state (command_of c.in-Commanded.command) c.in_err-next-in-Commanded.field-0.0
     c.in_err-next-in-Commanded.ensures.refused in
     search (rules, step)
 
@@ -37,7 +39,9 @@ returns-in_ok-next-in-Commanded-clause-ok c =
     let clock = c.clock.ensures ∙ ap (λ (x : model.State). x.clock) c.state.ensures.state in
     let moment = rw (clock, c.moment.ensures) at c.or_later-moment.ensures in
     obeyed_step c.args.self.now.size c.or_later-moment.result (standing_in c.args.self.now) (input_of c.args.input.now) (command_of c.in-Commanded.command) c.in_ok-next-in-Commanded.next
-    event moment c.in_ok-next-in-Commanded.ensures.obeys
+    event moment
+    (subst (λ p. Obeys p c.args.self.now.size c.or_later-moment.result (standing_in c.args.self.now) (command_of c.in-Commanded.command) c.in_ok-next-in-Commanded.next) c.profile.ensures
+    c.in_ok-next-in-Commanded.ensures.obeys)
 
 pub returns-in_ok-next-in-Commanded-clause-accepted : goal.returns-in_ok-next-in-Commanded-clause-accepted
 returns-in_ok-next-in-Commanded-clause-accepted c = λ r e.
@@ -98,7 +102,8 @@ returns-in_ok-next-in-Commanded-clause-exact c =
     let next = c.in_ok-next-in-Commanded.next in
     exact_after c.args.self.now.size c.args.self.now.served (input_of c.args.input.now) (reply_in next) (actions_in next) next.change
     (obeyed_step c.args.self.now.size c.or_later-moment.result (standing_in c.args.self.now) (input_of c.args.input.now) (command_of c.in-Commanded.command) next event moment
-    c.in_ok-next-in-Commanded.ensures.obeys)
+    (subst (λ p. Obeys p c.args.self.now.size c.or_later-moment.result (standing_in c.args.self.now) (command_of c.in-Commanded.command) c.in_ok-next-in-Commanded.next) c.profile.ensures
+    c.in_ok-next-in-Commanded.ensures.obeys))
     c.in_ok-next-in-Commanded.ensures.exact
 
 pub returns-in_ok-change-in-Happened-clause-exact : goal.returns-in_ok-change-in-Happened-clause-exact

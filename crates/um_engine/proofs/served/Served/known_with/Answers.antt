@@ -6,7 +6,7 @@ use Rattle.um_engine.specs.Known.{IsFull, IsGraphFor, KnownView, KnowsFor}
 use Rattle.um_engine.proofs.FitsLaws.{fits_here}
 use Rattle.um_engine.proofs.KnownLaws.{knows_named}
 use Rattle.um_model.specs.Dependencies.{IsKnown}
-use Rattle.um_model.specs.Tree.{without_run}
+use Rattle.um_model.specs.Profiles.{lasting_tree}
 use Rattle.um_engine.specs.Served.{ServedView}
 use Rattle.um_engine.proofs.PlannedLaws.{refuses_on}
 use Rattle.um_engine.proofs.SameUnitsLaws.{graph_by}
@@ -58,7 +58,7 @@ returns-clause-knows c =
     let known = c.in_ok-known.known.value in
     subst (λ (v : ServedView). KnowsFor known v.state) c.self.view_is
     (knows_named known s c.args.named.now (subst (λ tree. IsGraphFor tree (Contains known.extra) known.graph) c.loaded.ensures c.in_ok-known.ensures.made)
-    (subst (λ tree. (unit : List ℕ) → Contains known.lasting unit ↔ IsKnown (without_run tree) (Contains known.extra) unit) c.loaded.ensures c.in_ok-known.ensures.lasting)
+    (subst (λ tree. (unit : List ℕ) → Contains known.lasting unit ↔ IsKnown (lasting_tree tree) (Contains known.extra) unit) c.loaded.ensures c.in_ok-known.ensures.lasting)
     c.in_ok-known.ensures.extra)
 
 pub returns-clause-known : goal.returns-clause-known

@@ -3,6 +3,7 @@ use Rattle.um_model.specs.Machine.{IsCrowded, IsHeld}
 use Rattle.um_state.specs.View.{state_of}
 use Rattle.um_wire.specs.Refusal.{refused_of}
 use Rattle.um_wire.specs.declared.refusal.Refusal.TheVariants.{NoMemory}
+use Rattle.um_unit.specs.View.{tree_read}
 use Rattle.um_engine.specs.Known.{IsFull}
 use Rattle.um_engine.proofs.ExactLaws.{exact_at}
 use Rattle.um_engine.proofs.KnownLaws.{knows_made, knows_of}
@@ -13,8 +14,8 @@ pub numbered-requires : goal.numbered-requires
 numbered-requires c =
     let s = state_of c.args.state in
     let known = c.in_ok-known.known.value in
-    knows_of known s c.loaded.result.now c.loaded.ensures
-    (knows_made known s c.loaded.result.now c.in_ok-known.ensures.made c.in_ok-known.ensures.lasting c.in_ok-known.ensures.extra)
+    knows_of known s (tree_read c.loaded.result) c.loaded.ensures
+    (knows_made known s (tree_read c.loaded.result) c.in_ok-known.ensures.made c.in_ok-known.ensures.lasting c.in_ok-known.ensures.extra)
 
 pub returns-in_err-known-clause-refused : goal.returns-in_err-known-clause-refused
 returns-in_err-known-clause-refused c =
@@ -40,5 +41,5 @@ returns-clause-exact c =
     let s = state_of c.args.state in
     let known = c.in_ok-known.known.value in
     exact_at c.in_ok-served.served known s c.in_ok-served.ensures.state c.in_ok-served.ensures.known
-    (knows_of known s c.loaded.result.now c.loaded.ensures
-    (knows_made known s c.loaded.result.now c.in_ok-known.ensures.made c.in_ok-known.ensures.lasting c.in_ok-known.ensures.extra)) (λ x among. (c.in_ok-known.ensures.extra x).0 among)
+    (knows_of known s (tree_read c.loaded.result) c.loaded.ensures
+    (knows_made known s (tree_read c.loaded.result) c.in_ok-known.ensures.made c.in_ok-known.ensures.lasting c.in_ok-known.ensures.extra)) (λ x among. (c.in_ok-known.ensures.extra x).0 among)

@@ -2,6 +2,7 @@ use Rattle.std.proofs.Common.{◌++◌, ◌∙◌, true, cond, ap, subst, sym}
 use Rattle.std.specs.HashSet.{contains}
 use Rattle.std.specs.List.{flat_map}
 use Rattle.std.specs.Str.{bytes_eq}
+use Rattle.um_model.specs.Profiles.{read_by}
 use Rattle.um_graph.specs.Followed.{AreFollowed}
 use Rattle.um_graph.specs.Known.{IsUnderWay, ends_left}
 use Rattle.um_graph.proofs.FollowedLaws.{one_followed}
@@ -14,8 +15,8 @@ returns-clause-whole c extra w =
     let new = c.load_into.new.loaded in
     let loads = c.in_ok-told.ensures.loaded in
     let tells = c.in_ok-told.ensures.told in
-    subst (λ m. IsUnderWay c.args.resolved.now extra m c.take.new.self.left.items c.take.new.self.told.items) (sym c.in_ok-take.ensures.loaded)
-    (followed c.args.resolved.now extra old.loaded new old.left.items c.take.new.self.left.items old.told.items c.take.new.self.told.items c.args.name loads.0
+    subst (λ m. IsUnderWay (read_by c.args.profile c.args.resolved.now) extra m c.take.new.self.left.items c.take.new.self.told.items) (sym c.in_ok-take.ensures.loaded)
+    (followed (read_by c.args.profile c.args.resolved.now) extra old.loaded new old.left.items c.take.new.self.left.items old.told.items c.take.new.self.told.items c.args.name loads.0
     loads.2
     loads.1
     (c.in_ok-take.ensures.left ∙ ap (λ ts. old.left.items ++ flat_map (ends_left new) ts) tells)

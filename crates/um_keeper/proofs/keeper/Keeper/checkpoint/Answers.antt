@@ -1,6 +1,7 @@
 use Rattle.std.proofs.Common.{◌∙◌, Ok, length, refl, sym, ap, subst, arith}
+use Rattle.um_model.specs.Disk.{seen}
 use Rattle.um_model.specs.StateSpellings.{FitState, state_spelling}
-use Rattle.um_keeper.proofs.Kept.{at_some, still, spelled_fits, during_kept, kept_behind, told_behind, held_at, keeps_at}
+use Rattle.um_keeper.proofs.Kept.{at_some, still, unpacked, spelled_fits, during_kept, kept_behind, told_behind, held_at, keeps_at}
 use Rattle.um_keeper.proofs.Offered.{nothing_offered}
 use Rattle.um_keeper.proofs.keeper.Keeper.checkpoint.Goals as goal
 
@@ -21,12 +22,16 @@ invariant_of-self g c =
           keeps_at (kept_behind c.args.self.now.holds k (subst FitState c.state.ensures c.in_ok-body.ensures.fits) (c.deref.ensures.value ∙ c.in_ok-body.ensures.bytes ∙ ap state_spelling c.state.ensures)
           (at_some _ c.write_other.result c.in-Ok-Some.field-0 c.in-Ok-Some.home c.write_other.ensures.ok c.in-Ok-Some.is c.in-Ok-Some.field-0-is old)
           (g.met.D.Disk.seen_is_image c.write_other.new.disk h) k.on_disk)
-          c.write_other.ensures.size c.new-self.ensures.of.0 c.new-self.ensures.empty.0 c.new-self.ensures.empty.1;
+          c.write_other.ensures.size c.new-self.ensures.of.0 c.new-self.ensures.of.1 c.new-self.ensures.empty.0 c.new-self.ensures.empty.1;
     }
 
 pub returns-in-Ok-Some-clause-during : goal.returns-in-Ok-Some-clause-during
 returns-in-Ok-Some-clause-during g c f h =
-    during_kept c.args.self.now.holds (c.args.self.now.kept f h) (subst FitState c.state.ensures c.in_ok-body.ensures.fits) (c.deref.ensures.value ∙ c.in_ok-body.ensures.bytes ∙ ap state_spelling c.state.ensures) (c.write_other.ensures.during h)
+    let k = c.args.self.now.kept f h in
+    let is = g.met.D.Disk.seen_is_image c.args.self.now.disk h in
+    let last = ((unpacked k).goes_on.store (seen (g.D.Disk.past c.args.self.now.disk)) is).newest.header.last in
+    during_kept c.args.self.now.holds k (subst FitState c.state.ensures c.in_ok-body.ensures.fits) is
+    (omega (arith, c.if-self-2.false, c.args.self.now.same, last)) (c.deref.ensures.value ∙ c.in_ok-body.ensures.bytes ∙ ap state_spelling c.state.ensures) (c.write_other.ensures.during h)
 
 pub returns-in-Ok-Some-clause-stored : goal.returns-in-Ok-Some-clause-stored
 returns-in-Ok-Some-clause-stored g c h =
@@ -42,7 +47,11 @@ unreachable-requires g c =
 
 pub returns-clause-during : goal.returns-clause-during
 returns-clause-during g c f h =
-    during_kept c.args.self.now.holds (c.args.self.now.kept f h) (subst FitState c.state.ensures c.in_ok-body.ensures.fits) (c.deref.ensures.value ∙ c.in_ok-body.ensures.bytes ∙ ap state_spelling c.state.ensures) (c.write_other.ensures.during h)
+    let k = c.args.self.now.kept f h in
+    let is = g.met.D.Disk.seen_is_image c.args.self.now.disk h in
+    let last = ((unpacked k).goes_on.store (seen (g.D.Disk.past c.args.self.now.disk)) is).newest.header.last in
+    during_kept c.args.self.now.holds k (subst FitState c.state.ensures c.in_ok-body.ensures.fits) is
+    (omega (arith, c.if-self-2.false, c.args.self.now.same, last)) (c.deref.ensures.value ∙ c.in_ok-body.ensures.bytes ∙ ap state_spelling c.state.ensures) (c.write_other.ensures.during h)
 
 pub returns-then-self-2-clause-life : goal.returns-then-self-2-clause-life
 returns-then-self-2-clause-life g c s before f h come = nothing_offered _ s _ before _ _ come (returns-then-self-2-clause-during g c f h)

@@ -14,7 +14,7 @@ use Rattle.um_state.specs.View.{input_of}
 use Rattle.um_state.specs.declared.input.Input.{Input}
 use Rattle.um_keeper.specs.Answering.{Answer, AreAnswered, FellBack, FellThere, NeedNoRecord, HaveNoRecord, Recorded, AreSpentAt, AreSpentAsMeant, as_told, TakesCalls, denied, taken, state_before_all}
 use Rattle.um_keeper.specs.Keepers.{disk_in, standing_in, state_in, size_in, layout_in, log_generation_in, next_in}
-use Rattle.um_keeper.specs.Keeping.{Keeps, IsBegun}
+use Rattle.um_keeper.specs.Keeping.{IsBegun}
 use Rattle.um_keeper.proofs.Batching.{numbers_asked, denied_new, no_fault, need_no_record, fell_whole, fell_back, fell_there, fell_told, fell_during, fell_unrecorded}
 use Rattle.um_keeper.proofs.Kept.{stores, stores_at, keeps_for}
 use Rattle.um_keeper.proofs.Offered.{each_stays, fell_stays, list_goes_on}
@@ -35,18 +35,13 @@ returns-in-Ok-clause-told g c = ((λ f. absurd (true≢false (sym f ∙ c.if-sel
 pub returns-in-Ok-clause-order : goal.returns-in-Ok-clause-order
 returns-in-Ok-clause-order g c = numbers_asked c.in-Ok.ensures.ok
 
--- what the keeper holds, as the calls need it
-kept_in : {past : Past} {sectors : ℕ} {layout : Layout} {slot : Slot} {generation g number next : ℕ} {s : State} → g ≡ generation → Keeps past sectors layout slot generation number next s
-    → Keeps past sectors layout slot g number next s
-kept_in {past} {sectors} {layout} {slot} {number = number} {next} {s} same = subst (λ n. Keeps past sectors layout slot n number next s) (sym same)
-
 pub invariant_of-self-clause-kept : goal.invariant_of-self-clause-kept
 invariant_of-self-clause-kept g c f h =
     let early = sym c.record_all.ensures.honest ∙ h in
-    keeps_for (kept_in (sym c.record_all.new.ahead.same) (c.in-Ok.ensures.kept early (kept_in c.args.self.now.same (c.args.self.now.kept f early)))) c.record_all.ensures.size refl
+    keeps_for (c.in-Ok.ensures.kept early (c.args.self.now.kept f early)) c.record_all.ensures.size refl
 
 pub returns-in-Ok-clause-stored : goal.returns-in-Ok-clause-stored
-returns-in-Ok-clause-stored g c f h = stores_at (c.in-Ok.ensures.kept h (kept_in c.args.self.now.same (c.args.self.now.kept c.if-self.false h))) c.record_all.ensures.layout
+returns-in-Ok-clause-stored g c f h = stores_at (c.in-Ok.ensures.kept h (c.args.self.now.kept c.if-self.false h)) c.record_all.ensures.layout
 
 pub returns-in-Ok-clause-life : goal.returns-in-Ok-clause-life
 returns-in-Ok-clause-life g c s before h come =
@@ -59,7 +54,7 @@ returns-in-Ok-clause-life g c s before h come =
     let new = D.past c.record_all.new.disk in
     let answers = c.record_all.new.answers.items in
     let told = subst (λ n. AreAnswered n t (map input_of c.deref.result.now) answers u) first.holds.size_is c.in-Ok.ensures.ok in
-    let during = c.in-Ok.ensures.during h (kept_in first.same (first.kept c.if-self.false h)) in
+    let during = c.in-Ok.ensures.during h (first.kept c.if-self.false h) in
     list_goes_on layout s t u before (map input_of c.args.inputs.items) answers old new _ come (each_stays told)
     (subst (λ i. During old new (IsBegun layout t (taken (map input_of i) answers))) c.deref.ensures.value during)
     (λ works. subst (λ i. AreAnswered (body_limit layout) t (map input_of i) answers u) c.deref.ensures.value told)
@@ -144,7 +139,7 @@ returns-clause-during g c h =
     let first = c.args.self.now in
     let n : c.len-count.result ≡ length c.args.inputs.items = search rules in
     subst (λ i. During (D.past (disk_in first)) (D.past c.record_all.new.disk) (IsBegun (layout_in first) (state_in first) (taken (map input_of i) c.deny.new.answers.items))) c.deref.ensures.value
-    (fell_during c.in-Err.ensures.stopped c.len-count.result (counted c.len-count.result c.deref.result.now c.args.inputs.items n c.deref.ensures.value) c.deny.ensures (c.in-Err.ensures.lost h (kept_in c.args.self.now.same (c.args.self.now.kept c.if-self.false h))))
+    (fell_during c.in-Err.ensures.stopped c.len-count.result (counted c.len-count.result c.deref.result.now c.args.inputs.items n c.deref.ensures.value) c.deny.ensures (c.in-Err.ensures.lost h (c.args.self.now.kept c.if-self.false h)))
 
 pub returns-clause-life : goal.returns-clause-life
 returns-clause-life g c s before h come =

@@ -61,7 +61,8 @@ returns-in-Err-begin-clause-err g c = λ sure layout images.
     let there = place_in (D.honest (disk_in k)) k in
     let ok = c.in-Ok.ensures.ok in
     let next = c.in-Ok.ensures.taken sure in
-    let same : layout_in k ≡ layout = one_layout (layout_in k) layout (seen first) next.taken.has.first (images (seen first) (g.met.D.Disk.seen_is_image c.args.disk sure)).stands.first in
+    let as_stored = (images (seen first) (g.met.D.Disk.seen_is_image c.args.disk sure)).stands in
+    let same : layout_in k ≡ layout = one_layout next.taken.has.format as_stored.format (layout_in k) layout (seen first) next.taken.has.first as_stored.first in
     let a = now_in k (g.C.Children.past c.args.children) [] [] (D.past (disk_in k)) in
     let (marks, refuses) = c.in-Err-begin.ensures.refuses in
     let b = now_in l (g.C.Children.past c.begin.new.children) marks [] (D.past (disk_in l)) in
@@ -88,7 +89,7 @@ returns-in-Err-begin-clause-refused g c = elim c.in-Err-begin.ensures.refused [
       let k = c.in-Ok.keeper in
       let ok = c.in-Ok.ensures.ok in
       let (short, room) = c.in-Err-begin.ensures.spent spent in
-      absurd (never_spent c.args.moment c.args.boot (k.kept ok.0 (subst IsTrue (sym ok.2) h)) k.same ok.1 short room.no_room))
+      absurd (never_spent c.args.moment c.args.boot (k.kept ok.0 (subst IsTrue (sym ok.2) h)) ok.1 short room.no_room))
 ]
 
 pub returns-in-Err-begin-clause-unwritten : goal.returns-in-Err-begin-clause-unwritten
@@ -98,7 +99,7 @@ returns-in-Err-begin-clause-unwritten g c = λ h. elim c.in-Err-begin.ensures.re
       let k = c.in-Ok.keeper in
       let ok = c.in-Ok.ensures.ok in
       let (short, room) = c.in-Err-begin.ensures.spent spent in
-      absurd (never_spent c.args.moment c.args.boot (k.kept ok.0 (subst IsTrue (sym ok.2) h)) k.same ok.1 short room.no_room)
+      absurd (never_spent c.args.moment c.args.boot (k.kept ok.0 (subst IsTrue (sym ok.2) h)) ok.1 short room.no_room)
 ]
 
 pub returns-in-Err-clause-unwritten : goal.returns-in-Err-clause-unwritten
@@ -134,7 +135,8 @@ returns-in-Err-begin-clause-refuses g c = λ sure layout images.
     let l = c.begin.new.keeper in
     let ok = c.in-Ok.ensures.ok in
     let next = c.in-Ok.ensures.taken sure in
-    let same : layout_in k ≡ layout = one_layout (layout_in k) layout (seen first) next.taken.has.first (images (seen first) (g.met.D.Disk.seen_is_image c.args.disk sure)).stands.first in
+    let as_stored = (images (seen first) (g.met.D.Disk.seen_is_image c.args.disk sure)).stands in
+    let same : layout_in k ≡ layout = one_layout next.taken.has.format as_stored.format (layout_in k) layout (seen first) next.taken.has.first as_stored.first in
     let (marks, refuses) = c.in-Err-begin.ensures.refuses in
     let a = now_in k (g.C.Children.past c.args.children) [] [] (D.past (disk_in k)) in
     let b = now_in l (g.C.Children.past c.begin.new.children) marks [] (D.past (disk_in l)) in

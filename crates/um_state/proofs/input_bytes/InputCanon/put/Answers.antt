@@ -1,5 +1,6 @@
 use Rattle.std.proofs.Common.{ℕ, List, [], ◌∷◌, ◌++◌, ap, ◌∙◌}
 use Rattle.um_model.specs.InputSpellings.{event_fields, event_tag}
+use Rattle.um_model.specs.Spellings.{profile_tag}
 use Rattle.um_state.proofs.Fronts.{both_put, in_front, in_front_of_more}
 use Rattle.um_state.proofs.Results.{on_any_err, on_err_more, on_ok_more}
 use Rattle.um_state.proofs.StateFields.{eight_bytes}
@@ -14,10 +15,12 @@ returns-clause-put c =
     let two = c.push-2.new.self.items in
     let three = c.put.new.out.items in
     let all = c.put_fields.new.out.items in
-    let tag = ◌∙◌ {A = List ℕ} c.in_ok-push-2.ensures.items (ap (λ t. one ++ t ∷ []) c.tag.ensures) in
+    let mark = profile_tag c.args.self.now.profile in
+    let first = ◌∙◌ {A = List ℕ} c.in_ok-push.ensures.items (ap (λ t. old ++ t ∷ []) c.tag.ensures) in
+    let tag = ◌∙◌ {A = List ℕ} c.in_ok-push-2.ensures.items (ap (λ t. one ++ t ∷ []) c.tag-2.ensures) in
     let moment = eight_bytes c.args.self.now.moment in
     on_ok_more c.put_fields.result
-    (λ fields. both_put old (1 ∷ []) (event_tag event ∷ (moment ++ event_fields event)) one all c.in_ok-push.ensures.items
+    (λ fields. both_put old (mark ∷ []) (event_tag event ∷ (moment ++ event_fields event)) one all first
     (both_put one (event_tag event ∷ []) (moment ++ event_fields event) two all tag
     (both_put two moment (event_fields event) three all c.in_ok-put.ensures.put fields))) c.put_fields.ensures.put
 

@@ -1,5 +1,6 @@
-use Rattle.std.proofs.Common.{◌≡◌, ◌++◌, true, ap, subst, ◌∙◌}
+use Rattle.std.proofs.Common.{◌≡◌, [], ◌∷◌, ◌++◌, true, ap, subst, ◌∙◌}
 use Rattle.um_model.specs.Bytes.{text_spelling}
+use Rattle.um_model.specs.Spellings.{profile_tag}
 use Rattle.um_model.specs.StateSpellings.{FitState, FitTree, is_sound, pending_spelling, state_spelling, tree_spelling, units_spelling}
 use Rattle.um_state.proofs.Fronts.{in_front, in_front_of_more}
 use Rattle.um_state.proofs.Results.{on_any_err, on_err_more, on_ok_more}
@@ -12,18 +13,19 @@ returns-clause-put c =
     let s = c.self.inside in
     let tree = tree_spelling s.tree in
     let loaded = tree_spelling s.loaded in
+    let mark = ap (λ m. c.args.out.now.items ++ m ∷ []) c.tag.ensures in
     let boot = text_spelling s.boot in
     let clock = eight_bytes s.clock in
     let next = eight_bytes s.next in
     let units = units_spelling s.units.held in
     let pending = pending_spelling s.pending.held in
-    let e1 = c.in_ok-put.ensures.put ∙ (ap (λ t. c.push.new.self.items ++ tree_spelling t) c.tree.ensures ∙ ap (λ o. o ++ tree) c.in_ok-push.ensures.items) in
+    let e1 = c.in_ok-put.ensures.put ∙ (ap (λ t. c.push.new.self.items ++ tree_spelling t) c.tree.ensures ∙ ap (λ o. o ++ tree) (c.in_ok-push.ensures.items ∙ mark)) in
     let e2 = c.in_ok-put-2.ensures.put ∙ (ap (λ t. c.put.new.out.items ++ tree_spelling t) c.tree-2.ensures ∙ ap (λ o. o ++ loaded) e1) in
     let e3 = c.in_ok-put-3.ensures.put ∙ ap (λ o. o ++ boot) e2 in
     let e4 = c.in_ok-put-4.ensures.put ∙ ap (λ o. o ++ clock) e3 in
     let e5 = c.in_ok-put-5.ensures.put ∙ ap (λ o. o ++ next) e4 in
     let e6 = c.in_ok-put-6.ensures.put ∙ ap (λ o. o ++ units) e5 in
-    let all = behind_mark c.args.out.now.items tree loaded boot clock next units pending ∙ ap (λ s. c.args.out.now.items ++ state_spelling (state_of s)) c.self.view_is in
+    let all = behind_mark (profile_tag s.profile) c.args.out.now.items tree loaded boot clock next units pending ∙ ap (λ s. c.args.out.now.items ++ state_spelling (state_of s)) c.self.view_is in
     on_ok_more c.put-7.result (λ e7. e7 ∙ (ap (λ o. o ++ pending) e6 ∙ all)) c.put-7.ensures.put
 
 pub returns-in_err-put-clause-front : goal.returns-in_err-put-clause-front

@@ -1,4 +1,5 @@
 use Rattle.std.proofs.Common.{◌≡◌, ◌∙◌, ap}
+use Rattle.um_model.specs.Profiles.{read_by}
 use Rattle.um_model.specs.Machine.{State}
 use Rattle.um_model.specs.Standing.{Standing}
 use Rattle.um_model.specs.Jobs.{no_jobs, with_jobs}
@@ -11,7 +12,7 @@ use Rattle.um_state.proofs.state.State.set_jobs.Goals as goal
 pub returns-in-Some-clause-ok : goal.returns-in-Some-clause-ok
 returns-in-Some-clause-ok c =
     let x = c.self.inside in
-    let s : State = record (state_with x.tree x.loaded x.boot x.clock x.next) { units = x.units.held; pending = x.pending.held } in
+    let s : State = record (state_with x.tree (read_by x.profile x.loaded) x.boot x.clock x.next) { units = x.units.held; pending = x.pending.held } in
     let put = c.swap.ensures.held ∙ named_put no_jobs with_jobs jobs_put_well x.pending c.numbers.result.now c.numbers.ensures.names c.args.unit.now c.in-Some.i c.in-Some.ensures.number c.args.jobs in
     (λ k. record s { pending = put k }) ∙ ap (λ z. record (state_of z) { pending = with_jobs (state_of z).pending c.args.unit.now c.args.jobs }) c.self.view_is
 

@@ -1,4 +1,5 @@
 use Rattle.std.proofs.Common.{◌≡◌, ◌∙◌, [], ap, sym}
+use Rattle.um_model.specs.Profiles.{read_by}
 use Rattle.um_model.specs.Machine.{State}
 use Rattle.um_model.specs.Standing.{Standing}
 use Rattle.um_state.specs.Rows.{common_names, put_row}
@@ -10,14 +11,14 @@ pub returns-then-self-clause-state : goal.returns-then-self-clause-state
 returns-then-self-clause-state c =
     let x = c.self.inside in
     let r = c.args.row.now in
-    row_put (state_with x.tree x.loaded x.boot x.clock x.next) x.is_common c.if-self.true x.units c.swap.new.self x.pending c.swap-then-self.new.self (c.self.invariant c.if-self.true) c.swap.ensures.names
+    row_put (state_with x.tree (read_by x.profile x.loaded) x.boot x.clock x.next) x.is_common c.if-self.true x.units c.swap.new.self x.pending c.swap-then-self.new.self (c.self.invariant c.if-self.true) c.swap.ensures.names
     r c.swap.ensures.held c.swap-then-self.ensures.held ∙ ap (put_row r) c.self.view_is
 
 pub returns-then-self-clause-back : goal.returns-then-self-clause-back
 returns-then-self-clause-back c =
     let x = c.self.inside in
     let r : Row = record { number = c.args.row.now.number; unit = c.swap.new.state; jobs = c.swap-then-self.new.jobs } in
-    row_back (state_with x.tree x.loaded x.boot x.clock x.next) x.is_common c.if-self.true x.units c.swap.new.self x.pending c.swap-then-self.new.self (c.self.invariant c.if-self.true) c.swap.ensures.names
+    row_back (state_with x.tree (read_by x.profile x.loaded) x.boot x.clock x.next) x.is_common c.if-self.true x.units c.swap.new.self x.pending c.swap-then-self.new.self (c.self.invariant c.if-self.true) c.swap.ensures.names
     c.swap-then-self.ensures.names r c.swap.ensures.back c.swap-then-self.ensures.back ∙ c.self.view_is
 
 pub returns-else-self-clause-state : goal.returns-else-self-clause-state

@@ -1,14 +1,16 @@
 use Rattle.std.proofs.Common.{IsTrue, ◌≡◌, ◌⊎◌, ◌∙◌, ◌+◌, ◌-◌, ◌^◌, ◌<◌, ◌≤◌, ℕ, suc, List, [], ◌∷◌, length, inl, inr, ⊎_elim, refl, sym, ap, subst, arith}
 use Rattle.std.proofs.lemmas.Bool.{cases_eq, cases_lt}
 use Rattle.um_model.specs.Disk.{Image, Sector, Past, seen}
-use Rattle.um_model.specs.Store.{log_start, log_end, part_count, part_of, sectors_of, AreRecords, stops, goes_on, IsOf}
+use Rattle.um_model.specs.Store.{first_log_sector, area_start, area_end, store_sectors, part_count, part_of, sectors_of, AreRecords, stops, goes_on, IsOf}
+use Rattle.um_laws.proofs.CountedLaws.{whole_log}
 use Rattle.um_laws.proofs.StoreLaws.{log_generation}
+use Rattle.um_model.specs.declared.layout.Format.{Format}
 use Rattle.um_model.specs.declared.layout.Layout.{Layout}
 use Rattle.um_log.specs.Following.{Follows, StopsBefore}
 use Rattle.um_log.specs.Greatest.{IsTold}
 use Rattle.um_log.specs.Uncounted.{Counts, starts, EndsUncounted, EndsLater}
 use Rattle.um_log.proofs.Following.{none_yet, counts_more, both, uncounted_ends, later_ends, stop_more, stops_at, nothing_behind}
-use Rattle.um_log.proofs.write.Log.remains.Goals as goal
+use Rattle.um_log.proofs.read.Reader.remains.Goals as goal
 
 -- one sector more
 module _ (layout : Layout) (image : Image) (newest from j old told new : ℕ) (sector : Sector) (is : sector ≡ image j) (least : (old ≤ new) × (told ≤ new)) where
@@ -19,7 +21,7 @@ module _ (layout : Layout) (image : Image) (newest from j old told new : ℕ) (s
       (λ less. let one = before theirs i low (omega (arith, below, less)) of in omega (arith, one, least.0))
       (cases_eq i j)
 
-  stands_more : log_start layout newest ≤ j → j < log_end layout newest → (0 < told → IsOf told sector) → (new ≡ old) ⊎ ((new ≡ told) × (old < told))
+  stands_more : first_log_sector layout ≤ j → j < store_sectors layout → (0 < told → IsOf told sector) → (new ≡ old) ⊎ ((new ≡ told) × (old < told))
       → (old ≡ newest) ⊎ IsTold layout image old → (new ≡ newest) ⊎ IsTold layout image new
   stands_more low high says (inl same) (inl first) = inl (same ∙ first)
   stands_more low high says (inl same) (inr stands) = inr (subst (IsTold layout image) (sym same) stands)
@@ -28,13 +30,13 @@ module _ (layout : Layout) (image : Image) (newest from j old told new : ℕ) (s
 
 pub loop-j-init : goal.loop-j-init
 loop-j-init g c =
-    let log = c.args.self.now in
+    let reader = c.args.self.now in
     let image = seen (g.D.Disk.past c.args.disk.now) in
     record {
       least = omega arith;
       most = λ h theirs i low high. absurd (omega (arith, low, high));
       stands = λ h. inl refl;
-      followed = λ h. none_yet log.layout log.generation image log.next;
+      followed = λ h. none_yet reader.format reader.generation image reader.next;
       stops = λ h. record { low = omega arith; high = omega arith; stand = inl refl; ends = λ below. absurd (omega (arith, below)) };
       uncounted = λ h. starts;
       later = λ h. starts;
@@ -49,29 +51,30 @@ loop-j-init g c =
 
 pub loop-j-preserved : goal.loop-j-preserved
 loop-j-preserved g c =
-    let log = c.args.self.now in
+    let reader = c.args.self.now in
     let image = seen (g.D.Disk.past c.args.disk.now) in
-    let inside : c.loop-j.j < log_end log.layout log.generation = omega (arith, c.loop-j-test.true, c.log_end-j-end.ensures) in
-    let followed : IsTrue (g.D.Disk.honest c.args.disk.now) → Follows log.layout log.generation image log.next (suc c.loop-j.j) c.follow-run.result =
-    λ h. c.follow-run.ensures image log.next c.loop-j.j c.loop-j.invariant.low
+    let inside : c.loop-j.j < area_end reader.format reader.layout reader.generation = omega (arith, c.loop-j-test.true, c.area_end-j-end.ensures) in
+    let followed : IsTrue (g.D.Disk.honest c.args.disk.now) → Follows reader.format reader.generation image reader.next (suc c.loop-j.j) c.follow-run.result =
+    λ h. c.follow-run.ensures image reader.next c.loop-j.j c.loop-j.invariant.low
     (c.in_ok-read.ensures.value (c.loop-j.invariant.honest ∙ h) ∙ ap (λ (p : Past). seen p c.loop-j.j) (c.loop-j.invariant.past h)) (c.loop-j.invariant.followed h) in
     let next : suc c.loop-j.j ≡ c.loop-j.j + 1 = omega arith in
     let low = c.loop-j.invariant.low in
+    let place = whole_log reader.format reader.layout reader.generation in
     let is : IsTrue (g.D.Disk.honest c.args.disk.now) → c.read.new.sector ≡ image c.loop-j.j = λ h. c.in_ok-read.ensures.value (c.loop-j.invariant.honest ∙ h) ∙ ap (λ (p : Past). seen p c.loop-j.j) (c.loop-j.invariant.past h) in
     record {
       least = omega (arith, c.loop-j.invariant.least, c.greater-greatest.ensures.least.0);
       most = λ h. most_more c.args.self.now.layout image c.args.self.now.generation c.args.self.now.next c.loop-j.j c.loop-j.greatest c.told_generation.result c.greater-greatest.result c.read.new.sector (is h) c.greater-greatest.ensures.least
           c.told_generation.ensures.most (c.loop-j.invariant.most h);
       stands = λ h. stands_more c.args.self.now.layout image c.args.self.now.generation c.args.self.now.next c.loop-j.j c.loop-j.greatest c.told_generation.result c.greater-greatest.result c.read.new.sector (is h) c.greater-greatest.ensures.least
-          (omega (arith, low, c.args.self.now.low)) (omega (arith, c.loop-j-test.true, c.log_end-j-end.ensures)) c.told_generation.ensures.told c.greater-greatest.ensures.either (c.loop-j.invariant.stands h);
-      followed = λ h. subst (λ n. Follows log.layout log.generation image log.next n c.follow-run.result) next (followed h);
-      stops = λ h. subst (λ n. StopsBefore log.layout log.generation image log.number log.next n c.stop_behind-stop.result) next
-          (stop_more log.layout image log.generation log.number log.next c.loop-j.j (omega (arith, c.fits-self)) (omega (arith, c.fits-self)) low c.follow-run.result (followed h) c.loop-j.stop
+          (omega (arith, low, c.args.self.now.low, place.0)) (omega (arith, inside, place.1)) c.told_generation.ensures.told c.greater-greatest.ensures.either (c.loop-j.invariant.stands h);
+      followed = λ h. subst (λ n. Follows reader.format reader.generation image reader.next n c.follow-run.result) next (followed h);
+      stops = λ h. subst (λ n. StopsBefore reader.format reader.layout reader.generation image reader.number reader.next n c.stop_behind-stop.result) next
+          (stop_more reader.format reader.layout image reader.generation reader.number reader.next c.loop-j.j (omega (arith, c.fits-self)) (omega (arith, c.fits-self)) low c.follow-run.result (followed h) c.loop-j.stop
           (c.loop-j.invariant.stops h) c.stop_behind-stop.result c.stop_behind-stop.ensures);
-      uncounted = λ h. subst (λ n. Counts (EndsUncounted log.layout image log.next log.generation log.number) log.next n c.grown-uncounted.result) next
-          (counts_more c.is_uncounted.result (both c.is_uncounted.ensures (uncounted_ends log.layout image log.next c.loop-j.j log.generation (omega (arith, c.fits-self)) inside log.number c.follow-run.result (followed h))) c.grown-uncounted.ensures.one c.grown-uncounted.ensures.same (c.loop-j.invariant.uncounted h));
-      later = λ h. subst (λ n. Counts (EndsLater log.layout image log.next log.generation) log.next n c.grown-later.result) next
-          (counts_more c.is_later.result (both c.is_later.ensures (later_ends log.layout image log.next c.loop-j.j log.generation (omega (arith, c.fits-self)) inside c.follow-run.result (followed h))) c.grown-later.ensures.one c.grown-later.ensures.same (c.loop-j.invariant.later h));
+      uncounted = λ h. subst (λ n. Counts (EndsUncounted reader.format reader.layout image reader.next reader.generation reader.number) reader.next n c.grown-uncounted.result) next
+          (counts_more c.is_uncounted.result (both c.is_uncounted.ensures (uncounted_ends reader.format reader.layout image reader.next c.loop-j.j reader.generation (omega (arith, c.fits-self)) inside reader.number c.follow-run.result (followed h))) c.grown-uncounted.ensures.one c.grown-uncounted.ensures.same (c.loop-j.invariant.uncounted h));
+      later = λ h. subst (λ n. Counts (EndsLater reader.format reader.layout image reader.next reader.generation) reader.next n c.grown-later.result) next
+          (counts_more c.is_later.result (both c.is_later.ensures (later_ends reader.format reader.layout image reader.next c.loop-j.j reader.generation (omega (arith, c.fits-self)) inside c.follow-run.result (followed h))) c.grown-later.ensures.one c.grown-later.ensures.same (c.loop-j.invariant.later h));
       few = (omega (arith, c.grown-uncounted.ensures.most, c.loop-j.invariant.few.0, low), omega (arith, c.grown-later.ensures.most, c.loop-j.invariant.few.1, low));
       past = λ h. c.read.ensures.past (c.loop-j.invariant.honest ∙ h) ∙ c.loop-j.invariant.past h;
       low = omega (arith, low);
@@ -82,7 +85,7 @@ loop-j-preserved g c =
     }
 
 -- the sectors of records are of their generation
-of_records : {layout : Layout} {generation : ℕ} {image : Image} (last : generation < 2 ^ 64) (number at : ℕ) (records : List (List ℕ)) → AreRecords layout generation image number at records
+of_records : {format : Format} {layout : Layout} {generation : ℕ} {image : Image} (last : generation < 2 ^ 64) (number at : ℕ) (records : List (List ℕ)) → AreRecords format layout generation image number at records
     → (theirs j : ℕ) → at ≤ j → j < at + sectors_of records → IsOf theirs (image j) → theirs ≡ generation
 of_records last number at [] (stops nothing) theirs j low high of = absurd (omega (arith, low, high))
 of_records {generation = generation} {image} last number at (bytes ∷ records) (goes_on is rest) theirs j low high of = ⊎_elim
@@ -95,38 +98,39 @@ of_records {generation = generation} {image} last number at (bytes ∷ records) 
 
 pub returns-clause-greatest : goal.returns-clause-greatest
 returns-clause-greatest g c h records are place =
-    let log = c.args.self.now in
+    let reader = c.args.self.now in
+    let whole = whole_log reader.format reader.layout reader.generation in
     record {
       least = c.loop-j.invariant.least;
       none_later = λ theirs j low high is. ⊎_elim
-          (λ early. let same = of_records (omega (arith, c.fits-self)) 0 (log_start log.layout log.generation) records are theirs j low (omega (arith, early, place)) is in let least = c.loop-j.invariant.least in omega (arith, same, least))
-          (λ behind. let most = c.loop-j.invariant.most h theirs j behind (omega (arith, high, c.loop-j-test.false, c.log_end-j-end.ensures)) is in omega (arith, most))
-          (cases_lt j log.next);
+          (λ early. let same = of_records (omega (arith, c.fits-self)) 0 (area_start reader.format reader.layout reader.generation) records are theirs j (omega (arith, low, whole.0)) (omega (arith, early, place)) is in let least = c.loop-j.invariant.least in omega (arith, same, least))
+          (λ behind. let most = c.loop-j.invariant.most h theirs j behind (omega (arith, high, whole.1, c.loop-j-test.false, c.area_end-j-end.ensures)) is in omega (arith, most))
+          (cases_lt j reader.next);
       stands = c.loop-j.invariant.stands h;
     }
 
 pub returns-clause-stop : goal.returns-clause-stop
 returns-clause-stop g c h records are count place room =
-    let log = c.args.self.now in
+    let reader = c.args.self.now in
     let image = seen (g.D.Disk.past c.args.disk.now) in
-    let most = c.loop-j.auto.j-end (omega (arith, log.high, c.log_end-j-end.ensures)) in
-    let end : c.loop-j.j ≡ log_end log.layout log.generation = omega (arith, c.loop-j-test.false, c.log_end-j-end.ensures, most) in
-    stops_at log.layout log.generation image log.number log.next c.loop-j.stop room
-    (subst (λ n. StopsBefore log.layout log.generation image log.number log.next n c.loop-j.stop) end (c.loop-j.invariant.stops h))
-    (nothing_behind log.layout log.generation image records are log.number log.next count place)
+    let most = c.loop-j.auto.j-end (omega (arith, reader.high, c.area_end-j-end.ensures)) in
+    let end : c.loop-j.j ≡ area_end reader.format reader.layout reader.generation = omega (arith, c.loop-j-test.false, c.area_end-j-end.ensures, most) in
+    stops_at reader.format reader.layout reader.generation image reader.number reader.next c.loop-j.stop room
+    (subst (λ n. StopsBefore reader.format reader.layout reader.generation image reader.number reader.next n c.loop-j.stop) end (c.loop-j.invariant.stops h))
+    (nothing_behind reader.format reader.layout reader.generation image records are reader.number reader.next count place)
 
 pub returns-clause-uncounted : goal.returns-clause-uncounted
 returns-clause-uncounted g c h =
-    let log = c.args.self.now in
+    let reader = c.args.self.now in
     let image = seen (g.D.Disk.past c.args.disk.now) in
-    let most = c.loop-j.auto.j-end (omega (arith, log.high, c.log_end-j-end.ensures)) in
-    let end : c.loop-j.j ≡ log_end log.layout log.generation = omega (arith, c.loop-j-test.false, c.log_end-j-end.ensures, most) in
-    subst (λ n. Counts (EndsUncounted log.layout image log.next log.generation log.number) log.next n c.loop-j.uncounted) end (c.loop-j.invariant.uncounted h)
+    let most = c.loop-j.auto.j-end (omega (arith, reader.high, c.area_end-j-end.ensures)) in
+    let end : c.loop-j.j ≡ area_end reader.format reader.layout reader.generation = omega (arith, c.loop-j-test.false, c.area_end-j-end.ensures, most) in
+    subst (λ n. Counts (EndsUncounted reader.format reader.layout image reader.next reader.generation reader.number) reader.next n c.loop-j.uncounted) end (c.loop-j.invariant.uncounted h)
 
 pub returns-clause-later : goal.returns-clause-later
 returns-clause-later g c h =
-    let log = c.args.self.now in
+    let reader = c.args.self.now in
     let image = seen (g.D.Disk.past c.args.disk.now) in
-    let most = c.loop-j.auto.j-end (omega (arith, log.high, c.log_end-j-end.ensures)) in
-    let end : c.loop-j.j ≡ log_end log.layout log.generation = omega (arith, c.loop-j-test.false, c.log_end-j-end.ensures, most) in
-    subst (λ n. Counts (EndsLater log.layout image log.next log.generation) log.next n c.loop-j.later) end (c.loop-j.invariant.later h)
+    let most = c.loop-j.auto.j-end (omega (arith, reader.high, c.area_end-j-end.ensures)) in
+    let end : c.loop-j.j ≡ area_end reader.format reader.layout reader.generation = omega (arith, c.loop-j-test.false, c.area_end-j-end.ensures, most) in
+    subst (λ n. Counts (EndsLater reader.format reader.layout image reader.next reader.generation) reader.next n c.loop-j.later) end (c.loop-j.invariant.later h)

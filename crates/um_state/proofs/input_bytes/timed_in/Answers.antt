@@ -2,7 +2,7 @@ use Rattle.std.proofs.Common.{rules}
 use Rattle.um_model.proofs.BytesLaws.{at_none, at_some}
 use Rattle.um_state.proofs.InputArms.{timed_here, timed_none}
 use Rattle.um_state.specs.View.{event_of}
-use Rattle.um_state.proofs.input_bytes.input_in.Goals as goal
+use Rattle.um_state.proofs.input_bytes.timed_in.Goals as goal
 
 pub returns-in-Some-2-clause-read : goal.returns-in-Some-2-clause-read
 returns-in-Some-2-clause-read c =

@@ -1,6 +1,6 @@
 use Rattle.std.proofs.Common.{◌∙◌, inl, inr, refl, sym, arith}
 use Rattle.std.proofs.lemmas.Bool.{true≢false}
-use Rattle.um_log.proofs.write.Log.stop_behind.Goals as goal
+use Rattle.um_log.proofs.read.Reader.stop_behind.Goals as goal
 
 pub returns-then-stop-j : goal.returns-then-stop-j
 returns-then-stop-j c = inr ((λ same. absurd (omega (arith, same, c.if-stop-j.true))), refl)

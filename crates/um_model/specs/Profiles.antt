@@ -1,0 +1,28 @@
+-- By which rules the files of units are read, and a tree as it is read.
+-- No manual page has it: which keys are served is this project's own, and a later profile serves more of them.
+-- Units, dependencies, enabling and the state stand on this file.
+use Rattle.um_model.specs.Tree.{Tree, without_run}
+use Rattle.um_model.specs.declared.profile.Profile.{Profile}
+use Rattle.um_model.specs.declared.profile.Profile.TheVariants.{One, Two}
+
+-- the later of two profiles
+abbrev pub later : Profile → Profile → Profile
+later One other = other
+later Two other = Two
+
+-- what is submitted is read by this one, and so is the tree in hand where it is asked about
+abbrev pub current : Profile
+current = One
+
+-- a tree as it is read
+pub record ReadTree : Type 0 where
+  pub entries : Tree
+  pub profile : Profile
+
+-- these entries, read by that profile
+abbrev pub read_by : Profile → Tree → ReadTree
+read_by profile entries = record { entries = entries; profile = profile }
+
+-- the tree as it comes out of a boot: it is read as it was
+abbrev pub lasting_tree : ReadTree → ReadTree
+lasting_tree tree = record tree { entries = without_run tree.entries }

@@ -1,0 +1,29 @@
+ghost use Rattle.std.specs.Prelude.{◌≡◌};
+ghost use Rattle.um_model.specs.Profiles.{current, later};
+
+/// By which rules the files of units are read. The loaded tree of a state has one, and so has each input; a later one
+/// serves all that an earlier one does, and more.
+#[derive(Clone, Copy, Debug, PartialEq, Eq)]
+pub enum Profile {
+    One,
+    Two,
+}
+
+impl Profile {
+    /// The one by which what is submitted now is read, and the tree in hand where it is asked about.
+    pub fn current() -> Profile
+        ensures { result ≡ current }
+    {
+        Profile::One
+    }
+
+    /// The later of both.
+    pub fn later(self, other: Profile) -> Profile
+        ensures { result ≡ later self other }
+    {
+        match self {
+            Profile::One => other,
+            Profile::Two => Profile::Two,
+        }
+    }
+}

@@ -1,0 +1,70 @@
+//! By which profile a tree is loaded: that of the input, or the one that the state has, where that is later. What is submitted is of the
+//! first one alone, so these inputs are read from their bytes.
+use crate::steps::{SIZE, committed, empty, engine_of, planned};
+use std::process::Abort;
+use um_asserts::same_at;
+use um_engine::Engine;
+use um_model::Profile;
+use um_state::Input;
+use um_wire::Canon;
+
+/// An input in its bytes, and by which profile the tree is loaded behind it.
+struct Row {
+    what: &'static str,
+    bytes: &'static [u8],
+    profile: Profile,
+}
+
+/// Inputs at moment 5, one behind the other.
+const ROWS: &[Row] = &[
+    Row {
+        what: "a reload of profile 1",
+        bytes: &[1, 4, 0, 0, 0, 0, 0, 0, 0, 5],
+        profile: Profile::One,
+    },
+    Row {
+        what: "a file of profile 2 is put",
+        bytes: b"\x02\x01\0\0\0\0\0\0\0\x05\0\0\0\x0detc/a.service\0\0\0\0",
+        profile: Profile::One,
+    },
+    Row {
+        what: "a reload of profile 2",
+        bytes: &[2, 4, 0, 0, 0, 0, 0, 0, 0, 5],
+        profile: Profile::Two,
+    },
+    Row {
+        what: "another reload of profile 1",
+        bytes: &[1, 4, 0, 0, 0, 0, 0, 0, 0, 5],
+        profile: Profile::Two,
+    },
+    Row {
+        what: "a boot of profile 1",
+        bytes: b"\x01\x12\0\0\0\0\0\0\0\x05\0\0\0\x02b1",
+        profile: Profile::Two,
+    },
+];
+
+/// The input of the row.
+fn input_of(rt: &(impl AllocGlobal + Abort), row: &Row) -> Box<Input> {
+    let found = Input::get(rt.alloc(), row.bytes).expect(rt, "no memory");
+    let (input, _) = found.expect(rt, "it isn't read");
+    Box::new(rt.alloc(), input).expect(rt, "no memory")
+}
+
+/// Takes the step that the row is.
+fn take(rt: &(impl AllocGlobal + Abort), engine: &mut Engine, row: &Row) {
+    let next = planned(rt, engine, &input_of(rt, row));
+    let (actions, back) = committed(rt, engine, next);
+    drop(actions);
+    drop(back);
+}
+
+#[test]
+fn a_tree_is_loaded_by_the_later_profile(rt: HostRuntime) {
+    let mut engine = engine_of(&rt, empty(&rt), SIZE);
+    for row in ROWS {
+        take(&rt, engine.as_mut(), row);
+        let profile = engine.as_ref().state().loaded().profile;
+        same_at!(&rt, profile, row.profile, row.what);
+    }
+}

@@ -1,0 +1,101 @@
+use Rattle.std.proofs.Common.{◌≡◌, ◌+◌, ◌∙◌, ℕ, [], sym, subst, arith}
+use Rattle.um_model.specs.Disk.{seen, During}
+use Rattle.um_model.specs.Store.{other, log_start, sector_count, GoesOn}
+use Rattle.um_model.specs.declared.layout.Slot.{Slot}
+use Rattle.um_slot.specs.Snapshots.{IsWritten, IsSnapshot, MaybeSnapshot, AfterSnapshot}
+use Rattle.um_slot.proofs.Snapshots.{during_other, goes_on_other, during_newest, goes_on_newest}
+use Rattle.um_slot.proofs.write.finish.Goals as goal
+
+pub returns-in_err-seal-clause-during : goal.returns-in_err-seal-clause-during
+returns-in_err-seal-clause-during g c h before body long all stores =
+    let layout = c.args.layout in
+    let home = c.args.home in
+    let to = c.next-to.result in
+    let turned = c.next-to.ensures in
+    let old = g.D.Disk.past c.args.disk.now in
+    let new = g.D.Disk.past c.seal.new.disk in
+    let is = g.met.D.Disk.seen_is_image c.args.disk.now h in
+    let there = subst (λ (s : Slot). IsWritten layout (seen old) s body (sector_count c.args.size)) (sym turned.0) all in
+    during_other old stores (omega (arith, c.requires.early)) (omega (arith, long, c.requires.fits)) is
+    (subst (λ (n : ℕ). During old new (AfterSnapshot layout old (other home.slot) n body)) turned.1
+    (subst (λ (s : Slot). During old new (AfterSnapshot layout old s to.generation body)) turned.0 (c.seal.ensures.during h body long there)))
+
+pub returns-clause-during : goal.returns-clause-during
+returns-clause-during g c h before body long all stores =
+    let layout = c.args.layout in
+    let home = c.args.home in
+    let to = c.next-to.result in
+    let turned = c.next-to.ensures in
+    let old = g.D.Disk.past c.args.disk.now in
+    let new = g.D.Disk.past c.seal.new.disk in
+    let is = g.met.D.Disk.seen_is_image c.args.disk.now h in
+    let there = subst (λ (s : Slot). IsWritten layout (seen old) s body (sector_count c.args.size)) (sym turned.0) all in
+    during_other old stores (omega (arith, c.requires.early)) (omega (arith, long, c.requires.fits)) is
+    (subst (λ (n : ℕ). During old new (AfterSnapshot layout old (other home.slot) n body)) turned.1
+    (subst (λ (s : Slot). During old new (AfterSnapshot layout old s to.generation body)) turned.0 (c.seal.ensures.during h body long there)))
+
+pub returns-in_err-seal-clause-during_newest : goal.returns-in_err-seal-clause-during_newest
+returns-in_err-seal-clause-during_newest g c h format newest before body above long all have =
+    let layout = c.args.layout in
+    let home = c.args.home in
+    let to = c.next-to.result in
+    let turned = c.next-to.ensures in
+    let old = g.D.Disk.past c.args.disk.now in
+    let new = g.D.Disk.past c.seal.new.disk in
+    let is = g.met.D.Disk.seen_is_image c.args.disk.now h in
+    let there = subst (λ (s : Slot). IsWritten layout (seen old) s body (sector_count c.args.size)) (sym turned.0) all in
+    during_newest old above have (omega (arith, c.requires.early)) (omega (arith, long, c.requires.fits))
+    (subst (λ (n : ℕ). During old new (AfterSnapshot layout old (other home.slot) n body)) turned.1
+    (subst (λ (s : Slot). During old new (AfterSnapshot layout old s to.generation body)) turned.0 (c.seal.ensures.during h body long there)))
+
+pub returns-clause-during_newest : goal.returns-clause-during_newest
+returns-clause-during_newest g c h format newest before body above long all have =
+    let layout = c.args.layout in
+    let home = c.args.home in
+    let to = c.next-to.result in
+    let turned = c.next-to.ensures in
+    let old = g.D.Disk.past c.args.disk.now in
+    let new = g.D.Disk.past c.seal.new.disk in
+    let is = g.met.D.Disk.seen_is_image c.args.disk.now h in
+    let there = subst (λ (s : Slot). IsWritten layout (seen old) s body (sector_count c.args.size)) (sym turned.0) all in
+    during_newest old above have (omega (arith, c.requires.early)) (omega (arith, long, c.requires.fits))
+    (subst (λ (n : ℕ). During old new (AfterSnapshot layout old (other home.slot) n body)) turned.1
+    (subst (λ (s : Slot). During old new (AfterSnapshot layout old s to.generation body)) turned.0 (c.seal.ensures.during h body long there)))
+
+pub returns-clause-ok : goal.returns-clause-ok
+returns-clause-ok g c h before body long all stores =
+    let layout = c.args.layout in
+    let home = c.args.home in
+    let to = c.next-to.result in
+    let turned = c.next-to.ensures in
+    let old = g.D.Disk.past c.args.disk.now in
+    let new = g.D.Disk.past c.seal.new.disk in
+    let is = g.met.D.Disk.seen_is_image c.args.disk.now h in
+    let there = subst (λ (s : Slot). IsWritten layout (seen old) s body (sector_count c.args.size)) (sym turned.0) all in
+    subst (λ (s : Slot). GoesOn layout new s to.generation body [] to.generation 0 (log_start layout to.generation)) (sym turned.0)
+    (subst (λ (n : ℕ). GoesOn layout new (other home.slot) n body [] n 0 (log_start layout n)) (sym turned.1)
+    (goes_on_other old stores (omega (arith, c.requires.early)) (omega (arith, long, c.requires.fits)) is
+    (subst (λ (n : ℕ). MaybeSnapshot layout (seen old) (other home.slot) n body (seen new)) turned.1
+    (subst (λ (s : Slot). MaybeSnapshot layout (seen old) s to.generation body (seen new)) turned.0 (c.in_ok-seal.ensures.beside h body long there)))
+    (subst (λ (n : ℕ). IsSnapshot layout (seen new) (other home.slot) n body) turned.1
+    (subst (λ (s : Slot). IsSnapshot layout (seen new) s to.generation body) turned.0 (c.in_ok-seal.ensures.written h body long there)))
+    (c.in_ok-seal.ensures.settled h)))
+
+pub returns-clause-ok_newest : goal.returns-clause-ok_newest
+returns-clause-ok_newest g c h newest before body above long all have =
+    let layout = c.args.layout in
+    let home = c.args.home in
+    let to = c.next-to.result in
+    let turned = c.next-to.ensures in
+    let old = g.D.Disk.past c.args.disk.now in
+    let new = g.D.Disk.past c.seal.new.disk in
+    let is = g.met.D.Disk.seen_is_image c.args.disk.now h in
+    let there = subst (λ (s : Slot). IsWritten layout (seen old) s body (sector_count c.args.size)) (sym turned.0) all in
+    subst (λ (s : Slot). GoesOn layout new s to.generation body [] to.generation 0 (log_start layout to.generation)) (sym turned.0)
+    (subst (λ (n : ℕ). GoesOn layout new (other home.slot) n body [] n 0 (log_start layout n)) (sym turned.1)
+    (goes_on_newest old above have (omega (arith, c.requires.early)) (omega (arith, long, c.requires.fits)) is
+    (subst (λ (n : ℕ). MaybeSnapshot layout (seen old) (other home.slot) n body (seen new)) turned.1
+    (subst (λ (s : Slot). MaybeSnapshot layout (seen old) s to.generation body (seen new)) turned.0 (c.in_ok-seal.ensures.beside h body long there)))
+    (subst (λ (n : ℕ). IsSnapshot layout (seen new) (other home.slot) n body) turned.1
+    (subst (λ (s : Slot). IsSnapshot layout (seen new) s to.generation body) turned.0 (c.in_ok-seal.ensures.written h body long there)))
+    (c.in_ok-seal.ensures.settled h)))
