@@ -14,7 +14,7 @@ fn put_files(alloc: Global, state: &mut State, count: u32) -> Result<(), Refusal
         let path = format!(in alloc; "lib/u{number:04}.service")?;
         state.put_file(path.as_str(), SERVICE)?;
     }
-    state.reload(Profile::One)?;
+    state.reload(Profile::current())?;
     Ok(())
 }
 

@@ -11,7 +11,6 @@ use Rattle.um_model.specs.declared.warnings.WarningKind.{WarningKind}
 use Rattle.um_model.specs.Readings.{names_reading, text_reading, read_if}
 use Rattle.um_model.specs.Results.{◌and_then◌}
 use Rattle.um_model.specs.Resolution.{Resolution, AtFile, AtNoFile, AtMask, Nowhere, resolution_of}
-use Rattle.um_model.specs.Tree.{Tree}
 use Rattle.um_model.specs.Units.{Assigned, Dependencies, LoadedUnit, Loading, Found, Masked, NotFound, BadSetting, Source, assignments_in, dependencies_of, load, loading_at, reason_of, sources_at, unit_by, units_named, values_of}
 use Rattle.um_model.specs.Words.{words_of}
 use Rattle.um_model.specs.declared.dependencies.DependencyKind.{DependencyKind}
@@ -82,21 +81,21 @@ are_names unit assigned = record { needs = by; before = named_are unit assigned 
 names_by : (u l : LoadedUnit) → AreNames u.settings.dependencies → u ≡ l → AreNames l.settings.dependencies
 names_by u l a e = subst (λ (v : LoadedUnit). AreNames v.settings.dependencies) e a
 
-found_names : (tree : Tree) (r : Resolution) (l : LoadedUnit) → loading_at tree r ≡ Found l → AreNames l.settings.dependencies
-found_names tree (AtFile unit path text) l h = by (reason_of unit assigned) h
+found_names : (tree : ReadTree) (r : Resolution) (l : LoadedUnit) → loading_at tree r ≡ Found l → AreNames l.settings.dependencies
+found_names tree (AtFile unit path text) l h = by (reason_of tree.profile unit assigned) h
   where
     sources : List Source
-    sources = sources_at tree (AtFile unit path text)
+    sources = sources_at tree.entries (AtFile unit path text)
 
     assigned : List Assigned
     assigned = assignments_in (suffix_of unit) sources
 
-    by : (o : Option (List ℕ)) → found_unless o (unit_by unit (Some path) sources) ≡ Found l → AreNames l.settings.dependencies
-    by None h = names_by (unit_by unit (Some path) sources) l (are_names unit assigned) cc
+    by : (o : Option (List ℕ)) → found_unless o (unit_by tree.profile unit (Some path) sources) ≡ Found l → AreNames l.settings.dependencies
+    by None h = names_by (unit_by tree.profile unit (Some path) sources) l (are_names unit assigned) cc
     by (Some reason) h = cc
 found_names tree (AtNoFile unit) l h =
-    let sources = sources_at tree (AtNoFile unit) in
-    names_by (without_install (unit_by unit None sources)) l (are_names unit (assignments_in (suffix_of unit) sources)) cc
+    let sources = sources_at tree.entries (AtNoFile unit) in
+    names_by (without_install (unit_by tree.profile unit None sources)) l (are_names unit (assignments_in (suffix_of unit) sources)) cc
 found_names tree (AtMask unit) l h = cc
 found_names tree Nowhere l h = cc
 
@@ -112,4 +111,4 @@ loadable_found (BadSetting unit reason) l h = cc
 
 pub names_of_loadable : (tree : ReadTree) (a : List ℕ) (l : LoadedUnit) → loadable_in tree a ≡ Some l → AreNames l.settings.dependencies
 unfolding load
-names_of_loadable tree a l h = found_names tree.entries (resolution_of tree.entries a) l (loadable_found (load tree a) l h)
+names_of_loadable tree a l h = found_names tree (resolution_of tree.entries a) l (loadable_found (load tree a) l h)

@@ -58,10 +58,10 @@ in_found : (reason : Option (List ℕ)) (u : LoadedUnit) (name : List ℕ) → (
 in_found None u name h c = h c
 in_found (Some reason) u name h c = absurd (none_in name c)
 
-in_loading : (tree : Tree) (r : Resolution) (name : List ℕ) → Contains (install_of (loading_at tree r)).also name → is_unit_name name ≡ true
+in_loading : (tree : ReadTree) (r : Resolution) (name : List ℕ) → Contains (install_of (loading_at tree r)).also name → is_unit_name name ≡ true
 in_loading tree (AtFile unit path text) name c =
-    in_found _ (unit_by unit (Some path) (sources_at tree (AtFile unit path text))) name
-    (in_install unit (assignments_in (suffix_of unit) (sources_at tree (AtFile unit path text))) name) c
+    in_found _ (unit_by tree.profile unit (Some path) (sources_at tree.entries (AtFile unit path text))) name
+    (in_install unit (assignments_in (suffix_of unit) (sources_at tree.entries (AtFile unit path text))) name) c
 in_loading tree (AtNoFile unit) name c = absurd (none_in name c)
 in_loading tree (AtMask unit) name c = absurd (none_in name c)
 in_loading tree Nowhere name c = absurd (none_in name c)
@@ -69,4 +69,4 @@ in_loading tree Nowhere name c = absurd (none_in name c)
 -- what a unit names in Also= are unit names
 pub also_is_name : (tree : ReadTree) (unit name : List ℕ) → Contains (install_of (load tree unit)).also name → is_unit_name name ≡ true
 unfolding load
-also_is_name tree unit name c = in_loading tree.entries (resolution_of tree.entries unit) name c
+also_is_name tree unit name c = in_loading tree (resolution_of tree.entries unit) name c

@@ -14,7 +14,7 @@ use Rattle.um_model.specs.declared.jobs.JobState.TheVariants as states
 use Rattle.um_model.specs.declared.transition.StartJob.{StartJob}
 use Rattle.um_model.specs.declared.transition.StartJob.TheVariants.{Fails}
 use Rattle.um_model.specs.declared.service.SubState.{SubState}
-use Rattle.um_model.specs.declared.service.SubState.TheVariants.{Dead, Start, Running, Exited, Stop, StopSigterm, StopSigkill, Failed, AutoRestart, Active}
+use Rattle.um_model.specs.declared.service.SubState.TheVariants.{Dead, StartPre, Start, Running, Exited, Stop, StopSigterm, StopSigkill, Failed, AutoRestart, Active}
 use Rattle.um_model.specs.declared.service.UnitResult.TheVariants.{Resources}
 use Rattle.um_model.specs.declared.service.UnitState.{UnitState}
 use Rattle.um_model.specs.declared.transition.Around.{Around}
@@ -99,6 +99,7 @@ module _ (s : ServiceSettings) (c : Around) where
   winds_down_down u is = either_down (has_place s.stop 0) (stop_command s c u 0) (terminates s c u) (stop_command_down u 0 is) (terminates_down u is)
 
   stop_down : (u : UnitState) (sub : SubState) → goes_at sub ≡ true → IsDown (row s c u (active_state_of sub) sub StopBegins)
+  stop_down u StartPre goes = terminates_down (table.told_to_stop u) refl
   stop_down u Start goes = terminates_down (table.told_to_stop u) refl
   stop_down u Running goes = winds_down_down (table.told_to_stop u) refl
   stop_down u Exited goes = winds_down_down (table.told_to_stop u) refl

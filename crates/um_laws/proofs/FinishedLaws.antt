@@ -15,7 +15,7 @@ use Rattle.um_model.specs.Service.{Action, active_state_of, dead_unit, is_dead, 
 use Rattle.um_model.specs.Settings.{ServiceSettings, has_place}
 use Rattle.um_model.specs.Timers.{Timers}
 use Rattle.um_model.specs.Transitions as table
-use Rattle.um_model.specs.Transitions.{deadline_after, has_number, is_live, just, asking, rests_for_good, rests, terminates, stop_command, winds_down, rests_unless_live, noted, without_main, without_control, timed_out, told_to_stop, is_stop_done, row, is_going, transition, fails_start}
+use Rattle.um_model.specs.Transitions.{deadline_after, has_number, is_live, just, asking, rests_for_good, rests, terminates, stop_command, winds_down, rests_unless_live, noted, without_main, without_control, timed_out, told_to_stop, is_control_done, row, is_going, transition, fails_start}
 use Rattle.um_model.specs.Tree.{Tree}
 use Rattle.um_model.specs.declared.jobs.JobKind.{JobKind}
 use Rattle.um_model.specs.declared.jobs.JobKind.TheVariants as job
@@ -25,7 +25,7 @@ use Rattle.um_model.specs.declared.jobs.UnitJobs.{UnitJobs}
 use Rattle.um_model.specs.declared.service.End.{End}
 use Rattle.um_model.specs.declared.service.Signal.TheVariants.{Term}
 use Rattle.um_model.specs.declared.service.SubState.{SubState}
-use Rattle.um_model.specs.declared.service.SubState.TheVariants.{Dead, Start, Running, Exited, Stop, StopSigterm, StopSigkill, Failed, AutoRestart, Active}
+use Rattle.um_model.specs.declared.service.SubState.TheVariants.{Dead, StartPre, Start, Running, Exited, Stop, StopSigterm, StopSigkill, Failed, AutoRestart, Active}
 use Rattle.um_model.specs.declared.service.UnitResult.TheVariants as result
 use Rattle.um_model.specs.declared.service.UnitState.{UnitState}
 use Rattle.um_model.specs.declared.transition.Around.{Around}
@@ -113,6 +113,7 @@ module _ (s : ServiceSettings) (c : Around) where
       → Leaves (row s c u (active_state_of sub) sub event)
   row_rests sub StartBegins u is h isnt = absurd (isnt refl)
   row_rests sub Reset u is h isnt = forgiven_rests (is_failed u.sub) u.sub u.stop_asked (there sub u is h)
+  row_rests StartPre event u is h isnt = absurd (true≢false (sym h))
   row_rests Start event u is h isnt = absurd (true≢false (sym h))
   row_rests Running event u is h isnt = absurd (true≢false (sym h))
   row_rests AutoRestart event u is h isnt = absurd (true≢false (sym h))
@@ -122,7 +123,7 @@ module _ (s : ServiceSettings) (c : Around) where
   row_rests StopSigterm StopBegins u is h isnt = there StopSigterm (told_to_stop u) is refl
   row_rests StopSigkill StopBegins u is h isnt = there StopSigkill (told_to_stop u) is refl
   row_rests Stop (ControlEnds e) u is h isnt =
-      by_cond Leaves (is_stop_done s u e) (winds_down s c (record u { control = None }) (u.index + 1)) (terminates s c (without_control s u e))
+      by_cond Leaves (is_control_done s OfStop u e) (winds_down s c (record u { control = None }) (u.index + 1)) (terminates s c (without_control s u e))
       (λ _. winds_down_rests (record u { control = None }) (u.index + 1) h) (λ _. terminates_rests (without_control s u e) (control_asked u e h))
   row_rests Stop (MainEnds e) u is h isnt = main_rests u e (there Stop u is h)
   row_rests Stop DeadlinePasses u is h isnt = terminates_rests (timed_out u) h

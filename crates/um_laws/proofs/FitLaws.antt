@@ -1,20 +1,20 @@
--- A start job that goes on leaves its unit in start, and a stop job that goes on leaves it in a stop state: row by row of the table.
+-- A start job that goes on leaves its unit in start-pre or start, and a stop job that goes on leaves it in a stop state: row by row of the table.
 use Rattle.std.proofs.Common.{ℕ, ◌≡◌, ◌≢◌, ◌∙◌, ◌+◌, ◌&&◌, Bool, true, false, true≢false, not, cond, Option, Some, None, refl, sym, ap, subst}
 use Rattle.um_model.specs.Limit.{counted}
 use Rattle.um_model.specs.Service.{active_state_of}
 use Rattle.um_model.specs.Settings.{ServiceSettings, has_place}
 use Rattle.um_model.specs.Ends.{is_clean, is_failed, is_starting, is_stopping, is_restart_wanted, has_one_command}
-use Rattle.um_model.specs.Transitions.{deadline_after, has_number, is_live, just, asking, start_ends, start_fails, stop_ends, rests_for_good, waits_to_restart, rests, terminates, stop_command, winds_down, first_command, start_of, starts_if, starts, exits, next_command, start_goes_on, rests_unless_live, noted, without_main, without_control, timed_out, told_to_stop, is_stop_done, row, is_going, transition, fails_start}
+use Rattle.um_model.specs.Transitions.{deadline_after, has_number, is_live, just, asking, start_ends, start_fails, stop_ends, rests_for_good, waits_to_restart, rests, terminates, stop_command, winds_down, first_command, start_of, pre_command, prepares, starts_if, starts, starts_prepared, pre_goes_on, exits, next_command, start_goes_on, rests_unless_live, noted, without_main, without_control, timed_out, told_to_stop, is_control_done, row, is_going, transition, fails_start}
 use Rattle.um_model.specs.declared.limit.Counted.{Counted}
 use Rattle.um_model.specs.declared.service.End.{End}
 use Rattle.um_model.specs.declared.service.Signal.TheVariants.{Term}
 use Rattle.um_model.specs.declared.service.SubState.{SubState}
-use Rattle.um_model.specs.declared.service.SubState.TheVariants.{Dead, Start, Running, Exited, Stop, StopSigterm, StopSigkill, Failed, AutoRestart, Active}
+use Rattle.um_model.specs.declared.service.SubState.TheVariants.{Dead, StartPre, Start, Running, Exited, Stop, StopSigterm, StopSigkill, Failed, AutoRestart, Active}
 use Rattle.um_model.specs.declared.service.UnitResult.TheVariants as result
 use Rattle.um_model.specs.declared.service.UnitState.{UnitState}
 use Rattle.um_model.specs.declared.transition.Around.{Around}
 use Rattle.um_model.specs.declared.transition.Change.{Change}
-use Rattle.um_model.specs.declared.transition.CommandList.TheVariants.{OfStart, OfStop}
+use Rattle.um_model.specs.declared.transition.CommandList.TheVariants.{OfStartPre, OfStart, OfStop}
 use Rattle.um_model.specs.declared.transition.Order.TheVariants.{Spawn, Signal}
 use Rattle.um_model.specs.declared.transition.Process.TheVariants.{Main, Control}
 use Rattle.um_model.specs.declared.transition.StartJob.TheVariants.{Stays, Ends, Fails}
@@ -23,9 +23,9 @@ use Rattle.um_model.specs.declared.transition.UnitEvent.TheVariants.{StartBegins
 use Rattle.um_model.specs.declared.transition.UnitKind.{UnitKind}
 use Rattle.um_model.specs.declared.transition.UnitKind.TheVariants.{Simple, Exec, Oneshot, Target}
 
--- where the start job goes on the unit is in start
+-- where the start job goes on the unit is in start-pre or start
 abbrev pub StartFits : Change → Type 0
-StartFits v = v.start ≡ Stays → v.unit.sub ≡ Start
+StartFits v = v.start ≡ Stays → is_starting v.unit.sub ≡ true
 
 -- where the stop job goes on the unit is in a stop state
 abbrev pub StopFits : Change → Type 0
@@ -77,8 +77,26 @@ module _ (s : ServiceSettings) (c : Around) where
   start_of_fits Oneshot w = by_cond StartFits (has_place s.start 0) (first_command s c w) (start_ends (just (record w { sub = Exited; deadline = None })))
       (λ e. first_command_fits w) (λ e. ended (just (record w { sub = Exited; deadline = None })))
 
+  pre_command_fits : (w : UnitState) (i : ℕ) → StartFits (pre_command c w i)
+  pre_command_fits w i = by_cond StartFits (has_number c)
+      (asking (Spawn OfStartPre i) (just (record w { sub = StartPre; control = Some c.next; index = i })))
+      (start_fails (rests_for_good (record w { index = i; result = result.Resources })))
+      (λ e h. refl) (λ e. failed (rests_for_good (record w { index = i; result = result.Resources })))
+
+  prepares_fits : (w : UnitState) → StartFits (prepares s c w)
+  prepares_fits w = by_cond StartFits (has_place s.start_pre 0) (pre_command c (record w { deadline = deadline_after c.moment s.timeout_start }) 0) (start_of s.kind s c w)
+      (λ e. pre_command_fits (record w { deadline = deadline_after c.moment s.timeout_start }) 0) (λ e. start_of_fits s.kind w)
+
+  starts_prepared_fits : (w : UnitState) → StartFits (starts_prepared s c w)
+  starts_prepared_fits w = by_cond StartFits c.loadable (start_of s.kind s c (record w { index = 0 })) (start_fails (rests s c (record w { result = result.NotLoaded })))
+      (λ e. start_of_fits s.kind (record w { index = 0 })) (λ e. failed (rests s c (record w { result = result.NotLoaded })))
+
+  pre_goes_on_fits : (w : UnitState) → StartFits (pre_goes_on s c w)
+  pre_goes_on_fits w = by_cond StartFits (has_place s.start_pre (w.index + 1)) (pre_command c w (w.index + 1)) (starts_prepared s c w)
+      (λ e. pre_command_fits w (w.index + 1)) (λ e. starts_prepared_fits w)
+
   starts_if_fits : (through : Bool) (window : Option Counted) (w : UnitState) → StartFits (starts_if through window s c w)
-  starts_if_fits true window w = start_of_fits s.kind (record w { result = result.Success; stop_asked = false; index = 0; last = None; window = window })
+  starts_if_fits true window w = prepares_fits (record w { result = result.Success; stop_asked = false; index = 0; last = None; window = window })
   starts_if_fits false window w = failed (just (record w { sub = Failed; result = result.StartLimitHit; deadline = None }))
 
   starts_fits : (w : UnitState) → StartFits (starts s c w)
@@ -94,7 +112,8 @@ module _ (s : ServiceSettings) (c : Around) where
   begun_start Dead u is up = starts_fits u
   begun_start Failed u is up = starts_fits u
   begun_start AutoRestart u is up = starts_fits u
-  begun_start Start u is up = λ e. is
+  begun_start StartPre u is up = λ e. ap is_starting is
+  begun_start Start u is up = λ e. ap is_starting is
   begun_start Stop u is up = absurd (true≢false up)
   begun_start StopSigterm u is up = absurd (true≢false up)
   begun_start StopSigkill u is up = absurd (true≢false up)
@@ -109,7 +128,7 @@ module _ (s : ServiceSettings) (c : Around) where
   next_command_fits w i is = by_cond StartFits (has_number c)
       (asking (Spawn OfStart i) (just (record w { main = Some c.next; index = i })))
       (start_fails (rests_for_good (record w { index = i; result = result.Resources })))
-      (λ e h. is) (λ e. failed (rests_for_good (record w { index = i; result = result.Resources })))
+      (λ e h. ap is_starting is) (λ e. failed (rests_for_good (record w { index = i; result = result.Resources })))
 
   start_goes_on_fits : (kind : UnitKind) (w : UnitState) → w.sub ≡ Start → StartFits (start_goes_on kind s c w)
   start_goes_on_fits Simple w is = ended (exits s c w)
@@ -120,7 +139,7 @@ module _ (s : ServiceSettings) (c : Around) where
 
   executed_fits : (u : UnitState) → u.sub ≡ Start → StartFits (cond (has_one_command s.kind) (start_ends (just (record u { sub = Running; deadline = None }))) (just u))
   executed_fits u is = by_cond StartFits (has_one_command s.kind) (start_ends (just (record u { sub = Running; deadline = None }))) (just u)
-      (λ e. ended (just (record u { sub = Running; deadline = None }))) (λ e h. is)
+      (λ e. ended (just (record u { sub = Running; deadline = None }))) (λ e h. ap is_starting is)
 
   main_sub : (u : UnitState) (e : End) → (without_main s u e).sub ≡ u.sub
   main_sub u e = sub_of_noted (record u { main = None; last = Some e }) e (is_clean s u Main e)
@@ -128,39 +147,53 @@ module _ (s : ServiceSettings) (c : Around) where
   control_sub : (u : UnitState) (e : End) → (without_control s u e).sub ≡ u.sub
   control_sub u e = sub_of_noted (record u { control = None }) e (is_clean s u Control e)
 
+  in_start_pre : (event : UnitEvent) (u : UnitState) → event ≢ StopBegins → u.sub ≡ StartPre → StartFits (row s c u (active_state_of StartPre) StartPre event)
+  in_start_pre StartBegins u isnt is = λ e. ap is_starting is
+  in_start_pre StopBegins u isnt is = absurd (isnt refl)
+  in_start_pre BoundStop u isnt is = λ e. ap is_starting is
+  in_start_pre Executed u isnt is = λ e. ap is_starting is
+  in_start_pre (MainEnds e) u isnt is = λ h. ap is_starting is
+  in_start_pre (ControlEnds e) u isnt is =
+      by_cond StartFits (is_control_done s OfStartPre u e) (pre_goes_on s c (record u { control = None })) (start_fails (rests s c (without_control s u e)))
+      (λ _. pre_goes_on_fits (record u { control = None })) (λ _. failed (rests s c (without_control s u e)))
+  in_start_pre DeadlinePasses u isnt is = failed (terminates s c (record u { result = result.Timeout }))
+  in_start_pre Reset u isnt is = λ e. ap (λ x. is_starting (cond (is_failed x) Dead x)) is
+
   in_start : (event : UnitEvent) (u : UnitState) → event ≢ StopBegins → u.sub ≡ Start → StartFits (row s c u (active_state_of Start) Start event)
-  in_start StartBegins u isnt is = λ e. is
+  in_start StartBegins u isnt is = λ e. ap is_starting is
   in_start StopBegins u isnt is = absurd (isnt refl)
-  in_start BoundStop u isnt is = λ e. is
+  in_start BoundStop u isnt is = λ e. ap is_starting is
   in_start Executed u isnt is = executed_fits u is
   in_start (MainEnds e) u isnt is =
       by_cond StartFits (is_clean s u Main e) (start_goes_on s.kind s c (without_main s u e)) (start_fails (rests s c (without_main s u e)))
       (λ _. start_goes_on_fits s.kind (without_main s u e) (main_sub u e ∙ is)) (λ _. failed (rests s c (without_main s u e)))
-  in_start (ControlEnds e) u isnt is = λ h. is
+  in_start (ControlEnds e) u isnt is = λ h. ap is_starting is
   in_start DeadlinePasses u isnt is = failed (terminates s c (record u { result = result.Timeout }))
-  in_start Reset u isnt is = λ e. ap (λ x. cond (is_failed x) Dead x) is
+  in_start Reset u isnt is = λ e. ap (λ x. is_starting (cond (is_failed x) Dead x)) is
 
-  start_row : (event : UnitEvent) (u : UnitState) → event ≢ StopBegins → u.sub ≡ Start → StartFits (row s c u (active_state_of u.sub) u.sub event)
-  start_row event u isnt is = subst (λ x. StartFits (row s c u (active_state_of x) x event)) (sym is) (in_start event u isnt is)
+  start_row : (sub : SubState) (event : UnitEvent) (u : UnitState) → event ≢ StopBegins → u.sub ≡ sub → is_starting sub ≡ true → StartFits (row s c u (active_state_of sub) sub event)
+  start_row StartPre event u isnt is up = in_start_pre event u isnt is
+  start_row Start event u isnt is up = in_start event u isnt is
+  start_row _ event u isnt is up = absurd (true≢false (sym up))
 
   -- by a bound stop the start fails
-  bound_fails : (u : UnitState) → u.sub ≡ Start → StartFits (fails_start u.sub (row s c u (active_state_of u.sub) u.sub StopBegins))
-  bound_fails u is e = absurd (fails_stays (sym (ap (λ x. cond (is_starting x) Fails (row s c u (active_state_of u.sub) u.sub StopBegins).start) is) ∙ e))
+  bound_fails : (u : UnitState) → is_starting u.sub ≡ true → StartFits (fails_start u.sub (row s c u (active_state_of u.sub) u.sub StopBegins))
+  bound_fails u up e = absurd (fails_stays (sym (ap (λ b. cond b Fails (row s c u (active_state_of u.sub) u.sub StopBegins).start) up) ∙ e))
 
-  -- whatever happens to a unit in start, but that its stop job begins
-  pub start_fits : (u : UnitState) (event : UnitEvent) → event ≢ StopBegins → u.sub ≡ Start → StartFits (transition s c u event)
+  -- whatever happens to a unit in start-pre or start, but that its stop job begins
+  pub start_fits : (u : UnitState) (event : UnitEvent) → event ≢ StopBegins → is_starting u.sub ≡ true → StartFits (transition s c u event)
   start_fits u BoundStop isnt is =
       by_cond StartFits (is_going (active_state_of u.sub)) (fails_start u.sub (row s c u (active_state_of u.sub) u.sub StopBegins)) (just u)
       (λ e. bound_fails u is) (λ e h. is)
   start_fits u StartBegins isnt is =
       by_cond StartFits c.loadable (row s c u (active_state_of u.sub) u.sub StartBegins) (start_fails (just (record u { result = result.NotLoaded })))
-      (λ e. start_row StartBegins u isnt is) (λ e. not_loaded_fits u)
+      (λ e. start_row u.sub StartBegins u isnt refl is) (λ e. not_loaded_fits u)
   start_fits u StopBegins isnt is = absurd (isnt refl)
-  start_fits u Executed isnt is = start_row Executed u isnt is
-  start_fits u (MainEnds e) isnt is = start_row (MainEnds e) u isnt is
-  start_fits u (ControlEnds e) isnt is = start_row (ControlEnds e) u isnt is
-  start_fits u DeadlinePasses isnt is = start_row DeadlinePasses u isnt is
-  start_fits u Reset isnt is = start_row Reset u isnt is
+  start_fits u Executed isnt is = start_row u.sub Executed u isnt refl is
+  start_fits u (MainEnds e) isnt is = start_row u.sub (MainEnds e) u isnt refl is
+  start_fits u (ControlEnds e) isnt is = start_row u.sub (ControlEnds e) u isnt refl is
+  start_fits u DeadlinePasses isnt is = start_row u.sub DeadlinePasses u isnt refl is
+  start_fits u Reset isnt is = start_row u.sub Reset u isnt refl is
 
   -- ---- stop jobs
 
@@ -184,6 +217,7 @@ module _ (s : ServiceSettings) (c : Around) where
   begun_stop : (sub : SubState) (u : UnitState) → u.sub ≡ sub → StopFits (row s c u (active_state_of sub) sub StopBegins)
   begun_stop Running u is = winds_down_fits (told_to_stop u) 0
   begun_stop Exited u is = winds_down_fits (told_to_stop u) 0
+  begun_stop StartPre u is = terminates_fits (told_to_stop u)
   begun_stop Start u is = terminates_fits (told_to_stop u)
   begun_stop AutoRestart u is = stopped (just (record u { sub = Dead; deadline = None }))
   begun_stop Active u is = stopped (just (record u { sub = Dead; deadline = None }))
@@ -208,7 +242,7 @@ module _ (s : ServiceSettings) (c : Around) where
 
   in_stop : (event : UnitEvent) (u : UnitState) → u.sub ≡ Stop → StopFits (row s c u (active_state_of Stop) Stop event)
   in_stop (ControlEnds e) u is =
-      by_cond StopFits (is_stop_done s u e) (winds_down s c (record u { control = None }) (u.index + 1)) (terminates s c (without_control s u e))
+      by_cond StopFits (is_control_done s OfStop u e) (winds_down s c (record u { control = None }) (u.index + 1)) (terminates s c (without_control s u e))
       (λ _. winds_down_fits (record u { control = None }) (u.index + 1)) (λ _. terminates_fits (without_control s u e))
   in_stop (MainEnds e) u is = λ h. ap is_stopping (main_sub u e ∙ is)
   in_stop DeadlinePasses u is = terminates_fits (timed_out u)

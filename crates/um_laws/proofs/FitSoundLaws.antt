@@ -14,7 +14,7 @@ use Rattle.std.proofs.lemmas.Map.Views.{tells_apart}
 use Rattle.std.proofs.lemmas.Option.{none-some}
 use Rattle.um_model.specs.Machine.{State}
 use Rattle.um_model.specs.Service.{dead_unit, state_of_unit}
-use Rattle.um_model.specs.StateSpellings.{numbers_in, are_distinct, is_sound}
+use Rattle.um_model.specs.StateSpellings.{is_sub_state_in, have_sub_states, numbers_in, are_distinct, is_sound}
 use Rattle.um_model.specs.Transitions.{live_numbers, HasNumber}
 use Rattle.um_model.specs.declared.limit.Counted.{Counted}
 use Rattle.um_model.specs.declared.service.UnitState.{UnitState}
@@ -145,5 +145,10 @@ module _ (s : State) (h : HasGoodUnits s.clock s) where
     others = λ k l u v n is too has also. h.apart k l n (number_held k u n is has) (number_held l v n too also);
   })
 
-  pub sound : is_sound s ≡ true
-  sound = both_true _ _ (both_true _ _ windows_begun numbers_low) numbers_apart
+  -- where each unit may be in its sub state by the loaded profile
+  pub sound : ((unit : List ℕ) → is_sub_state_in s.loaded.profile (state_of_unit s.units unit).sub ≡ true) → is_sound s ≡ true
+  sound may = both_true _ _ (both_true _ _ (both_true _ _ subs windows_begun) numbers_low) numbers_apart
+    where
+      subs : have_sub_states s.loaded.profile s.units ≡ true
+      subs = from_each (λ e. is_sub_state_in s.loaded.profile e.1.sub) s.units
+          (λ k u at. ap (λ (o : Option UnitState). is_sub_state_in s.loaded.profile (unwrap_or o dead_unit).sub) (sym at) ∙ may k)

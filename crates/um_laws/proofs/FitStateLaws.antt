@@ -46,6 +46,7 @@ use Rattle.um_model.proofs.LeastLaws.{Among}
 use Rattle.um_laws.proofs.OnceLaws.{among_at}
 use Rattle.um_laws.proofs.SceneLaws.{held_list}
 use Rattle.um_laws.proofs.StateLengthLaws.{entries_few, shown_few, spelled_short}
+use Rattle.um_laws.proofs.SubStateLaws.{HaveSubStates, takes_subs, none_in_pre}
 use Rattle.um_model.proofs.WeightLaws.{short_name}
 use Rattle.um_model.proofs.Forms.{FitJob}
 
@@ -113,6 +114,7 @@ pub record IsWhole (s : State) : Type 0 where
   pub names : HoldsNames s
   pub tidy : IsTidyState s
   pub units : HasGoodUnits s.clock s
+  pub subs : HaveSubStates s
 
 there : {A : Type 0} (o : Option A) (a : A) → o ≡ Some a → o ≢ None
 there o a is none = none-some a (sym none ∙ is)
@@ -142,7 +144,7 @@ fit_of_whole s few h = record {
     );
     tidy = h.tidy.pending;
   };
-  sound = sound s h.units;
+  sound = sound s h.units h.subs;
 }
   where
     held : (names : List (List ℕ)) × ((unit : List ℕ) → IsHeld s unit → Among names unit) × (length names ≤ unit_limit)
@@ -203,6 +205,7 @@ taken_whole s moment event actions v fits fit takes h = record {
   names = takes_names t s event actions v fit takes h.names;
   tidy = record { units = tidy.units; pending = tidy.pending };
   units = clocked_good t v t (takes_good t early s event actions v fit takes (later_good s.clock t s (omega arith) h.units));
+  subs = takes_subs t s event actions v fit takes h.subs;
 }
   where
     t : ℕ
@@ -237,6 +240,7 @@ blank_whole s blank boot clock next = record {
   names = blank_names s blank;
   tidy = blank_tidy s blank;
   units = none_good s.clock s blank.units next.0 next.1;
+  subs = none_in_pre s blank.units;
 }
 
 pub empty_whole : (profile : Profile) → IsWhole (empty_of profile)

@@ -262,7 +262,7 @@ module _ (tree : Tree) (is : IsTree tree) where
   unfolding load
   loads_text profile unit = by (resolution_of tree unit) (resolution_text unit)
     where
-      by : (r : Resolution) → LeadsToText r → LiesAtText (loading_at tree r)
+      by : (r : Resolution) → LeadsToText r → LiesAtText (loading_at (read_by profile tree) r)
       by (AtFile found path text) h = unless_lies _ _ h
       by (AtNoFile found) h = tt
       by (AtMask found) h = tt

@@ -17,7 +17,7 @@ use Rattle.um_model.specs.Service.{active_state_of}
 use Rattle.um_model.specs.Settings.{ServiceSettings, default_settings, has_place}
 use Rattle.um_model.specs.Spellings.{FitEnd}
 use Rattle.um_model.specs.Ends.{is_clean, is_restart_wanted, has_one_command}
-use Rattle.um_model.specs.Transitions.{deadline_after, has_number, is_live, just, asking, start_ends, start_fails, rests_for_good, waits_to_restart, rests, terminates, stop_command, winds_down, first_command, start_of, starts_if, starts, exits, next_command, start_goes_on, rests_unless_live, noted, without_main, without_control, timed_out, told_to_stop, is_stop_done, row, is_going, transition, HasNumber, fails_start}
+use Rattle.um_model.specs.Transitions.{deadline_after, has_number, is_live, just, asking, start_ends, start_fails, rests_for_good, waits_to_restart, rests, terminates, stop_command, winds_down, first_command, start_of, pre_command, prepares, starts_if, starts, starts_prepared, pre_goes_on, exits, next_command, start_goes_on, rests_unless_live, noted, without_main, without_control, timed_out, told_to_stop, is_control_done, row, is_going, transition, HasNumber, fails_start}
 use Rattle.um_model.specs.Tree.{Tree}
 use Rattle.um_model.specs.Units.{Assigned, default_timeout, last_said, unless_zero, values_of, default_timeout_start, service_settings_with, service_settings_of, LoadedUnit, Loading, Found, Masked, NotFound, BadSetting, loading_at, load}
 use Rattle.um_model.specs.Values.{number_of, span_of}
@@ -28,16 +28,17 @@ use Rattle.um_model.specs.declared.names.Suffix.TheVariants.{Service}
 use Rattle.um_model.specs.declared.service.End.{End}
 use Rattle.um_model.specs.declared.service.Signal.TheVariants.{Term}
 use Rattle.um_model.specs.declared.service.SubState.{SubState}
-use Rattle.um_model.specs.declared.service.SubState.TheVariants.{Dead, Start, Running, Exited, Stop, StopSigterm, StopSigkill, Failed, AutoRestart, Active}
+use Rattle.um_model.specs.declared.service.SubState.TheVariants.{Dead, StartPre, Start, Running, Exited, Stop, StopSigterm, StopSigkill, Failed, AutoRestart, Active}
 use Rattle.um_model.specs.declared.service.UnitResult.TheVariants as result
 use Rattle.um_model.specs.declared.service.UnitState.{UnitState}
 use Rattle.um_model.specs.declared.transition.Around.{Around}
 use Rattle.um_model.specs.declared.transition.Change.{Change}
-use Rattle.um_model.specs.declared.transition.CommandList.TheVariants.{OfStart, OfStop}
+use Rattle.um_model.specs.declared.transition.CommandList.TheVariants.{OfStartPre, OfStart, OfStop}
 use Rattle.um_model.specs.declared.transition.Order.TheVariants.{Spawn, Signal}
 use Rattle.um_model.specs.declared.transition.Process.TheVariants.{Main, Control}
 use Rattle.um_model.specs.declared.transition.UnitEvent.{UnitEvent}
 use Rattle.um_model.specs.declared.transition.UnitEvent.TheVariants.{StartBegins, StopBegins, BoundStop, Executed, MainEnds, ControlEnds, DeadlinePasses, Reset}
+use Rattle.um_model.specs.declared.profile.Profile.{Profile}
 use Rattle.um_model.specs.declared.transition.UnitKind.{UnitKind}
 use Rattle.um_model.specs.declared.transition.UnitKind.TheVariants.{Simple, Exec, Oneshot, Target}
 use Rattle.um_model.specs.declared.units.ValueKind.TheVariants as kinds
@@ -110,18 +111,18 @@ said_low unit default key assigned low =
     let keys = (codes "Service", key) ∷ (codes "Service", codes "TimeoutSec") ∷ [] in
     timeout_low (last_said unit kinds.Span default keys assigned) (read_holds IsLowSpan span_of default (values_of keys assigned) low by_span)
 
-with_low : (start : List Command) (kind : UnitKind) (unit : List ℕ) (assigned : List Assigned) → AreLow (service_settings_with start kind unit assigned)
-with_low start kind unit assigned = record {
+with_low : (start_pre start : List Command) (kind : UnitKind) (unit : List ℕ) (assigned : List Assigned) → AreLow (service_settings_with start_pre start kind unit assigned)
+with_low start_pre start kind unit assigned = record {
   delay = read_holds IsLowSpan span_of (Some 100000) _ (omega arith) by_span;
   start = said_low unit (default_timeout_start kind) (codes "TimeoutStartSec") assigned (default_low kind);
   stop = said_low unit (Some default_timeout) (codes "TimeoutStopSec") assigned (omega arith);
   burst = read_holds (λ n. n ≤ number_limit) number_of 5 _ (omega arith) (λ value n e. (IsNumber-number_of value n e).limit);
 }
 
-service_low : (suffix : Option Suffix) (unit : List ℕ) (assigned : List Assigned) → AreLow (service_settings_of suffix unit assigned)
+service_low : (profile : Profile) (suffix : Option Suffix) (unit : List ℕ) (assigned : List Assigned) → AreLow (service_settings_of profile suffix unit assigned)
 unfolding service_settings_of
-service_low (Some Service) unit assigned = with_low _ _ unit assigned
-service_low _ unit assigned = with_low [] Target unit assigned
+service_low profile (Some Service) unit assigned = with_low _ _ _ unit assigned
+service_low profile _ unit assigned = with_low [] [] Target unit assigned
 
 abbrev IsLowFound : Loading → Type 0
 IsLowFound (Found l) = AreLow l.settings.service
@@ -135,9 +136,9 @@ loads_low : (tree : ReadTree) (unit : List ℕ) → IsLowFound (load tree unit)
 unfolding load
 loads_low tree unit = by (resolution_of tree.entries unit)
   where
-    by : (r : Resolution) → IsLowFound (loading_at tree.entries r)
-    by (AtFile found path text) = unless_low _ _ (service_low (suffix_of found) found _)
-    by (AtNoFile found) = service_low (suffix_of found) found _
+    by : (r : Resolution) → IsLowFound (loading_at tree r)
+    by (AtFile found path text) = unless_low _ _ (service_low tree.profile (suffix_of found) found _)
+    by (AtNoFile found) = service_low tree.profile (suffix_of found) found _
     by (AtMask found) = tt
     by Nowhere = tt
 
@@ -249,6 +250,32 @@ module _ (s : ServiceSettings) (c : Around) (low : AreLow s) (early : c.moment �
   start_of_good Oneshot w g below = by_cond Leaves (has_place s.start 0) (first_command s c w) (start_ends (just (record w { sub = Exited; deadline = None })))
       (λ e. first_command_good w g below) (λ e. without_deadline w g)
 
+  -- a control process is started
+  with_next_control : (w : UnitState) (i : ℕ) → i < 2 ^ 32 → Good w → Below w → Good (record w { control = Some c.next; index = i })
+  with_next_control w i few g below =
+      record { index_low = few; deadline_low = g.deadline_low; window_low = g.window_low; last_low = g.last_low; apart = λ n m k. next_apart n n (below n (inl m)) k refl }
+
+  pre_command_good : (w : UnitState) (i : ℕ) → i < 2 ^ 32 → Good w → Below w → Leaves (pre_command c w i)
+  pre_command_good w i few g below = by_cond Leaves (has_number c) (asking (Spawn OfStartPre i) (just (record w { sub = StartPre; control = Some c.next; index = i })))
+      (start_fails (rests_for_good (record w { index = i; result = result.Resources })))
+      (λ e. with_next_control w i few g below)
+      (λ e. rests_for_good_good (record w { index = i; result = result.Resources }) (at_place w i few g))
+
+  start_time : (w : UnitState) → Good w → Good (record w { deadline = deadline_after c.moment s.timeout_start })
+  start_time w g = record { index_low = g.index_low; deadline_low = deadline_fits s.timeout_start low.start; window_low = g.window_low; last_low = g.last_low; apart = g.apart }
+
+  prepares_good : (w : UnitState) → Good w → Below w → Leaves (prepares s c w)
+  prepares_good w g below = by_cond Leaves (has_place s.start_pre 0) (pre_command c (record w { deadline = deadline_after c.moment s.timeout_start }) 0) (start_of s.kind s c w)
+      (λ e. pre_command_good (record w { deadline = deadline_after c.moment s.timeout_start }) 0 (place_few s.start_pre 0 e) (start_time w g) below) (λ e. start_of_good s.kind w g below)
+
+  starts_prepared_good : (w : UnitState) → Good w → Below w → Leaves (starts_prepared s c w)
+  starts_prepared_good w g below = by_cond Leaves c.loadable (start_of s.kind s c (record w { index = 0 })) (start_fails (rests s c (record w { result = result.NotLoaded })))
+      (λ e. start_of_good s.kind (record w { index = 0 }) (at_place w 0 (omega arith) g) below) (λ e. rests_good (record w { result = result.NotLoaded }) g)
+
+  pre_goes_on_good : (w : UnitState) → Good w → Below w → Leaves (pre_goes_on s c w)
+  pre_goes_on_good w g below = by_cond Leaves (has_place s.start_pre (w.index + 1)) (pre_command c w (w.index + 1)) (starts_prepared s c w)
+      (λ e. pre_command_good w (w.index + 1) (place_few s.start_pre (w.index + 1) e) g below) (λ e. starts_prepared_good w g below)
+
   abbrev IsLowWindow : Option Counted → Type 0
   IsLowWindow window = IfSome window (λ w. (w.began ≤ c.moment) × (w.count < 2 ^ 32))
 
@@ -258,7 +285,7 @@ module _ (s : ServiceSettings) (c : Around) (low : AreLow s) (early : c.moment �
 
   starts_if_good : (through : Bool) (window : Option Counted) (w : UnitState) → IsLowWindow window → Good w → Below w → Leaves (starts_if through window s c w)
   starts_if_good true window w fits g below =
-      start_of_good s.kind (record w { result = result.Success; stop_asked = false; index = 0; last = None; window = window })
+      prepares_good (record w { result = result.Success; stop_asked = false; index = 0; last = None; window = window })
       (record { index_low = omega arith; deadline_low = g.deadline_low; window_low = fits; last_low = tt; apart = g.apart }) below
   starts_if_good false window w fits g below = without_deadline w g
 
@@ -356,6 +383,10 @@ module _ (s : ServiceSettings) (c : Around) (low : AreLow s) (early : c.moment �
   row_good Dead StartBegins u fit g below = starts_good u g below
   row_good Failed StartBegins u fit g below = starts_good u g below
   row_good AutoRestart StartBegins u fit g below = starts_good u g below
+  row_good StartPre (ControlEnds e) u fit g below =
+      by_cond Leaves (is_control_done s OfStartPre u e) (pre_goes_on s c (record u { control = None })) (start_fails (rests s c (without_control s u e)))
+      (λ _. pre_goes_on_good (record u { control = None }) (no_control_good u g) (no_control_below u below)) (λ _. rests_good (without_control s u e) (control_good u e g))
+  row_good StartPre DeadlinePasses u fit g below = terminates_good (record u { result = result.Timeout }) g
   row_good Start Executed u fit g below = executed_good u g
   row_good Start (MainEnds e) u fit g below =
       by_cond Leaves (is_clean s u Main e) (start_goes_on s.kind s c (without_main s u e)) (start_fails (rests s c (without_main s u e)))
@@ -366,6 +397,7 @@ module _ (s : ServiceSettings) (c : Around) (low : AreLow s) (early : c.moment �
       (λ _. exits_good (without_main s u e) (main_good u e fit g) (main_below u e below)) (λ _. winds_down_good (without_main s u e) 0 (main_good u e fit g) (main_below u e below))
   row_good Running StopBegins u fit g below = winds_down_good (told_to_stop u) 0 g below
   row_good Exited StopBegins u fit g below = winds_down_good (told_to_stop u) 0 g below
+  row_good StartPre StopBegins u fit g below = terminates_good (told_to_stop u) g
   row_good Start StopBegins u fit g below = terminates_good (told_to_stop u) g
   row_good AutoRestart StopBegins u fit g below = without_deadline u g
   row_good Stop StopBegins u fit g below = g
@@ -375,7 +407,7 @@ module _ (s : ServiceSettings) (c : Around) (low : AreLow s) (early : c.moment �
   row_good Dead StopBegins u fit g below = g
   row_good Failed StopBegins u fit g below = g
   row_good Stop (ControlEnds e) u fit g below =
-      by_cond Leaves (is_stop_done s u e) (winds_down s c (record u { control = None }) (u.index + 1)) (terminates s c (without_control s u e))
+      by_cond Leaves (is_control_done s OfStop u e) (winds_down s c (record u { control = None }) (u.index + 1)) (terminates s c (without_control s u e))
       (λ _. winds_down_good (record u { control = None }) (u.index + 1) (no_control_good u g) (no_control_below u below)) (λ _. terminates_good (without_control s u e) (control_good u e g))
   row_good Stop (MainEnds e) u fit g below = main_good u e fit g
   row_good Stop DeadlinePasses u fit g below = terminates_good (timed_out u) g

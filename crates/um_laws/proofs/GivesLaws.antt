@@ -200,11 +200,11 @@ names_loaded : (tree : ReadTree) (asked : List ℕ) → AreNamesIn (load tree as
 unfolding load
 names_loaded tree asked = by_resolution (resolution_of tree.entries asked)
   where
-    by_reason : (unit path : List ℕ) (sources : List Source) (reason : Option (List ℕ)) → AreNamesIn (found_unless reason (unit_by unit (Some path) sources))
+    by_reason : (unit path : List ℕ) (sources : List Source) (reason : Option (List ℕ)) → AreNamesIn (found_unless reason (unit_by tree.profile unit (Some path) sources))
     by_reason unit path sources None = names_of_section unit (assignments_in (suffix_of unit) sources)
     by_reason unit path sources (Some reason) = tt
 
-    by_resolution : (r : Resolution) → AreNamesIn (loading_at tree.entries r)
+    by_resolution : (r : Resolution) → AreNamesIn (loading_at tree r)
     by_resolution (AtFile unit path text) = by_reason unit path (sources_at tree.entries (AtFile unit path text)) _
     by_resolution (AtNoFile unit) = names_of_section unit (assignments_in (suffix_of unit) (sources_at tree.entries (AtNoFile unit)))
     by_resolution (AtMask unit) = tt

@@ -26,6 +26,7 @@ pub mod InvariantLaws
 pub mod FitNamesLaws
 pub mod FitUnitLaws
 pub mod FitNumbersLaws
+pub mod SubStateLaws
 pub mod FitSoundLaws
 pub mod FitStateLaws
 pub mod WholeLaws

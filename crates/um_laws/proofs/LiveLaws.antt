@@ -42,10 +42,10 @@ use Rattle.um_laws.proofs.TransitionLaws.{keeps_process, same_held}
 use Rattle.um_laws.proofs.FitLaws.{StartFits, StopFits, begun_start_fits, start_fits, begun_stop_fits, stop_fits}
 use Rattle.um_model.proofs.Forms.{with_running}
 
--- a unit and its jobs fit: it has its process, a start job runs only in start, a stop job only in a stop state, and not both
+-- a unit and its jobs fit: it has its process, a start job runs only in start-pre or start, a stop job only in a stop state, and not both
 pub record Fits (u : UnitState) (j : UnitJobs) : Type 0 where
   pub held : HasItsProcess u
-  pub starting : j.start ≡ Some Running → u.sub ≡ sub.Start
+  pub starting : j.start ≡ Some Running → is_starting u.sub ≡ true
   pub stopping : j.stop ≡ Some Running → is_stopping u.sub ≡ true
   pub apart : j.start ≡ Some Running → j.stop ≡ None
 
@@ -227,6 +227,7 @@ not_down sub.Stop up = absurd (up refl)
 not_down sub.StopSigterm up = absurd (up refl)
 not_down sub.StopSigkill up = absurd (up refl)
 not_down sub.Dead up = refl
+not_down sub.StartPre up = refl
 not_down sub.Start up = refl
 not_down sub.Running up = refl
 not_down sub.Exited up = refl
@@ -384,8 +385,10 @@ either_number : (o p : Option ℕ) → (is_some o || is_some p) ≡ true → (n 
 either_number None p h = let n = number_of p h in (n.0, inr n.1)
 either_number (Some n) p h = (n, inl refl)
 
-number_in_start : (u : UnitState) → u.sub ≡ sub.Start → HasItsProcess u → (n : ℕ) × HasNumber u n
-number_in_start u is held = let n = number_of u.main (subst (λ x. has_its_process x u ≡ true) is held) in (n.0, inl n.1)
+number_in_start : (x : SubState) (u : UnitState) → is_starting x ≡ true → has_its_process x u ≡ true → (n : ℕ) × HasNumber u n
+number_in_start sub.StartPre u up held = let n = number_of u.control held in (n.0, inr n.1)
+number_in_start sub.Start u up held = let n = number_of u.main held in (n.0, inl n.1)
+number_in_start _ u up held = absurd (true≢false (sym up))
 
 number_in_stop : (x : SubState) (u : UnitState) → is_stopping x ≡ true → has_its_process x u ≡ true → (n : ℕ) × HasNumber u n
 number_in_stop sub.Stop u down held = let n = number_of u.control held in (n.0, inr n.1)
@@ -407,6 +410,7 @@ not_deactivating sub.Stop f e = true≢false f
 not_deactivating sub.StopSigterm f e = true≢false f
 not_deactivating sub.StopSigkill f e = true≢false f
 not_deactivating sub.Dead f e = cc
+not_deactivating sub.StartPre f e = cc
 not_deactivating sub.Start f e = cc
 not_deactivating sub.Running f e = cc
 not_deactivating sub.Exited f e = cc
@@ -416,10 +420,11 @@ not_deactivating sub.Active f e = cc
 
 module _ (s : State) (fits : AllFit s) (still : IsStill s) where
   module _ (j : Job) (is_there : IsPending s.pending j) where
-    waits_in_start : (state_of_unit s.units j.unit).sub ≡ sub.Start → (number : ℕ) × WaitsFor s j number
-    waits_in_start is =
-        let n = number_in_start (state_of_unit s.units j.unit) is (fits j.unit).held in
-        (n.0, record { pending = is_there; busy = ap (λ x. is_starting x || is_stopping x) is; live = n.1 })
+    waits_in_start : is_starting (state_of_unit s.units j.unit).sub ≡ true → (number : ℕ) × WaitsFor s j number
+    waits_in_start up =
+        let u = state_of_unit s.units j.unit in
+        let n = number_in_start u.sub u up (fits j.unit).held in
+        (n.0, record { pending = is_there; busy = ap (λ b. b || is_stopping u.sub) up; live = n.1 })
 
     waits_in_stop : is_stopping (state_of_unit s.units j.unit).sub ≡ true → (number : ℕ) × WaitsFor s j number
     waits_in_stop down =

@@ -125,13 +125,13 @@ module _ (u tree : Tree) (same : LooksAs u tree) where
   same_files (AtMask unit) = refl
   same_files Nowhere = refl
 
-  same_loading : (r : Resolution) → loading_at u r ≡ loading_at tree r
-  same_loading (AtFile unit path text) = ap (λ files. loading_by_file unit path (each source_of files)) (same_files (AtFile unit path text))
-  same_loading (AtNoFile unit) = ap (λ files. Found (without_install (unit_by unit None (each source_of files)))) (same_files (AtNoFile unit))
-  same_loading (AtMask unit) = refl
-  same_loading Nowhere = refl
+  same_loading : (profile : Profile) (r : Resolution) → loading_at (read_by profile u) r ≡ loading_at (read_by profile tree) r
+  same_loading profile (AtFile unit path text) = ap (λ files. loading_by_file profile unit path (each source_of files)) (same_files (AtFile unit path text))
+  same_loading profile (AtNoFile unit) = ap (λ files. Found (without_install (unit_by profile unit None (each source_of files)))) (same_files (AtNoFile unit))
+  same_loading profile (AtMask unit) = refl
+  same_loading profile Nowhere = refl
 
   -- each unit loads as in the other, by whatever profile both are read
   pub loads_as : (profile : Profile) (unit : List ℕ) → is_unit_name unit ≡ true → load (read_by profile u) unit ≡ load (read_by profile tree) unit
   unfolding load
-  loads_as profile unit is = ap (loading_at u) (same_resolution unit is) ∙ same_loading (resolution_of tree unit)
+  loads_as profile unit is = ap (loading_at (read_by profile u)) (same_resolution unit is) ∙ same_loading profile (resolution_of tree unit)

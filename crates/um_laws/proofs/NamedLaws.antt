@@ -128,11 +128,11 @@ pub names_installed : (tree : ReadTree) (unit : List ℕ) → AreNames (install_
 unfolding load
 names_installed tree unit = by_resolution (resolution_of tree.entries unit)
   where
-    by_reason : (unit path : List ℕ) (sources : List Source) (reason : Option (List ℕ)) → AreNames (install_of (found_unless reason (unit_by unit (Some path) sources)))
+    by_reason : (unit path : List ℕ) (sources : List Source) (reason : Option (List ℕ)) → AreNames (install_of (found_unless reason (unit_by tree.profile unit (Some path) sources)))
     by_reason unit path sources None = names_of_section unit (assignments_in (suffix_of unit) sources)
     by_reason unit path sources (Some reason) = none_named
 
-    by_resolution : (r : Resolution) → AreNames (install_of (loading_at tree.entries r))
+    by_resolution : (r : Resolution) → AreNames (install_of (loading_at tree r))
     by_resolution (AtFile unit path text) = by_reason unit path (sources_at tree.entries (AtFile unit path text)) _
     by_resolution (AtNoFile unit) = none_named
     by_resolution (AtMask unit) = none_named

@@ -8,19 +8,19 @@ use Rattle.um_model.specs.Limit.{counted}
 use Rattle.um_model.specs.Service.{Action, SpawnProcess, SendSignal, active_state_of, is_success}
 use Rattle.um_model.specs.Settings.{ServiceSettings, environment_texts, commands_in, has_place}
 use Rattle.um_model.specs.Ends.{is_clean, is_failed, is_restart_wanted, has_one_command}
-use Rattle.um_model.specs.Transitions.{deadline_after, has_number, is_live, just, asking, start_ends, start_fails, stop_ends, rests_for_good, waits_to_restart, rests, terminates, stop_command, winds_down, first_command, start_of, starts_if, starts, exits, next_command, start_goes_on, rests_unless_live, noted, without_main, without_control, timed_out, told_to_stop, forgiven, is_stop_done, row, is_going, transition, AreStarted, no_command, substituted, as_written, AreActions, nothing, spawn, signals, spawned, live_numbers, HasNumber, has_its_process, HasItsProcess, fails_start}
+use Rattle.um_model.specs.Transitions.{deadline_after, has_number, is_live, just, asking, start_ends, start_fails, stop_ends, rests_for_good, waits_to_restart, rests, terminates, stop_command, winds_down, first_command, start_of, pre_command, prepares, starts_if, starts, starts_prepared, pre_goes_on, exits, next_command, start_goes_on, rests_unless_live, noted, without_main, without_control, timed_out, told_to_stop, forgiven, is_control_done, row, is_going, transition, AreStarted, no_command, substituted, as_written, AreActions, nothing, spawn, signals, spawned, live_numbers, HasNumber, has_its_process, HasItsProcess, fails_start}
 use Rattle.um_model.specs.declared.limit.Counted.{Counted}
 use Rattle.um_model.specs.declared.service.End.{End}
 use Rattle.um_model.specs.declared.service.Signal as signal
 use Rattle.um_model.specs.declared.service.Signal.TheVariants.{Term}
 use Rattle.um_model.specs.declared.service.SubState.{SubState}
-use Rattle.um_model.specs.declared.service.SubState.TheVariants.{Dead, Start, Running, Exited, Stop, StopSigterm, StopSigkill, Failed, AutoRestart, Active}
+use Rattle.um_model.specs.declared.service.SubState.TheVariants.{Dead, StartPre, Start, Running, Exited, Stop, StopSigterm, StopSigkill, Failed, AutoRestart, Active}
 use Rattle.um_model.specs.declared.service.UnitResult.TheVariants as result
 use Rattle.um_model.specs.declared.service.UnitState.{UnitState}
 use Rattle.um_model.specs.declared.transition.Around.{Around}
 use Rattle.um_model.specs.declared.transition.Change.{Change}
 use Rattle.um_model.specs.declared.transition.CommandList.{CommandList}
-use Rattle.um_model.specs.declared.transition.CommandList.TheVariants.{OfStart, OfStop}
+use Rattle.um_model.specs.declared.transition.CommandList.TheVariants.{OfStartPre, OfStart, OfStop}
 use Rattle.um_model.specs.declared.transition.Order.{Order}
 use Rattle.um_model.specs.declared.transition.Order.TheVariants.{Nothing, Spawn, Signal}
 use Rattle.um_model.specs.declared.transition.Process.TheVariants.{Main, Control}
@@ -40,6 +40,7 @@ held_at_rest false w = refl
 
 -- only the numbers count
 pub same_held : (sub : SubState) (w v : UnitState) → w.main ≡ v.main → w.control ≡ v.control → has_its_process sub w ≡ true → has_its_process sub v ≡ true
+same_held StartPre w v m k h = subst (λ x. is_some x ≡ true) k h
 same_held Start w v m k h = subst (λ x. is_some x ≡ true) m h
 same_held Running w v m k h = subst (λ x. is_some x ≡ true) m h
 same_held Stop w v m k h = subst (λ x. is_some x ≡ true) k h
@@ -147,8 +148,26 @@ module _ (s : ServiceSettings) (c : Around) (Known : ℕ → Type 0) (Held : Typ
   start_of_good Oneshot w old = by_cond Good (has_place s.start 0) (first_command s c w) (start_ends (just (record w { sub = Exited; deadline = None }))) (λ e. first_command_good w old)
       (λ e. record { held = λ q. refl; fresh = λ n k. inl (old n k); below = inl refl })
 
+  pre_command_good : (w : UnitState) (i : ℕ) → Old w → Good (pre_command c w i)
+  pre_command_good w i old = by_cond Good (has_number c) (asking (Spawn OfStartPre i) (just (record w { sub = StartPre; control = Some c.next; index = i })))
+      (start_fails (rests_for_good (record w { index = i; result = result.Resources })))
+      (λ e. record { held = λ q. refl; fresh = next_known w old; below = inr (ltb-true _ _ e) })
+      (λ e. spent (record w { index = i }))
+
+  prepares_good : (w : UnitState) → Old w → Good (prepares s c w)
+  prepares_good w old = by_cond Good (has_place s.start_pre 0) (pre_command c (record w { deadline = deadline_after c.moment s.timeout_start }) 0) (start_of s.kind s c w)
+      (λ e. pre_command_good (record w { deadline = deadline_after c.moment s.timeout_start }) 0 old) (λ e. start_of_good s.kind w old)
+
+  starts_prepared_good : (w : UnitState) → Old w → Good (starts_prepared s c w)
+  starts_prepared_good w old = by_cond Good c.loadable (start_of s.kind s c (record w { index = 0 })) (start_fails (rests s c (record w { result = result.NotLoaded })))
+      (λ e. start_of_good s.kind (record w { index = 0 }) old) (λ e. failed (rests s c (record w { result = result.NotLoaded })) (rests_good (record w { result = result.NotLoaded })))
+
+  pre_goes_on_good : (w : UnitState) → Old w → Good (pre_goes_on s c w)
+  pre_goes_on_good w old = by_cond Good (has_place s.start_pre (w.index + 1)) (pre_command c w (w.index + 1)) (starts_prepared s c w)
+      (λ e. pre_command_good w (w.index + 1) old) (λ e. starts_prepared_good w old)
+
   starts_if_good : (through : Bool) (window : Option Counted) (w : UnitState) → Old w → Good (starts_if through window s c w)
-  starts_if_good true window w old = start_of_good s.kind (record w { result = result.Success; stop_asked = false; index = 0; last = None; window = window }) old
+  starts_if_good true window w old = prepares_good (record w { result = result.Success; stop_asked = false; index = 0; last = None; window = window }) old
   starts_if_good false window w old = record { held = λ q. refl; fresh = λ n k. inl (old n k); below = inl refl }
 
   starts_good : (w : UnitState) → Old w → Good (starts s c w)
@@ -223,6 +242,10 @@ module _ (s : ServiceSettings) (c : Around) (Known : ℕ → Type 0) (Held : Typ
   row_good Dead StartBegins u is old h = starts_good u old
   row_good Failed StartBegins u is old h = starts_good u old
   row_good AutoRestart StartBegins u is old h = starts_good u old
+  row_good StartPre (ControlEnds e) u is old h =
+      by_cond Good (is_control_done s OfStartPre u e) (pre_goes_on s c (record u { control = None })) (start_fails (rests s c (without_control s u e)))
+      (λ _. pre_goes_on_good (record u { control = None }) (with_no_control_old u old)) (λ _. failed (rests s c (without_control s u e)) (rests_good (without_control s u e)))
+  row_good StartPre DeadlinePasses u is old h = failed (terminates s c (record u { result = result.Timeout })) (terminates_good (record u { result = result.Timeout }) old)
   row_good Start Executed u is old h = executed_good u is old h
   row_good Start (MainEnds e) u is old h =
       by_cond Good (is_clean s u Main e) (start_goes_on s.kind s c (without_main s u e)) (start_fails (rests s c (without_main s u e)))
@@ -233,6 +256,7 @@ module _ (s : ServiceSettings) (c : Around) (Known : ℕ → Type 0) (Held : Typ
       (λ _. exits_good (without_main s u e) (without_main_old u e old)) (λ _. winds_down_good (without_main s u e) 0 (without_main_old u e old))
   row_good Running StopBegins u is old h = winds_down_good (told_to_stop u) 0 old
   row_good Exited StopBegins u is old h = winds_down_good (told_to_stop u) 0 old
+  row_good StartPre StopBegins u is old h = terminates_good (told_to_stop u) old
   row_good Start StopBegins u is old h = terminates_good (told_to_stop u) old
   row_good AutoRestart StopBegins u is old h = record { held = λ q. refl; fresh = λ n k. inl (old n k); below = inl refl }
   row_good Stop StopBegins u is old h = just_good (told_to_stop u) old (λ q. same_held u.sub u (told_to_stop u) refl refl (h q))
@@ -242,7 +266,7 @@ module _ (s : ServiceSettings) (c : Around) (Known : ℕ → Type 0) (Held : Typ
   row_good Dead StopBegins u is old h = stopped (just u) (just_good u old h)
   row_good Failed StopBegins u is old h = stopped (just u) (just_good u old h)
   row_good Stop (ControlEnds e) u is old h =
-      by_cond Good (is_stop_done s u e) (winds_down s c (record u { control = None }) (u.index + 1)) (terminates s c (without_control s u e))
+      by_cond Good (is_control_done s OfStop u e) (winds_down s c (record u { control = None }) (u.index + 1)) (terminates s c (without_control s u e))
       (λ _. winds_down_good (record u { control = None }) (u.index + 1) (with_no_control_old u old)) (λ _. terminates_good (without_control s u e) (without_control_old u e old))
   row_good Stop (MainEnds e) u is old h = just_good (without_main s u e) (without_main_old u e old) (control_stays u e is h)
   row_good Stop DeadlinePasses u is old h = terminates_good (timed_out u) old

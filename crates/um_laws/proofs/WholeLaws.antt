@@ -23,7 +23,7 @@ use Rattle.um_model.specs.Refusals.{Refused}
 use Rattle.um_model.specs.Servable.{IsServable}
 use Rattle.um_model.specs.Service.{Action, dead_unit, state_of_unit}
 use Rattle.um_model.specs.Spellings.{FitProcess, FitDeadline, FitCounted, FitUnitName, FitUnit}
-use Rattle.um_model.specs.StateSpellings.{FitEntry, FitTree, numbers_in, are_distinct, state_spelling, FitState}
+use Rattle.um_model.specs.StateSpellings.{FitEntry, FitTree, is_sub_state_in, have_sub_states, numbers_in, are_distinct, state_spelling, FitState}
 use Rattle.um_model.specs.Transitions.{live_numbers, HasNumber}
 use Rattle.um_model.specs.Tree.{Tree, Entry, File, Link}
 use Rattle.um_model.specs.Weight.{weight_of}
@@ -225,14 +225,24 @@ all_low next (m ∷ ns) low n (inl is) = omega (arith, ltb-true m next (left_tru
 all_low next (m ∷ ns) low n (inr later) = all_low next ns (right_true (nat_lt m next) (list_all (λ k. nat_lt k next) ns) low) n later
 
 module _ (s : State) (fit : FitState s) where
+  have_subs : have_sub_states s.loaded.profile s.units ≡ true
+  have_subs =
+      left_true _ (list_all (λ e. has_begun s.clock e.1.window) (map.entries s.units))
+      (left_true _ (list_all (λ n. nat_lt n s.next) (numbers_in s.units)) (left_true _ (are_distinct (numbers_in s.units)) fit.sound))
+
   have_windows : list_all (λ e. has_begun s.clock e.1.window) (map.entries s.units) ≡ true
-  have_windows = left_true _ (list_all (λ n. nat_lt n s.next) (numbers_in s.units)) (left_true _ (are_distinct (numbers_in s.units)) fit.sound)
+  have_windows =
+      right_true (have_sub_states s.loaded.profile s.units) _
+      (left_true _ (list_all (λ n. nat_lt n s.next) (numbers_in s.units)) (left_true _ (are_distinct (numbers_in s.units)) fit.sound))
 
   are_low : list_all (λ n. nat_lt n s.next) (numbers_in s.units) ≡ true
-  are_low = right_true (list_all (λ e. has_begun s.clock e.1.window) (map.entries s.units)) _ (left_true _ (are_distinct (numbers_in s.units)) fit.sound)
+  are_low =
+      right_true (have_sub_states s.loaded.profile s.units && list_all (λ e. has_begun s.clock e.1.window) (map.entries s.units)) _ (left_true _ (are_distinct (numbers_in s.units)) fit.sound)
 
   are_apart : are_distinct (numbers_in s.units) ≡ true
-  are_apart = right_true (list_all (λ e. has_begun s.clock e.1.window) (map.entries s.units) && list_all (λ n. nat_lt n s.next) (numbers_in s.units)) _ fit.sound
+  are_apart =
+      right_true
+      (have_sub_states s.loaded.profile s.units && list_all (λ e. has_begun s.clock e.1.window) (map.entries s.units) && list_all (λ n. nat_lt n s.next) (numbers_in s.units)) _ fit.sound
 
   -- what is found of a unit with a number
   found_with : (unit : List ℕ) (n : ℕ) → HasNumber (state_of_unit s.units unit) n → map.get s.units unit ≡ Some (state_of_unit s.units unit)
@@ -259,6 +269,10 @@ module _ (s : State) (fit : FitState s) where
         last_low = has.last;
         apart = found_own (map.entries s.units) are_apart unit u (found_in unit u at);
       }
+
+  sub_of : (unit : List ℕ) (o : Option UnitState) → map.get s.units unit ≡ o → is_sub_state_in s.loaded.profile (unwrap_or o dead_unit).sub ≡ true
+  sub_of unit None at = refl
+  sub_of unit (Some u) at = at_each (λ e. is_sub_state_in s.loaded.profile e.1.sub) s.units have_subs unit u at
 
   within : (unit : List ℕ) (n : ℕ) → HasNumber (state_of_unit s.units unit) n → (1 ≤ n) × (n < s.next)
   within unit n has =
@@ -288,6 +302,7 @@ module _ (s : State) (fit : FitState s) where
     names = names_of_fit s fit;
     tidy = record { units = fit.units.tidy; pending = fit.pending.tidy };
     units = units_of_fit;
+    subs = λ unit. sub_of unit (map.get s.units unit) refl;
   }
 
 -- ---- a step from a state that a store may hold

@@ -136,18 +136,18 @@ name_by_reason : (asked : List ℕ) (u : LoadedUnit) (reason : Option (List ℕ)
 name_by_reason asked u None = refl
 name_by_reason asked u (Some reason) = refl
 
-name_at_file : (tree : Tree) (asked unit path text : List ℕ) → name_in asked (loading_at tree (AtFile unit path text)) ≡ unit
+name_at_file : (tree : ReadTree) (asked unit path text : List ℕ) → name_in asked (loading_at tree (AtFile unit path text)) ≡ unit
 name_at_file tree asked unit path text =
-    let sources = sources_at tree (AtFile unit path text) in
-    name_by_reason asked (unit_by unit (Some path) sources) (reason_of unit (assignments_in (suffix_of unit) sources))
+    let sources = sources_at tree.entries (AtFile unit path text) in
+    name_by_reason asked (unit_by tree.profile unit (Some path) sources) (reason_of tree.profile unit (assignments_in (suffix_of unit) sources))
 
 -- the name that counts is that of what was found
 pub named_by_loading : (tree : ReadTree) (asked : List ℕ) → unit_named tree.entries asked ≡ name_in asked (load tree asked)
 unfolding load
 named_by_loading tree asked = by_resolution (resolution_of tree.entries asked)
   where
-    by_resolution : (r : Resolution) → named_at asked r ≡ name_in asked (loading_at tree.entries r)
-    by_resolution (AtFile unit path text) = sym (name_at_file tree.entries asked unit path text)
+    by_resolution : (r : Resolution) → named_at asked r ≡ name_in asked (loading_at tree r)
+    by_resolution (AtFile unit path text) = sym (name_at_file tree asked unit path text)
     by_resolution (AtNoFile unit) = refl
     by_resolution (AtMask unit) = refl
     by_resolution Nowhere = refl
@@ -167,12 +167,12 @@ pub found_by_own : (tree : ReadTree) (asked : List ℕ) (l : LoadedUnit) → loa
 unfolding load
 found_by_own tree asked l found = by_resolution (resolution_of tree.entries asked) (own_resolution tree.entries asked) found
   where
-    by_own : (unit : List ℕ) (r : Resolution) → name_in asked (loading_at tree.entries r) ≡ unit → OwnName tree.entries asked unit r → loading_at tree.entries r ≡ Found l
-        → loading_at tree.entries (resolution_of tree.entries l.name) ≡ Found l
-    by_own unit r named own is = ap (loading_at tree.entries) (ap (resolution_of tree.entries) (sym (ap (name_in asked) is) ∙ named) ∙ own.leads) ∙ is
+    by_own : (unit : List ℕ) (r : Resolution) → name_in asked (loading_at tree r) ≡ unit → OwnName tree.entries asked unit r → loading_at tree r ≡ Found l
+        → loading_at tree (resolution_of tree.entries l.name) ≡ Found l
+    by_own unit r named own is = ap (loading_at tree) (ap (resolution_of tree.entries) (sym (ap (name_in asked) is) ∙ named) ∙ own.leads) ∙ is
 
-    by_resolution : (r : Resolution) → HasOwn tree.entries asked r → loading_at tree.entries r ≡ Found l → loading_at tree.entries (resolution_of tree.entries l.name) ≡ Found l
-    by_resolution (AtFile unit path text) own is = by_own unit (AtFile unit path text) (name_at_file tree.entries asked unit path text) own is
+    by_resolution : (r : Resolution) → HasOwn tree.entries asked r → loading_at tree r ≡ Found l → loading_at tree (resolution_of tree.entries l.name) ≡ Found l
+    by_resolution (AtFile unit path text) own is = by_own unit (AtFile unit path text) (name_at_file tree asked unit path text) own is
     by_resolution (AtNoFile unit) own is = by_own unit (AtNoFile unit) refl own is
     by_resolution (AtMask unit) own is = cc
     by_resolution Nowhere own is = cc

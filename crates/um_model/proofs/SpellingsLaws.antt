@@ -52,9 +52,10 @@ sub_again sub.StopSigkill = refl
 sub_again sub.Failed = refl
 sub_again sub.AutoRestart = refl
 sub_again sub.Active = refl
+sub_again sub.StartPre = refl
 
 pub sub_back : (n : ℕ) (a : SubState) → slice_get sub_states n ≡ Some a → sub_tag a ≡ n
-sub_back = table_back sub_tag sub_states (refl, (refl, (refl, (refl, (refl, (refl, (refl, (refl, (refl, (refl, tt))))))))))
+sub_back = table_back sub_tag sub_states (refl, (refl, (refl, (refl, (refl, (refl, (refl, (refl, (refl, (refl, (refl, tt)))))))))))
 
 pub canonical_sub : IsCanonical (λ s. ⊤) (tagged sub_tag) (table_at sub_states)
 canonical_sub = canonical_tag sub_tag (slice_get sub_states) sub_again sub_back

@@ -9,7 +9,7 @@ use Rattle.um_model.specs.Settings.{ServiceSettings, has_dash}
 use Rattle.um_model.specs.declared.service.End.{End}
 use Rattle.um_model.specs.declared.service.End.TheVariants.{Code, Signal, Lost}
 use Rattle.um_model.specs.declared.service.SubState.{SubState}
-use Rattle.um_model.specs.declared.service.SubState.TheVariants.{Start, Stop, StopSigterm, StopSigkill, Failed}
+use Rattle.um_model.specs.declared.service.SubState.TheVariants.{StartPre, Start, Stop, StopSigterm, StopSigkill, Failed}
 use Rattle.um_model.specs.declared.service.UnitResult.{UnitResult}
 use Rattle.um_model.specs.declared.service.UnitResult.TheVariants as result
 use Rattle.um_model.specs.declared.service.UnitState.{UnitState}
@@ -36,6 +36,7 @@ is_stopping other = false
 
 -- a start of the unit has begun and hasn't ended
 abbrev pub is_starting : SubState → Bool
+is_starting StartPre = true
 is_starting Start = true
 is_starting other = false
 

@@ -17,6 +17,7 @@ use Rattle.um_model.specs.Text.{trim_start, trim}
 use Rattle.um_model.specs.Units.{Source, Warning, LoadedUnit, nothing_installed, warnings_in}
 use Rattle.um_model.specs.Values.{time_units}
 use Rattle.um_model.specs.Words.{Word, meanings}
+use Rattle.um_model.specs.declared.profile.Profile.{Profile}
 use Rattle.um_model.specs.declared.settings.RestartPolicy.{RestartPolicy}
 use Rattle.um_model.specs.declared.settings.RestartPolicy.TheVariants.{No, Always, OnSuccess, OnFailure, OnAbnormal, OnAbort, OnWatchdog}
 use Rattle.um_model.specs.declared.warnings.WarningKind.{WarningKind}
@@ -157,8 +158,8 @@ abbrev pub unit_reading : (List ℕ → Bool) → List ℕ → List ℕ → Mean
 unit_reading fits unit word = text_reading unit word and_then read_if fits
 
 -- the warnings of a unit, by file in the order in which they are read
-abbrev pub warnings_of : List ℕ → List Source → List Warning
-warnings_of unit sources = flat_map (warnings_in unit) sources
+abbrev pub warnings_of : Profile → List ℕ → List Source → List Warning
+warnings_of profile unit sources = flat_map (warnings_in profile unit) sources
 
 -- a unit that nothing enables
 abbrev pub without_install : LoadedUnit → LoadedUnit

@@ -19,7 +19,7 @@ is_exited other = false
 abbrev pub has_finished : UnitState → Bool
 has_finished u = is_exited u.sub || is_dead u.sub && is_success u.result
 
--- from one state to the other the oneshot finished: it came from start or a stop state to exited, or to dead with success
+-- from one state to the other the oneshot finished: it came from start-pre, start or a stop state to exited, or to dead with success
 pub record Finishes (s t : State) (unit : List ℕ) : Type 0 where
   pub kind : (settings_in s.loaded unit).kind ≡ Oneshot
   pub busy : (is_starting (state_of_unit s.units unit).sub || is_stopping (state_of_unit s.units unit).sub) ≡ true

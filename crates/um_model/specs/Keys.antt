@@ -1,13 +1,14 @@
 -- The sections and keys of unit files, and what kind of value each key takes.
 -- Follows systemd.unit(5), "[Unit] Section Options" and "[Install] Section Options", and systemd.service(5), "Options".
 -- Settings and warnings stand on this file.
-use Rattle.std.specs.Prelude.{ℕ, Bool, ◌||◌, if◌then◌else◌, nat_eq, List, [], ◌∷◌, Option, Some, None, codes}
+use Rattle.std.specs.Prelude.{ℕ, Bool, not, ◌&&◌, ◌||◌, if◌then◌else◌, nat_eq, List, [], ◌∷◌, Option, Some, codes}
 use Rattle.std.specs.Map.{lookup}
-use Rattle.std.specs.Option.{option_or}
 use Rattle.std.specs.List.{list_any, starts_with}
 use Rattle.std.specs.Str.{bytes_eq}
+use Rattle.um_model.specs.Profiles.{serves_start_pre}
 use Rattle.um_model.specs.declared.names.Suffix.{Suffix}
 use Rattle.um_model.specs.declared.names.Suffix.TheVariants.{Service}
+use Rattle.um_model.specs.declared.profile.Profile.{Profile}
 use Rattle.um_model.specs.declared.units.ValueKind.{ValueKind}
 use Rattle.um_model.specs.declared.units.ValueKind.TheVariants.{Text, Unused, Units, Aliases, Instance, Truth, Span, Number, Commands}
 use Rattle.um_model.specs.declared.units.ValueKind.TheVariants.{Environment, Exits, Policy, ServiceType, Refused}
@@ -22,21 +23,25 @@ keys_of section =
     else (if bytes_eq section (codes "Install") then
     (codes "Alias", Aliases) ∷ (codes "WantedBy", Units) ∷ (codes "RequiredBy", Units) ∷ (codes "Also", Units) ∷ (codes "DefaultInstance", Instance) ∷ []
     else
-    (codes "Type", ServiceType) ∷ (codes "ExecStart", Commands) ∷ (codes "ExecStop", Commands) ∷ (codes "Environment", Environment)
-    ∷ (codes "RemainAfterExit", Truth) ∷ (codes "Restart", Policy) ∷ (codes "RestartSec", Span) ∷ (codes "TimeoutStartSec", Span)
+    (codes "Type", ServiceType) ∷ (codes "ExecStartPre", Commands) ∷ (codes "ExecStart", Commands) ∷ (codes "ExecStop", Commands)
+    ∷ (codes "Environment", Environment) ∷ (codes "RemainAfterExit", Truth) ∷ (codes "Restart", Policy) ∷ (codes "RestartSec", Span) ∷ (codes "TimeoutStartSec", Span)
     ∷ (codes "TimeoutStopSec", Span) ∷ (codes "TimeoutSec", Span) ∷ (codes "SuccessExitStatus", Exits)
     ∷ (codes "RestartPreventExitStatus", Exits) ∷ (codes "RestartForceExitStatus", Exits) ∷ (codes "StartLimitInterval", Span)
     ∷ (codes "StartLimitBurst", Number) ∷ [])
 
 -- a key that no unit may have, in any section, as a start that ignored it would do what its author didn't write: one of these, or one that
 -- begins with Condition or Assert
-abbrev pub is_refused_key : List ℕ → Bool
-is_refused_key key =
+abbrev pub is_never_served : List ℕ → Bool
+is_never_served key =
     list_any (λ refused. bytes_eq key refused) (
     codes "User" ∷ codes "Group" ∷ codes "DynamicUser" ∷ codes "RootDirectory" ∷ codes "WorkingDirectory" ∷ codes "EnvironmentFile"
-    ∷ codes "ExecCondition" ∷ codes "ExecStartPre" ∷ codes "ExecStartPost" ∷ codes "ExecStopPost" ∷ codes "Requisite" ∷ codes "Upholds"
+    ∷ codes "ExecCondition" ∷ codes "ExecStartPost" ∷ codes "ExecStopPost" ∷ codes "Requisite" ∷ codes "Upholds"
     ∷ codes "OnFailure" ∷ codes "OnSuccess" ∷ [])
     || starts_with nat_eq key (codes "Condition") || starts_with nat_eq key (codes "Assert")
+
+-- the same for a unit that is read by this profile, which may not serve ExecStartPre= either
+abbrev pub is_refused_key : Profile → List ℕ → Bool
+is_refused_key profile key = bytes_eq key (codes "ExecStartPre") && not (serves_start_pre profile) || is_never_served key
 
 -- a section or a key that isn't ours
 abbrev pub is_foreign : List ℕ → Bool
@@ -47,6 +52,6 @@ abbrev pub is_known_section : Option Suffix → List ℕ → Bool
 is_known_section (Some Service) section = bytes_eq section (codes "Unit") || bytes_eq section (codes "Install") || bytes_eq section (codes "Service")
 is_known_section other section = bytes_eq section (codes "Unit") || bytes_eq section (codes "Install")
 
--- the kind of a key's values in a known section, where the key is known
-unfoldable pub kind_of_key : List ℕ → List ℕ → Option ValueKind
-kind_of_key section key = option_or (lookup (bytes_eq key) (keys_of section)) (if is_refused_key key then Some Refused else None)
+-- the kind of a key's values in a known section, where the profile knows the key
+unfoldable pub kind_of_key : Profile → List ℕ → List ℕ → Option ValueKind
+kind_of_key profile section key = if is_refused_key profile key then Some Refused else lookup (bytes_eq key) (keys_of section)

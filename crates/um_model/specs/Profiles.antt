@@ -1,6 +1,7 @@
 -- By which rules the files of units are read, and a tree as it is read.
 -- No manual page has it: which keys are served is this project's own, and a later profile serves more of them.
 -- Units, dependencies, enabling and the state stand on this file.
+use Rattle.std.specs.Prelude.{Bool, true, false}
 use Rattle.um_model.specs.Tree.{Tree, without_run}
 use Rattle.um_model.specs.declared.profile.Profile.{Profile}
 use Rattle.um_model.specs.declared.profile.Profile.TheVariants.{One, Two}
@@ -10,9 +11,14 @@ abbrev pub later : Profile → Profile → Profile
 later One other = other
 later Two other = Two
 
+-- the profile serves ExecStartPre=, so that a unit may be in start-pre
+abbrev pub serves_start_pre : Profile → Bool
+serves_start_pre One = false
+serves_start_pre Two = true
+
 -- what is submitted is read by this one, and so is the tree in hand where it is asked about
 abbrev pub current : Profile
-current = One
+current = Two
 
 -- a tree as it is read
 pub record ReadTree : Type 0 where

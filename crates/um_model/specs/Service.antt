@@ -7,7 +7,7 @@ use Rattle.std.specs.Cmp.Lexicographic.{slice_cmp}
 use Rattle.std.specs.Ordering.{nat_cmp}
 use Rattle.std.specs.Option.{option_map_or}
 use Rattle.um_model.specs.declared.service.SubState.{SubState}
-use Rattle.um_model.specs.declared.service.SubState.TheVariants.{Dead, Start, Running, Exited, Stop, StopSigterm, StopSigkill, Failed, AutoRestart, Active}
+use Rattle.um_model.specs.declared.service.SubState.TheVariants.{Dead, StartPre, Start, Running, Exited, Stop, StopSigterm, StopSigkill, Failed, AutoRestart, Active}
 use Rattle.um_model.specs.declared.service.ActiveState.{ActiveState}
 use Rattle.um_model.specs.declared.service.ActiveState.TheVariants as active
 use Rattle.um_model.specs.declared.service.UnitResult.{UnitResult}
@@ -19,6 +19,7 @@ use Rattle.um_model.specs.declared.service.UnitState.{UnitState}
 -- the word for a sub state
 abbrev pub sub_state_text : SubState → List ℕ
 sub_state_text Dead = codes "dead"
+sub_state_text StartPre = codes "start-pre"
 sub_state_text Start = codes "start"
 sub_state_text Running = codes "running"
 sub_state_text Exited = codes "exited"
@@ -33,6 +34,7 @@ sub_state_text Active = codes "active"
 abbrev pub active_state_of : SubState → ActiveState
 active_state_of Dead = active.Inactive
 active_state_of Failed = active.Failed
+active_state_of StartPre = active.Activating
 active_state_of Start = active.Activating
 active_state_of AutoRestart = active.Activating
 active_state_of Stop = active.Deactivating

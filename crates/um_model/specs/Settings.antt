@@ -7,15 +7,16 @@ use Rattle.um_model.specs.Commands.{Command}
 use Rattle.um_model.specs.Units.{service_settings_with}
 pub use Rattle.um_model.specs.Units.{ServiceSettings}
 use Rattle.um_model.specs.declared.transition.CommandList.{CommandList}
-use Rattle.um_model.specs.declared.transition.CommandList.TheVariants.{OfStart, OfStop}
+use Rattle.um_model.specs.declared.transition.CommandList.TheVariants.{OfStartPre, OfStart, OfStop}
 use Rattle.um_model.specs.declared.transition.UnitKind.{UnitKind}
 
 -- the settings of a unit of this kind where nothing is set
 abbrev pub default_settings : UnitKind → ServiceSettings
-default_settings kind = service_settings_with [] kind [] []
+default_settings kind = service_settings_with [] [] kind [] []
 
 -- one of its lists of commands
 abbrev pub commands_in : ServiceSettings → CommandList → List Command
+commands_in s OfStartPre = s.start_pre
 commands_in s OfStart = s.start
 commands_in s OfStop = s.stop
 

@@ -37,10 +37,13 @@ sub_tag sub.StopSigkill = 6
 sub_tag sub.Failed = 7
 sub_tag sub.AutoRestart = 8
 sub_tag sub.Active = 9
+sub_tag sub.StartPre = 10
 
 -- the sub states by their tags
 abbrev pub sub_states : List SubState
-sub_states = sub.Dead ∷ sub.Start ∷ sub.Running ∷ sub.Exited ∷ sub.Stop ∷ sub.StopSigterm ∷ sub.StopSigkill ∷ sub.Failed ∷ sub.AutoRestart ∷ sub.Active ∷ []
+sub_states =
+    sub.Dead ∷ sub.Start ∷ sub.Running ∷ sub.Exited ∷ sub.Stop ∷ sub.StopSigterm ∷ sub.StopSigkill ∷ sub.Failed ∷ sub.AutoRestart ∷ sub.Active
+    ∷ sub.StartPre ∷ []
 
 -- the tag of a result
 abbrev pub result_tag : UnitResult → ℕ

@@ -16,13 +16,15 @@ use Rattle.um_model.specs.Service.{ByUnit, AreTidyUnits, holds_nothing}
 use Rattle.um_model.specs.Transitions.{live_numbers}
 use Rattle.um_model.specs.Jobs.{AreTidyJobs, JobShown, jobs_of_unit, jobs_shown, with_job}
 use Rattle.um_model.specs.Machine.{State, boot_limit}
-use Rattle.um_model.specs.Profiles.{read_by}
+use Rattle.um_model.specs.Profiles.{read_by, serves_start_pre}
 use Rattle.um_model.specs.Spellings.{profile_tag, profile_at, kind_tag, moment_at, FitMoment, next_at, FitNext, job_state_tag, kinds, job_states}
 use Rattle.um_model.specs.Spellings.{unit_name_at, FitUnitName, unit_spelling, unit_at, FitUnit}
 use Rattle.um_model.specs.declared.jobs.JobKind.{JobKind}
 use Rattle.um_model.specs.declared.jobs.JobState.{JobState}
 use Rattle.um_model.specs.declared.jobs.UnitJobs.{UnitJobs}
 use Rattle.um_model.specs.declared.profile.Profile.{Profile}
+use Rattle.um_model.specs.declared.service.SubState.{SubState}
+use Rattle.um_model.specs.declared.service.SubState.TheVariants.{StartPre}
 use Rattle.um_model.specs.declared.service.UnitState.{UnitState}
 use Rattle.um_model.specs.Weight.{text_of_entry}
 
@@ -171,9 +173,20 @@ abbrev pub are_distinct : List ℕ → Bool
 are_distinct [] = true
 are_distinct (n ∷ more) = list_all (λ m. not (m == n)) more && are_distinct more
 
--- the clock is past the begin of each window, and the live numbers are distinct and below the next one
+-- a unit may be in this sub state by the profile: in start-pre, where that serves ExecStartPre=
+abbrev pub is_sub_state_in : Profile → SubState → Bool
+is_sub_state_in profile StartPre = serves_start_pre profile
+is_sub_state_in profile other = true
+
+-- all units may be in their sub states by the profile
+abbrev pub have_sub_states : Profile → ByUnit UnitState → Bool
+have_sub_states profile units = list_all (λ e. is_sub_state_in profile e.1.sub) (map.entries units)
+
+-- the loaded profile has the sub states of all units, the clock is past the begin of each window, and the live numbers are distinct and below the next one
 abbrev pub is_sound : State → Bool
-is_sound s = have_begun s.clock s.units && list_all (λ n. nat_lt n s.next) (numbers_in s.units) && are_distinct (numbers_in s.units)
+is_sound s =
+    have_sub_states s.loaded.profile s.units && have_begun s.clock s.units && list_all (λ n. nat_lt n s.next) (numbers_in s.units)
+    && are_distinct (numbers_in s.units)
 
 -- a profile, and each field after the one before, where they fit together
 abbrev pub state_at : Decoder State

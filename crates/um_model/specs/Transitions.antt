@@ -1,5 +1,5 @@
 -- The service table: what follows for a unit from what happens to it, by its sub state, a clause a row; the first row that fits.
--- Follows systemd.service(5), "Type=", "ExecStart=", "ExecStop=", "TimeoutStartSec=", "TimeoutStopSec=", "RestartSec=".
+-- Follows systemd.service(5), "Type=", "ExecStartPre=", "ExecStart=", "ExecStop=", "TimeoutStartSec=", "TimeoutStopSec=", "RestartSec=".
 -- The machine stands on this file.
 use Rattle.std.specs.Prelude.{◌≡◌, ℕ, ◌+◌, ◌&&◌, ◌||◌, ◌⊎◌, Bool, true, false, not, if◌then◌else◌, List, [], ◌∷◌, ◌++◌, map, slice_get, nat_lt, Option, Some, None, is_some}
 use Rattle.std.specs.Option.{option_to_list, option_map}
@@ -17,13 +17,13 @@ use Rattle.um_model.specs.declared.service.End.{End}
 use Rattle.um_model.specs.declared.service.Signal as sent
 use Rattle.um_model.specs.declared.service.Signal.TheVariants.{Term, Kill}
 use Rattle.um_model.specs.declared.service.SubState.{SubState}
-use Rattle.um_model.specs.declared.service.SubState.TheVariants.{Dead, Start, Running, Exited, Stop, StopSigterm, StopSigkill, Failed, AutoRestart, Active}
+use Rattle.um_model.specs.declared.service.SubState.TheVariants.{Dead, StartPre, Start, Running, Exited, Stop, StopSigterm, StopSigkill, Failed, AutoRestart, Active}
 use Rattle.um_model.specs.declared.service.UnitResult.TheVariants as result
 use Rattle.um_model.specs.declared.service.UnitState.{UnitState}
 use Rattle.um_model.specs.declared.transition.Around.{Around}
 use Rattle.um_model.specs.declared.transition.Change.{Change}
 use Rattle.um_model.specs.declared.transition.CommandList.{CommandList}
-use Rattle.um_model.specs.declared.transition.CommandList.TheVariants.{OfStart, OfStop}
+use Rattle.um_model.specs.declared.transition.CommandList.TheVariants.{OfStartPre, OfStart, OfStop}
 use Rattle.um_model.specs.declared.transition.Order.{Order}
 use Rattle.um_model.specs.declared.transition.Order.TheVariants.{Nothing, Spawn, Signal}
 use Rattle.um_model.specs.declared.transition.Process.TheVariants.{Main, Control}
@@ -45,9 +45,10 @@ has_number c = nat_lt c.next process_limit
 abbrev pub is_live : UnitState → Bool
 is_live u = is_some u.main || is_some u.control
 
--- a unit that starts or runs has a main process, one that its ExecStop= commands stop a control process, and one that is told to
--- end one of them
+-- a unit that starts or runs has a main process, one that its ExecStartPre= commands prepare or its ExecStop= commands stop a control
+-- process, and one that is told to end one of them
 abbrev pub has_its_process : SubState → UnitState → Bool
+has_its_process StartPre u = is_some u.control
 has_its_process Start u = is_some u.main
 has_its_process Running u = is_some u.main
 has_its_process Stop u = is_some u.control
@@ -127,14 +128,33 @@ start_of Simple s c u = starts_so c u (start_ends (asking (Spawn OfStart 0) (jus
 start_of Exec s c u = first_command s c u
 start_of Oneshot s c u = if has_place s.start 0 then first_command s c u else start_ends (just (record u { sub = Exited; deadline = None }))
 
+-- the ExecStartPre= command at this place is started as the control process, and the start goes on; it has its deadline from the first one
+abbrev pub pre_command : Around → UnitState → ℕ → Change
+pre_command c u i =
+    starts_so c (record u { index = i }) (asking (Spawn OfStartPre i) (just (record u { sub = StartPre; control = Some c.next; index = i })))
+
+-- a start by its first ExecStartPre= command, or where the unit has none by its kind
+abbrev pub prepares : ServiceSettings → Around → UnitState → Change
+prepares s c u =
+    if has_place s.start_pre 0 then pre_command c (record u { deadline = deadline_after c.moment s.timeout_start }) 0 else start_of s.kind s c u
+
 -- the limit refuses a start, or lets it through and has this window after it
 abbrev pub starts_if : Bool → Option Counted → ServiceSettings → Around → UnitState → Change
 starts_if false window s c u = start_fails (just (record u { sub = Failed; result = result.StartLimitHit; deadline = None }))
-starts_if true window s c u = start_of s.kind s c (record u { result = result.Success; stop_asked = false; index = 0; last = None; window = window })
+starts_if true window s c u = prepares s c (record u { result = result.Success; stop_asked = false; index = 0; last = None; window = window })
 
 -- a start of a unit at rest
 abbrev pub starts : ServiceSettings → Around → UnitState → Change
 starts s c u = let answer = counted s.limit_interval s.limit_burst c.moment u.window in starts_if answer.0 answer.1 s c u
+
+-- all ExecStartPre= commands are done: the unit starts by its kind, where it can be loaded by then; else the start fails
+abbrev pub starts_prepared : ServiceSettings → Around → UnitState → Change
+starts_prepared s c u =
+    if c.loadable then start_of s.kind s c (record u { index = 0 }) else start_fails (rests s c (record u { result = result.NotLoaded }))
+
+-- an ExecStartPre= command is done: the next one is started, or it was the last
+abbrev pub pre_goes_on : ServiceSettings → Around → UnitState → Change
+pre_goes_on s c u = if has_place s.start_pre (u.index + 1) then pre_command c u (u.index + 1) else starts_prepared s c u
 
 -- the main process ended well: the unit has exited, or goes down
 abbrev pub exits : ServiceSettings → Around → UnitState → Change
@@ -183,9 +203,13 @@ forgiven u = record u { sub = if is_failed u.sub then Dead else u.sub; result = 
 
 -- ---- the table
 
--- an ExecStop= command ended well: cleanly, or as its `-` allows
-abbrev pub is_stop_done : ServiceSettings → UnitState → End → Bool
-is_stop_done s u e = is_clean s u Control e || is_told e && has_dash s OfStop u.index
+-- the control process is the command at the index in this list, and ended well: cleanly, or as the command's `-` allows
+abbrev pub is_control_done : ServiceSettings → CommandList → UnitState → End → Bool
+is_control_done s which u e = is_clean s u Control e || is_told e && has_dash s which u.index
+
+-- the start doesn't come to its end in time
+abbrev pub start_times_out : ServiceSettings → Around → UnitState → Change
+start_times_out s c u = start_fails (terminates s c (record u { result = result.Timeout }))
 
 -- the rows: what follows in this sub state, by its active state, from this event; by the last one the unit stays as it is
 abbrev pub row : ServiceSettings → Around → UnitState → ActiveState → SubState → UnitEvent → Change
@@ -194,20 +218,24 @@ row s c u IsActive sub StartBegins = start_ends (just u)
 row s c u _ Dead StartBegins = starts s c u
 row s c u _ Failed StartBegins = starts s c u
 row s c u _ AutoRestart StartBegins = starts s c u
+row s c u _ StartPre (ControlEnds e) =
+    if is_control_done s OfStartPre u e then pre_goes_on s c (record u { control = None }) else start_fails (rests s c (without_control s u e))
+row s c u _ StartPre DeadlinePasses = start_times_out s c u
 row s c u _ Start Executed = if has_one_command s.kind then start_ends (just (record u { sub = Running; deadline = None })) else just u
 row s c u _ Start (MainEnds e) =
     if is_clean s u Main e then start_goes_on s.kind s c (without_main s u e) else start_fails (rests s c (without_main s u e))
-row s c u _ Start DeadlinePasses = start_fails (terminates s c (record u { result = result.Timeout }))
+row s c u _ Start DeadlinePasses = start_times_out s c u
 row s c u _ Running (MainEnds e) = if is_clean s u Main e then exits s c (without_main s u e) else winds_down s c (without_main s u e) 0
 row s c u _ Active StopBegins = dies u
 row s c u _ AutoRestart StopBegins = dies u
 row s c u IsActive sub StopBegins = winds_down s c (told_to_stop u) 0
+row s c u _ StartPre StopBegins = terminates s c (told_to_stop u)
 row s c u _ Start StopBegins = terminates s c (told_to_stop u)
 row s c u Deactivating sub StopBegins = just (told_to_stop u)
 row s c u _ Dead StopBegins = stop_ends (just u)
 row s c u _ Failed StopBegins = stop_ends (just u)
 row s c u _ Stop (ControlEnds e) =
-    if is_stop_done s u e then winds_down s c (record u { control = None }) (u.index + 1) else terminates s c (without_control s u e)
+    if is_control_done s OfStop u e then winds_down s c (record u { control = None }) (u.index + 1) else terminates s c (without_control s u e)
 row s c u _ Stop (MainEnds e) = just (without_main s u e)
 row s c u Deactivating sub (MainEnds e) = rests_unless_live s c (without_main s u e)
 row s c u Deactivating sub (ControlEnds e) = rests_unless_live s c (without_control s u e)

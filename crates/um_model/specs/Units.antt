@@ -12,7 +12,7 @@ use Rattle.um_model.specs.Names.{suffix_of, is_unit_name}
 use Rattle.um_model.specs.Text.{is_empty}
 use Rattle.um_model.specs.Syntax.{Item, Section, Assignment, Warned, Placed, line_number, reading_of}
 use Rattle.um_model.specs.Tree.{Tree}
-use Rattle.um_model.specs.Profiles.{ReadTree}
+use Rattle.um_model.specs.Profiles.{ReadTree, serves_start_pre}
 use Rattle.um_model.specs.Resolution.{is_of_same_type, UnitFile, Resolution, AtFile, AtNoFile, AtMask, Nowhere, files_at, resolution_of}
 use Rattle.um_model.specs.Keys.{is_foreign, is_known_section, is_refused_key, kind_of_key}
 use Rattle.um_model.specs.Readings.{text_reading, commands_reading, environment_reading, names_reading}
@@ -22,6 +22,7 @@ use Rattle.um_model.specs.Values.{boolean_of, number_of, span_of, exits_of, poli
 use Rattle.um_model.specs.Commands.{Command}
 use Rattle.um_model.specs.Substitution.{Variable}
 use Rattle.um_model.specs.declared.service.End.{End}
+use Rattle.um_model.specs.declared.profile.Profile.{Profile}
 use Rattle.um_model.specs.declared.settings.RestartPolicy.{RestartPolicy}
 use Rattle.um_model.specs.declared.settings.RestartPolicy.TheVariants.{No, Always, OnSuccess}
 use Rattle.um_model.specs.declared.transition.UnitKind.{UnitKind}
@@ -224,6 +225,7 @@ unless_zero span = option_and_then (λ n. if n == 0 then None else Some n) span
 -- of a service: spans are in microseconds, and one that is None never ends
 pub record ServiceSettings : Type 0 where
   pub kind : UnitKind
+  pub start_pre : List Command  -- ExecStartPre=
   pub start : List Command  -- ExecStart=
   pub stop : List Command  -- ExecStop=
   pub environment : List Variable
@@ -259,9 +261,10 @@ default_timeout_start Oneshot = None
 default_timeout_start other = Some default_timeout
 
 -- the settings of a service of this kind with these commands; each default stands with its setting
-abbrev pub service_settings_with : List Command → UnitKind → List ℕ → List Assigned → ServiceSettings
-service_settings_with start kind unit assigned = record {
+abbrev pub service_settings_with : (start_pre start : List Command) → UnitKind → List ℕ → List Assigned → ServiceSettings
+service_settings_with start_pre start kind unit assigned = record {
   kind = kind;
+  start_pre = start_pre;
   start = start;
   stop = flat_map (λ said. said) (service_said unit kinds.Commands (codes "ExecStop") assigned);
   environment = flat_map (λ said. said) (service_said unit kinds.Environment (codes "Environment") assigned);
@@ -285,12 +288,17 @@ service_settings_with start kind unit assigned = record {
   forces_restart = any_of (service_said unit kinds.Exits (codes "RestartForceExitStatus") assigned);
 }
 
+-- the commands of ExecStartPre=, where the profile serves that
+abbrev pub start_pre_of : Profile → List ℕ → List Assigned → List Command
+start_pre_of profile unit assigned =
+    if serves_start_pre profile then flat_map (λ said. said) (service_said unit kinds.Commands (codes "ExecStartPre") assigned) else []
+
 -- of a unit that isn't a service, the list has no assignment in [Service]: it is a target in which the limit alone may be set
-unfoldable pub service_settings_of : Option Suffix → List ℕ → List Assigned → ServiceSettings
-service_settings_of (Some Service) unit assigned =
+unfoldable pub service_settings_of : Profile → Option Suffix → List ℕ → List Assigned → ServiceSettings
+service_settings_of profile (Some Service) unit assigned =
     let start = flat_map (λ said. said) (service_said unit kinds.Commands (codes "ExecStart") assigned) in
-    service_settings_with start (kind_by (type_of assigned) start) unit assigned
-service_settings_of other unit assigned = service_settings_with [] Target unit assigned
+    service_settings_with (start_pre_of profile unit assigned) start (kind_by (type_of assigned) start) unit assigned
+service_settings_of profile other unit assigned = service_settings_with [] [] Target unit assigned
 
 -- what a unit's files set: its description, what other units it names, what it says of its processes, and what enabling it makes
 pub record Settings : Type 0 where
@@ -299,19 +307,19 @@ pub record Settings : Type 0 where
   pub service : ServiceSettings
   pub install : InstallSettings
 
-abbrev pub settings_of : List ℕ → List Assigned → Settings
-settings_of unit assigned = record {
+abbrev pub settings_of : Profile → List ℕ → List Assigned → Settings
+settings_of profile unit assigned = record {
   description = last_said unit kinds.Text [] ((codes "Unit", codes "Description") ∷ []) assigned;
   dependencies = dependencies_of unit assigned;
-  service = service_settings_of (suffix_of unit) unit assigned;
+  service = service_settings_of profile (suffix_of unit) unit assigned;
   install = install_settings_of unit assigned;
 }
 
 -- ---- settings that are refused
 
 -- `setting` and the first key that no unit may have, where it is given a value
-abbrev pub refused_setting : List Assigned → Option (List ℕ)
-refused_setting assigned = option_map (λ a. codes "setting " ++ a.key) (find (λ a. is_refused_key a.key && not (is_empty a.value)) assigned)
+abbrev pub refused_setting : Profile → List Assigned → Option (List ℕ)
+refused_setting profile assigned = option_map (λ a. codes "setting " ++ a.key) (find (λ a. is_refused_key profile a.key && not (is_empty a.value)) assigned)
 
 -- why a service of this kind can't be loaded: a oneshot one has a command, or remains with a command to stop it, and isn't started again after
 -- a success; any other has exactly one command
@@ -328,23 +336,24 @@ refused_service (Some Service) said s = refused_kind s.kind s
 refused_service other said s = None
 
 -- the first reason why a unit can't be loaded
-abbrev pub reason_of : List ℕ → List Assigned → Option (List ℕ)
-reason_of unit assigned =
-    option_or (refused_setting assigned) (refused_service (suffix_of unit) (type_of assigned) (service_settings_of (suffix_of unit) unit assigned))
+abbrev pub reason_of : Profile → List ℕ → List Assigned → Option (List ℕ)
+reason_of profile unit assigned =
+    option_or (refused_setting profile assigned)
+    (refused_service (suffix_of unit) (type_of assigned) (service_settings_of profile (suffix_of unit) unit assigned))
 
 -- ---- warnings
 
 -- an assignment in a known section: an unknown key, unless it is foreign, or a value that can't be read
-abbrev pub assignment_warning : List ℕ → List ℕ → List ℕ → List ℕ → Option WarningKind
-assignment_warning unit section key value =
-    if is_foreign key then None else option_map_or (λ kind. value_warning unit kind value) (kind_of_key section key) (Some UnknownKey)
+abbrev pub assignment_warning : Profile → List ℕ → List ℕ → List ℕ → List ℕ → Option WarningKind
+assignment_warning profile unit section key value =
+    if is_foreign key then None else option_map_or (λ kind. value_warning unit kind value) (kind_of_key profile section key) (Some UnknownKey)
 
 -- the warning that an item gives in a file of this unit: the head of a section that isn't known, unless that is foreign
-abbrev pub warning_of : List ℕ → Option (List ℕ) → Item → Option WarningKind
-warning_of unit section (Section name line) = if is_known_section (suffix_of unit) name || is_foreign name then None else Some UnknownSection
-warning_of unit (Some s) (Assignment k v line whole) = assignment_warning unit s k v
-warning_of unit None (Assignment k v line whole) = None
-warning_of unit section (Warned warning line) = Some warning
+abbrev pub warning_of : Profile → List ℕ → Option (List ℕ) → Item → Option WarningKind
+warning_of profile unit section (Section name line) = if is_known_section (suffix_of unit) name || is_foreign name then None else Some UnknownSection
+warning_of profile unit (Some s) (Assignment k v line whole) = assignment_warning profile unit s k v
+warning_of profile unit None (Assignment k v line whole) = None
+warning_of profile unit section (Warned warning line) = Some warning
 
 -- a warning of a unit: its kind, the path of the file and the line
 pub record Warning : Type 0 where
@@ -353,9 +362,9 @@ pub record Warning : Type 0 where
   pub line : ℕ
 
 -- the warnings of a file, by line
-abbrev pub warnings_in : List ℕ → Source → List Warning
-warnings_in unit s =
-    flat_map (λ p. option_map_or (λ w. record { kind = w; path = s.path; line = line_number p.item } ∷ []) (warning_of unit p.section p.item) [])
+abbrev pub warnings_in : Profile → List ℕ → Source → List Warning
+warnings_in profile unit s =
+    flat_map (λ p. option_map_or (λ w. record { kind = w; path = s.path; line = line_number p.item } ∷ []) (warning_of profile unit p.section p.item) [])
     (heard_in (suffix_of unit) s)
 
 -- ---- loading
@@ -375,30 +384,34 @@ pub data Loading : Type 0 where
   BadSetting : (unit reason : List ℕ) → Loading
 
 -- a unit by its files
-abbrev pub unit_by : List ℕ → Option (List ℕ) → List Source → LoadedUnit
-unit_by unit path sources =
-    record { name = unit; path = path; settings = settings_of unit (assignments_in (suffix_of unit) sources); warnings = flat_map (warnings_in unit) sources }
+abbrev pub unit_by : Profile → List ℕ → Option (List ℕ) → List Source → LoadedUnit
+unit_by profile unit path sources = record {
+  name = unit;
+  path = path;
+  settings = settings_of profile unit (assignments_in (suffix_of unit) sources);
+  warnings = flat_map (warnings_in profile unit) sources;
+}
 
 -- a unit with a file: found, unless a setting is refused
-abbrev pub loading_by_file : List ℕ → List ℕ → List Source → Loading
-loading_by_file unit path sources =
-    option_map_or (BadSetting unit) (reason_of unit (assignments_in (suffix_of unit) sources)) (Found (unit_by unit (Some path) sources))
+abbrev pub loading_by_file : Profile → List ℕ → List ℕ → List Source → Loading
+loading_by_file profile unit path sources =
+    option_map_or (BadSetting unit) (reason_of profile unit (assignments_in (suffix_of unit) sources)) (Found (unit_by profile unit (Some path) sources))
 
 -- the sources of a unit
 abbrev pub sources_at : Tree → Resolution → List Source
 sources_at tree resolution = each source_of (files_at tree resolution)
 
 -- a unit that needs no file is found, whatever its drop-ins set; nothing in them enables it
-abbrev pub loading_at : Tree → Resolution → Loading
-loading_at tree (AtFile unit path text) = loading_by_file unit path (sources_at tree (AtFile unit path text))
+abbrev pub loading_at : ReadTree → Resolution → Loading
+loading_at tree (AtFile unit path text) = loading_by_file tree.profile unit path (sources_at tree.entries (AtFile unit path text))
 loading_at tree (AtNoFile unit) =
-    let u = unit_by unit None (sources_at tree (AtNoFile unit)) in Found (record u { settings = record u.settings { install = nothing_installed } })
+    let u = unit_by tree.profile unit None (sources_at tree.entries (AtNoFile unit)) in Found (record u { settings = record u.settings { install = nothing_installed } })
 loading_at tree (AtMask unit) = Masked unit
 loading_at tree Nowhere = NotFound
 
 -- the unit of that name in the tree as it is read: a function of the tree, the profile and the name
 unfoldable pub load : ReadTree → List ℕ → Loading
-load tree unit = loading_at tree.entries (resolution_of tree.entries unit)
+load tree unit = loading_at tree (resolution_of tree.entries unit)
 
 -- the name that counts for the one that was asked for, by where that leads: the last one, or where it leads nowhere the name itself
 abbrev pub named_at : List ℕ → Resolution → List ℕ

@@ -1,5 +1,5 @@
 ghost use Rattle.std.specs.Prelude.{◌≡◌};
-ghost use Rattle.um_model.specs.Profiles.{current, later};
+ghost use Rattle.um_model.specs.Profiles.{current, later, serves_start_pre};
 
 /// By which rules the files of units are read. The loaded tree of a state has one, and so has each input; a later one
 /// serves all that an earlier one does, and more.
@@ -14,7 +14,17 @@ impl Profile {
     pub fn current() -> Profile
         ensures { result ≡ current }
     {
-        Profile::One
+        Profile::Two
+    }
+
+    /// Whether `ExecStartPre=` is served, so that a unit may be in start-pre.
+    pub fn serves_start_pre(self) -> bool
+        ensures { result ≡ serves_start_pre self }
+    {
+        match self {
+            Profile::One => false,
+            Profile::Two => true,
+        }
     }
 
     /// The later of both.

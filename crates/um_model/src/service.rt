@@ -10,6 +10,7 @@ use crate::time::Deadline;
 #[derive(Clone, Copy, Debug, PartialEq, Eq)]
 pub enum SubState {
     Dead,
+    StartPre,
     Start,
     Running,
     Exited,
@@ -129,6 +130,7 @@ impl SubState {
     {
         match self {
             SubState::Dead => "dead",
+            SubState::StartPre => "start-pre",
             SubState::Start => "start",
             SubState::Running => "running",
             SubState::Exited => "exited",
@@ -154,7 +156,7 @@ impl SubState {
     {
         match self {
             SubState::Dead => ActiveState::Inactive,
-            SubState::Start | SubState::AutoRestart => ActiveState::Activating,
+            SubState::StartPre | SubState::Start | SubState::AutoRestart => ActiveState::Activating,
             SubState::Running | SubState::Exited | SubState::Active => ActiveState::Active,
             SubState::Stop | SubState::StopSigterm | SubState::StopSigkill =>
                 ActiveState::Deactivating,

@@ -18,9 +18,10 @@ pub enum Process {
     Control,
 }
 
-/// One of a unit's lists of commands (systemd.service(5), `ExecStart=` and `ExecStop=`).
+/// One of a unit's lists of commands (systemd.service(5), `ExecStartPre=`, `ExecStart=` and `ExecStop=`).
 #[derive(Clone, Copy, Debug, PartialEq, Eq)]
 pub enum CommandList {
+    OfStartPre,
     OfStart,
     OfStop,
 }

@@ -40,7 +40,7 @@ fn tree(rt: &(impl AllocGlobal + Abort)) -> Tree {
 fn graph_of(rt: &(impl AllocGlobal + Abort), tree: &Tree, extra: &[UnitName]) -> Box<Graph> {
     let reading = Reading {
         tree,
-        profile: Profile::One,
+        profile: Profile::current(),
     };
     let graph = Graph::of(rt.alloc(), reading, extra).expect(rt, "no graph");
     Box::new(rt.alloc(), graph).expect(rt, "no memory")

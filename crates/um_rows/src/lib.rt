@@ -52,6 +52,8 @@ mod services;
 #[cfg(test)]
 mod session;
 #[cfg(test)]
+mod start_pre;
+#[cfg(test)]
 mod state;
 #[cfg(test)]
 mod steps;

@@ -54,7 +54,10 @@ fn with_wanted(rt: &(impl AllocGlobal + Abort), count: usize) -> Box<State> {
     let names = names(rt, count);
     let unit = format!(in rt.alloc(); "[Service]\nExecStart=/bin/sleep 9\n[Unit]\nWants={names}");
     let mut state = with_file(rt, unit.expect(rt, "no memory").as_str());
-    state.as_mut().reload(Profile::One).expect(rt, "no memory");
+    state
+        .as_mut()
+        .reload(Profile::current())
+        .expect(rt, "no memory");
     state
 }
 
@@ -63,7 +66,10 @@ fn with_hidden(rt: &(impl AllocGlobal + Abort), count: usize) -> Box<State> {
     let mut state = with_wanted(rt, count);
     let link: Result<_, _> = state.as_mut().put_link("run/a.service", "/dev/null");
     link.expect(rt, "a link is refused");
-    state.as_mut().reload(Profile::One).expect(rt, "no memory");
+    state
+        .as_mut()
+        .reload(Profile::current())
+        .expect(rt, "no memory");
     state
 }
 
@@ -81,7 +87,10 @@ fn with_starts(rt: &(impl AllocGlobal + Abort), text: &str) -> Box<State> {
     let mut state = with_file(rt, text);
     let put: Result<_, _> = state.as_mut().put_file("lib/b.service", AFTER_A);
     put.expect(rt, "a file is refused");
-    state.as_mut().reload(Profile::One).expect(rt, "no memory");
+    state
+        .as_mut()
+        .reload(Profile::current())
+        .expect(rt, "no memory");
     wait_to_start(rt, state.as_mut(), "a.service");
     wait_to_start(rt, state.as_mut(), "b.service");
     state

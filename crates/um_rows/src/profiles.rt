@@ -1,11 +1,11 @@
 //! By which profile a tree is loaded: that of the input, or the one that the state has, where that is later. What is submitted is of the
-//! first one alone, so these inputs are read from their bytes.
-use crate::steps::{SIZE, committed, empty, engine_of, planned};
+//! second one alone, so a store of the first and its inputs are read from their bytes.
+use crate::steps::{SIZE, committed, engine_of, planned};
 use std::process::Abort;
 use um_asserts::same_at;
 use um_engine::Engine;
 use um_model::Profile;
-use um_state::Input;
+use um_state::{Input, State};
 use um_wire::Canon;
 
 /// An input in its bytes, and by which profile the tree is loaded behind it.
@@ -44,6 +44,17 @@ const ROWS: &[Row] = &[
     },
 ];
 
+/// The empty state of profile 1: its clock is 0, and its next number 1.
+const EMPTY: &[u8] =
+    b"\x01\0\0\0\0\0\0\0\0\0\0\0\0\0\0\0\0\0\0\0\0\0\0\0\0\0\0\0\x01\0\0\0\0\0\0\0\0";
+
+/// The state of a new store, as programs of profile 1 made it.
+fn empty_of_one(rt: &(impl AllocGlobal + Abort)) -> Box<State> {
+    let found = State::get(rt.alloc(), EMPTY).expect(rt, "no memory");
+    let (state, _) = found.expect(rt, "it isn't read");
+    Box::new(rt.alloc(), state).expect(rt, "no memory")
+}
+
 /// The input of the row.
 fn input_of(rt: &(impl AllocGlobal + Abort), row: &Row) -> Box<Input> {
     let found = Input::get(rt.alloc(), row.bytes).expect(rt, "no memory");
@@ -61,7 +72,7 @@ fn take(rt: &(impl AllocGlobal + Abort), engine: &mut Engine, row: &Row) {
 
 #[test]
 fn a_tree_is_loaded_by_the_later_profile(rt: HostRuntime) {
-    let mut engine = engine_of(&rt, empty(&rt), SIZE);
+    let mut engine = engine_of(&rt, empty_of_one(&rt), SIZE);
     for row in ROWS {
         take(&rt, engine.as_mut(), row);
         let profile = engine.as_ref().state().loaded().profile;

@@ -1,14 +1,16 @@
 -- Each reason and each refused key has a sentence.
-use Rattle.std.proofs.Common.{◌≡◌, ℕ, Bool, true, false, ◌||◌, ◌==◌, List, [], ◌∷◌, ◌++◌, length, map, Option, Some, None, is_some, option_map, codes, cond, if◌then◌else◌, refl, ap, ◌∙◌, subst}
+use Rattle.std.proofs.Common.{◌≡◌, ℕ, Bool, true, false, ◌||◌, ◌&&◌, ◌==◌, List, [], ◌∷◌, ◌++◌, length, map, Option, Some, None, is_some, option_map, codes, cond, if◌then◌else◌, refl, ap, ◌∙◌, subst}
 use Rattle.std.specs.List.{list_any}
 use Rattle.std.specs.Map.{lookup}
 use Rattle.std.specs.Option.{option_or}
 use Rattle.std.specs.Str.{bytes_eq}
-use Rattle.um_model.specs.Keys.{is_refused_key}
+use Rattle.um_model.specs.Keys.{is_never_served, is_refused_key}
 use Rattle.um_model.specs.Names.{suffix_of}
+use Rattle.um_model.specs.Profiles.{current}
 use Rattle.um_model.specs.Units.{Assigned, ServiceSettings, TypeSaid, Unsaid, Served, Unserved, reason_of, refused_kind, refused_service, refused_setting, service_settings_of, type_of}
 use Rattle.um_model.specs.declared.names.Suffix.{Suffix}
 use Rattle.um_model.specs.declared.names.Suffix.TheVariants.{Service}
+use Rattle.um_model.specs.declared.profile.Profile.{Profile}
 use Rattle.um_model.specs.declared.transition.UnitKind.{UnitKind}
 use Rattle.um_model.specs.declared.transition.UnitKind.TheVariants.{Oneshot}
 use Rattle.um_sentences.specs.Sentences.{begins_with, key_why, refused_fronts, refused_keys, topic_of_reason}
@@ -52,10 +54,10 @@ service_told (Some Service) Unsaid s reason e = kind_told s.kind s reason e
 service_told (Some Service) (Served kind) s reason e = kind_told s.kind s reason e
 service_told (Some other) said s reason e = none_told reason e
 
-pub reason_told : (unit : List ℕ) (assigned : List Assigned) (reason : List ℕ) → reason_of unit assigned ≡ Some reason → IsTold reason
-reason_told unit assigned reason e =
-    first_told (refused_setting assigned) (refused_service (suffix_of unit) (type_of assigned) (service_settings_of (suffix_of unit) unit assigned)) reason
-    (setting_told _ reason) (service_told (suffix_of unit) (type_of assigned) (service_settings_of (suffix_of unit) unit assigned) reason) e
+pub reason_told : (profile : Profile) (unit : List ℕ) (assigned : List Assigned) (reason : List ℕ) → reason_of profile unit assigned ≡ Some reason → IsTold reason
+reason_told profile unit assigned reason e =
+    first_told (refused_setting profile assigned) (refused_service (suffix_of unit) (type_of assigned) (service_settings_of profile (suffix_of unit) unit assigned)) reason
+    (setting_told _ reason) (service_told (suffix_of unit) (type_of assigned) (service_settings_of profile (suffix_of unit) unit assigned) reason) e
 
 -- something is found just where the test holds of a key
 is_some-lookup : (holds : List ℕ → Bool) (es : List (List ℕ × List ℕ)) → is_some (lookup holds es) ≡ list_any holds (map (λ e. e.0) es)
@@ -79,8 +81,14 @@ three_tests false false false = refl
 either : (a b x y : Bool) → a ≡ x → b ≡ y → (a || b) ≡ (x || y)
 either a b x y e f = ap (λ h. h || b) e ∙ ap (λ h. x || h) f
 
-pub refused_key_told : (key : List ℕ) → is_some (key_why key) ≡ is_refused_key key
+none_other : (b other : Bool) → other ≡ (b && false || other)
+none_other true other = refl
+none_other false other = refl
+
+-- the keys that are refused now are those that no profile serves
+pub refused_key_told : (key : List ℕ) → is_some (key_why key) ≡ is_refused_key current key
 refused_key_told key =
     is_some-option_or (lookup (bytes_eq key) refused_keys) (lookup (begins_with key) refused_fronts)
     ∙ either _ _ _ _ (is_some-lookup (bytes_eq key) refused_keys) (is_some-lookup (begins_with key) refused_fronts)
     ∙ three_tests (list_any (bytes_eq key) (map (λ e. e.0) refused_keys)) (begins_with key (codes "Condition")) (begins_with key (codes "Assert"))
+    ∙ none_other (bytes_eq key (codes "ExecStartPre")) (is_never_served key)

@@ -36,7 +36,6 @@ refused_keys =
     ∷ (codes "WorkingDirectory", codes "every service has umd's working directory")
     ∷ (codes "EnvironmentFile", codes "variables are set by Environment= alone")
     ∷ (codes "ExecCondition", codes "no command decides whether a service starts")
-    ∷ (codes "ExecStartPre", codes "no command runs before those of ExecStart=")
     ∷ (codes "ExecStartPost", codes "no command runs behind those of ExecStart=")
     ∷ (codes "ExecStopPost", codes "no command runs behind those of ExecStop=")
     ∷ (codes "Requisite", codes "Requires= and BindsTo= are")
@@ -56,7 +55,7 @@ refused_fronts =
 abbrev pub begins_with : List ℕ → List ℕ → Bool
 begins_with key front = starts_with nat_eq key front
 
--- why no unit may have the key with a value; none for other keys
+-- why no unit may have the key with a value, as files are read now; none for other keys
 abbrev pub key_why : List ℕ → Option (List ℕ)
 key_why key = option_or (lookup (bytes_eq key) refused_keys) (lookup (begins_with key) refused_fronts)
 

@@ -8,7 +8,7 @@ ghost use Rattle.um_sentences.specs.Sentences as model;
 use std::alloc::{AllocError, Global};
 
 /// The keys that are named, each with why it isn't served.
-pub(crate) const REFUSED_KEYS: [(&str, &str); 14] = [
+pub(crate) const REFUSED_KEYS: [(&str, &str); 13] = [
     ("User", "every service runs as umd's user"),
     ("Group", "every service runs with umd's groups"),
     ("DynamicUser", "every service runs as umd's user"),
@@ -22,7 +22,6 @@ pub(crate) const REFUSED_KEYS: [(&str, &str); 14] = [
         "ExecCondition",
         "no command decides whether a service starts",
     ),
-    ("ExecStartPre", "no command runs before those of ExecStart="),
     (
         "ExecStartPost",
         "no command runs behind those of ExecStart=",

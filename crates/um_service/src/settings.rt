@@ -14,6 +14,7 @@ pub fn commands_in(settings: &ServiceSettings, which: CommandList) -> &[Command]
     ensures { commands_seen result.now ≡ commands_in (service_settings_of settings.now) which }
 {
     match which {
+        CommandList::OfStartPre => settings.start_pre.as_slice(),
         CommandList::OfStart => settings.start.as_slice(),
         CommandList::OfStop => settings.stop.as_slice(),
     }

@@ -1,7 +1,7 @@
 //! How a unit starts.
 
 ghost use Rattle.std.specs.Prelude.{◌≡◌, ℕ};
-ghost use Rattle.um_model.specs.Transitions.{start_fails, rests_for_good, first_command, start_of, starts, next_command, start_goes_on};
+ghost use Rattle.um_model.specs.Transitions.{start_fails, rests_for_good, first_command, start_of, pre_command, prepares, starts, starts_prepared, pre_goes_on, next_command, start_goes_on};
 ghost use Rattle.um_model.specs.declared.service.UnitResult.TheVariants.{Resources};
 ghost use Rattle.um_model.specs.declared.transition.UnitKind.TheVariants.{Simple, Oneshot};
 ghost use Rattle.um_unit.specs.ServiceView.{service_settings_of};
@@ -90,6 +90,38 @@ fn start_of(settings: &ServiceSettings, around: Around, unit: UnitState) -> Chan
     }
 }
 
+/// The `ExecStartPre=` command at this place is started as the control process. The unit has its deadline from the first one.
+fn pre_command(around: Around, unit: UnitState, index: u32) -> Change
+    ensures { result ≡ pre_command around unit index }
+{
+    let Some(number) = around.next.process() else {
+        return lacks_number(UnitState { index, ..unit });
+    };
+    asking(
+        Order::Spawn(CommandList::OfStartPre, index),
+        UnitState {
+            sub: SubState::StartPre,
+            control: Some(number),
+            index,
+            ..unit
+        },
+    )
+}
+
+/// The unit starts by its first `ExecStartPre=` command, or where it has none by its kind.
+fn prepares(settings: &ServiceSettings, around: Around, unit: UnitState) -> Change
+    ensures { result ≡ prepares (service_settings_of settings.now) around unit }
+{
+    if !has_place(settings, CommandList::OfStartPre, 0) {
+        return start_of(settings, around, unit);
+    }
+    let timed = UnitState {
+        deadline: deadline_after(around.moment, settings.timeout_start),
+        ..unit
+    };
+    pre_command(around, timed, 0)
+}
+
 /// A start of a unit at rest: refused by its limit, or counted by it (systemd.unit(5), `StartLimitIntervalSec=`).
 pub fn starts(settings: &ServiceSettings, around: Around, unit: UnitState) -> Change
     ensures { result ≡ starts (service_settings_of settings.now) around unit }
@@ -111,7 +143,31 @@ pub fn starts(settings: &ServiceSettings, around: Around, unit: UnitState) -> Ch
         window: window.counted(),
         ..unit
     };
-    start_of(settings, around, fresh)
+    prepares(settings, around, fresh)
+}
+
+/// All `ExecStartPre=` commands are done: the unit starts by its kind, unless it can't be loaded any more.
+fn starts_prepared(settings: &ServiceSettings, around: Around, unit: UnitState) -> Change
+    ensures { result ≡ starts_prepared (service_settings_of settings.now) around unit }
+{
+    if around.loadable {
+        return start_of(settings, around, UnitState { index: 0, ..unit });
+    }
+    let left = UnitState {
+        result: UnitResult::NotLoaded,
+        ..unit
+    };
+    start_fails(rests(settings, around, left))
+}
+
+/// An `ExecStartPre=` command is done: the next one is started, or it was the last.
+pub fn pre_goes_on(settings: &ServiceSettings, around: Around, unit: UnitState) -> Change
+    ensures { result ≡ pre_goes_on (service_settings_of settings.now) around unit }
+{
+    match next_place(settings, CommandList::OfStartPre, unit.index) {
+        Some(next) => pre_command(around, unit, next),
+        None => starts_prepared(settings, around, unit),
+    }
 }
 
 /// The next command of a oneshot is started as its main process.

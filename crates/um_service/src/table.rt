@@ -3,9 +3,9 @@
 ghost use Rattle.std.specs.Prelude.{◌≡◌};
 ghost use Rattle.um_model.specs.Ends.{is_starting};
 ghost use Rattle.um_model.specs.Service.{active_state_of};
-ghost use Rattle.um_model.specs.Transitions.{fails_start, noted, without_main, without_control, timed_out, is_stop_done, is_going, row, transition};
+ghost use Rattle.um_model.specs.Transitions.{fails_start, noted, without_main, without_control, timed_out, is_control_done, start_times_out, is_going, row, transition};
 ghost use Rattle.um_model.specs.declared.service.ActiveState.TheVariants.{Activating, Active as IsActive, Deactivating};
-ghost use Rattle.um_model.specs.declared.service.SubState.TheVariants.{Start, Running, Stop};
+ghost use Rattle.um_model.specs.declared.service.SubState.TheVariants.{StartPre, Start, Running, Stop};
 ghost use Rattle.um_model.specs.declared.transition.UnitEvent.TheVariants.{MainEnds, ControlEnds};
 ghost use Rattle.um_unit.specs.ServiceView.{service_settings_of};
 
@@ -13,7 +13,7 @@ use crate::change::{just, start_ends, start_fails, stop_ends};
 use crate::ends::{has_one_command, is_clean, is_told, or_later, unclean_result};
 use crate::rest::{rests, rests_for_good, rests_unless_live, terminates};
 use crate::settings::has_dash;
-use crate::start::{start_goes_on, starts};
+use crate::start::{pre_goes_on, start_goes_on, starts};
 use crate::stop::{dies, exits, forgiven, kills, next_stop, told_to_stop, winds_down};
 use um_model::{
     ActiveState, Around, Change, CommandList, End, Process, SubState, UnitEvent, UnitResult,
@@ -69,12 +69,49 @@ fn timed_out(unit: UnitState) -> UnitState
     }
 }
 
-/// Whether an `ExecStop=` command ended well: cleanly, or as its `-` allows.
-fn is_stop_done(settings: &ServiceSettings, unit: &UnitState, end: End) -> bool
-    ensures { result ≡ is_stop_done (service_settings_of settings.now) unit.now end }
+/// Whether the control process, which is the unit's command in this list, ended well: cleanly, or as the command's `-` allows.
+fn is_control_done(
+    settings: &ServiceSettings,
+    which: CommandList,
+    unit: &UnitState,
+    end: End,
+) -> bool
+    ensures { result ≡ is_control_done (service_settings_of settings.now) which unit.now end }
 {
     is_clean(settings, unit, Process::Control, end)
-        || is_told(end) && has_dash(settings, CommandList::OfStop, unit.index)
+        || is_told(end) && has_dash(settings, which, unit.index)
+}
+
+/// An `ExecStartPre=` command ended: well, so that the start goes on, or so that it fails.
+fn pre_meets(settings: &ServiceSettings, around: Around, unit: UnitState, end: End) -> Change
+    ensures { result ≡ row (service_settings_of settings.now) around unit Activating StartPre (ControlEnds end) }
+{
+    if is_control_done(settings, CommandList::OfStartPre, &unit, end) {
+        return pre_goes_on(
+            settings,
+            around,
+            UnitState {
+                control: None,
+                ..unit
+            },
+        );
+    }
+    start_fails(rests(
+        settings,
+        around,
+        without_control(settings, unit, end),
+    ))
+}
+
+/// The start doesn't come to its end in time.
+fn start_times_out(settings: &ServiceSettings, around: Around, unit: UnitState) -> Change
+    ensures { result ≡ start_times_out (service_settings_of settings.now) around unit }
+{
+    let late = UnitState {
+        result: UnitResult::Timeout,
+        ..unit
+    };
+    start_fails(terminates(settings, around, late))
 }
 
 /// The main process ended during the start: cleanly, so that the start goes on, or so that it fails.
@@ -107,7 +144,7 @@ fn run_meets(settings: &ServiceSettings, around: Around, unit: UnitState, end: E
 fn stop_meets(settings: &ServiceSettings, around: Around, unit: UnitState, end: End) -> Change
     ensures { result ≡ row (service_settings_of settings.now) around unit Deactivating Stop (ControlEnds end) }
 {
-    if is_stop_done(settings, &unit, end) {
+    if is_control_done(settings, CommandList::OfStop, &unit, end) {
         return next_stop(
             settings,
             around,
@@ -125,7 +162,8 @@ fn row(settings: &ServiceSettings, around: Around, unit: UnitState, event: UnitE
     ensures { result ≡ row (service_settings_of settings.now) around unit (active_state_of unit.sub) unit.sub event }
 {
     use SubState::{
-        Active, AutoRestart, Dead, Exited, Failed, Running, Start, Stop, StopSigkill, StopSigterm,
+        Active, AutoRestart, Dead, Exited, Failed, Running, Start, StartPre, Stop, StopSigkill,
+        StopSigterm,
     };
     use UnitEvent::{
         ControlEnds, DeadlinePasses, Executed, MainEnds, Reset, StartBegins, StopBegins,
@@ -134,6 +172,8 @@ fn row(settings: &ServiceSettings, around: Around, unit: UnitState, event: UnitE
         (_, Reset) => just(forgiven(unit)),
         (Running | Exited | Active, StartBegins) => start_ends(just(unit)),
         (Dead | Failed | AutoRestart, StartBegins) => starts(settings, around, unit),
+        (StartPre, ControlEnds(end)) => pre_meets(settings, around, unit, end),
+        (StartPre | Start, DeadlinePasses) => start_times_out(settings, around, unit),
         (Start, Executed) if has_one_command(settings.kind) => start_ends(just(UnitState {
             sub: Running,
             deadline: None,
@@ -141,18 +181,10 @@ fn row(settings: &ServiceSettings, around: Around, unit: UnitState, event: UnitE
         })),
         (Start, Executed) => just(unit),
         (Start, MainEnds(end)) => start_meets(settings, around, unit, end),
-        (Start, DeadlinePasses) => start_fails(terminates(
-            settings,
-            around,
-            UnitState {
-                result: UnitResult::Timeout,
-                ..unit
-            },
-        )),
         (Running, MainEnds(end)) => run_meets(settings, around, unit, end),
         (Active | AutoRestart, StopBegins) => dies(unit),
         (Running | Exited, StopBegins) => winds_down(settings, around, told_to_stop(unit)),
-        (Start, StopBegins) => terminates(settings, around, told_to_stop(unit)),
+        (StartPre | Start, StopBegins) => terminates(settings, around, told_to_stop(unit)),
         (Stop | StopSigterm | StopSigkill, StopBegins) => just(told_to_stop(unit)),
         (Dead | Failed, StopBegins) => stop_ends(just(unit)),
         (Stop, ControlEnds(end)) => stop_meets(settings, around, unit, end),
@@ -190,7 +222,7 @@ fn is_going(sub: SubState) -> bool
 fn is_starting(sub: SubState) -> bool
     ensures { result ≡ is_starting sub }
 {
-    matches!(sub, SubState::Start)
+    matches!(sub, SubState::StartPre | SubState::Start)
 }
 
 /// The change, by which a start that has begun fails.

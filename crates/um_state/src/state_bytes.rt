@@ -35,12 +35,13 @@ fn are_below(numbers: &[u64], next: NextNumber) -> bool
     numbers.iter().all(|number| *number < next)
 }
 
-/// Whether the clock is past the begin of each window, and the live numbers are distinct and below the next one.
+/// Whether the loaded profile has the sub states of all units, the clock is past the begin of each window, and the live numbers are distinct and below
+/// the next one.
 fn is_sound(alloc: Global, state: &State) -> Result<bool, AllocError>
     ensures { IfOk result (λ sound. sound ≡ is_sound (state_of state.now)) }
 {
     let units = state.units();
-    if !units.have_begun(state.clock()) {
+    if !units.have_sub_states(state.profile) || !units.have_begun(state.clock()) {
         return Ok(false);
     }
     let numbers = units.live_numbers()?;

@@ -6,14 +6,14 @@ ghost use Rattle.um_model.specs.Transitions.{live_numbers};
 ghost use Rattle.std.specs.Option.{option_map_or, option_to_list};
 ghost use Rattle.std.specs.FinMap as maps;
 ghost use Rattle.um_model.specs.Service.{ByUnit};
-ghost use Rattle.um_model.specs.StateSpellings.{FitUnits, are_distinct, are_known, have_begun, numbers_in, units_at, units_spelling};
+ghost use Rattle.um_model.specs.StateSpellings.{FitUnits, are_distinct, are_known, is_sub_state_in, have_begun, have_sub_states, numbers_in, units_at, units_spelling};
 ghost use Rattle.um_model.proofs.StateSpellingsLaws.{canonical_units};
 ghost use Rattle.um_model.specs.declared.service.UnitState as unit;
 
 use crate::units::Units;
 use std::alloc::{AllocError, Global};
 use std::collections::{BTreeMap, BTreeSet};
-use um_model::{Counted, Moment, ProcessNumber, UnitState};
+use um_model::{Counted, Moment, ProcessNumber, Profile, SubState, UnitState};
 use um_name::UnitName;
 use um_wire::Canon;
 
@@ -57,6 +57,23 @@ impl Canon for Units {
     }
 
     ghost canonical = { canonical_units };
+}
+
+/// Whether a unit may be in the sub state by the profile: in start-pre, where that serves `ExecStartPre=`.
+fn is_sub_state_in(profile: Profile, sub: SubState) -> bool
+    ensures { result ≡ is_sub_state_in profile sub }
+{
+    match sub {
+        SubState::StartPre => profile.serves_start_pre(),
+        _ => true,
+    }
+}
+
+/// Whether these rows may be in their sub states by the profile.
+fn have_all_sub_states(rows: &[UnitState], profile: Profile) -> bool
+    ensures { result ≡ list_all (λ u. is_sub_state_in profile u.sub) rows.now }
+{
+    rows.iter().all(|unit| is_sub_state_in(profile, unit.sub))
 }
 
 /// Whether a window began, up to the clock, or none is there.
@@ -139,6 +156,13 @@ fn numbers_of(alloc: Global, rows: &[UnitState]) -> Result<Vec<u64>, AllocError>
 }
 
 impl Units {
+    /// Whether all units may be in their sub states by the profile. It takes no memory.
+    pub(crate) fn have_sub_states(&self, profile: Profile) -> bool
+        ensures { result ≡ have_sub_states profile self.now.held }
+    {
+        have_all_sub_states(self.rows(), profile)
+    }
+
     /// Whether no window began after the clock. It takes no memory.
     pub(crate) fn have_begun(&self, clock: Moment) -> bool
         ensures { result ≡ have_begun clock self.now.held }

@@ -111,6 +111,7 @@ const SUB_STATES: &[(SubState, &[u8])] = &[
     (SubState::Failed, &[7]),
     (SubState::AutoRestart, &[8]),
     (SubState::Active, &[9]),
+    (SubState::StartPre, &[10]),
 ];
 
 const RESULTS: &[(UnitResult, &[u8])] = &[
@@ -139,7 +140,7 @@ const ENDS: &[(End, &[u8])] = &[
 
 #[test]
 fn what_has_no_parts_is_its_tag_and_an_end_has_its_byte_behind_it(rt: HostRuntime) {
-    are_spelled(&rt, SUB_STATES, &[&[10], &[]]);
+    are_spelled(&rt, SUB_STATES, &[&[11], &[]]);
     are_spelled(&rt, RESULTS, &[&[9]]);
     are_spelled(&rt, JOB_KINDS, &[&[2]]);
     are_spelled(&rt, JOB_STATES, &[&[2]]);
@@ -191,7 +192,7 @@ const UNIT: &[u8] = &[
 
 /// What is no unit.
 const NO_UNITS: &[&[u8]] = &[
-    &[10, 0, 0, 0, 0, 0, 0, 0, 0, 0, 0, 0],
+    &[11, 0, 0, 0, 0, 0, 0, 0, 0, 0, 0, 0],
     &[0, 9, 0, 0, 0, 0, 0, 0, 0, 0, 0, 0],
     &[0, 0, 2, 0, 0, 0, 0, 0, 0, 0, 0, 0],
     &[0, 0, 0, 0, 0, 0, 0, 0, 0, 0, 2, 0],

@@ -13,7 +13,7 @@ use um_wire::{Canon, spell};
 
 /// The bytes of the empty state: the loaded profile, two empty trees, no boot, the clock, the next number, no unit, no job.
 const EMPTY: &str = "
-    01
+    02
     00000000 00000000
     00000000
     0000000000000000
@@ -24,7 +24,7 @@ const EMPTY: &str = "
 /// The loaded profile, the tree with a file and a link, the loaded tree without either, the boot, the clock and the next number; then ten
 /// units, each its name and its fields; then the jobs.
 const STATE: &str = "
-    01
+    02
     00000002
     0000000d6574632f612e73657276696365 00 000000075b556e69745d0a
     0000000d6574632f622e73657276696365 01 00000009632e73657276696365
@@ -68,6 +68,17 @@ const DEAD: &str = "
     00000009612e73657276696365 00 01 00 00 00000000 00 00 00 00
     00000000";
 
+/// A state with one unit, which is in start-pre.
+const PREPARED: &str = "
+    02
+    00000000 00000000
+    00000000
+    0000000000000000
+    0000000000000002
+    00000001
+    00000009612e73657276696365 0a 00 00 010000000000000001 00000000 00 00 00 00
+    00000000";
+
 /// What no state has: a byte of the state above, and what stands in its place.
 const BROKEN: &[(&str, usize, u8)] = &[
     ("profile 0", 0, 0),
@@ -85,7 +96,7 @@ const BROKEN: &[(&str, usize, u8)] = &[
     ("a unit without a name", 99, 47),
     ("a name twice", 126, 48),
     ("a name before the last one", 187, 48),
-    ("an unknown sub state", 196, 10),
+    ("an unknown sub state", 196, 11),
     ("an unknown result", 197, 9),
     ("an option of neither kind", 207, 2),
     ("a live number of 0", 340, 0),
@@ -318,7 +329,7 @@ fn put(rt: &impl Abort, state: &mut State, path: &str) {
 /// Puts an empty file, and loads the tree.
 fn load(rt: &impl Abort, state: &mut State, path: &str) {
     put(rt, state, path);
-    state.reload(Profile::One).expect(rt, "no memory");
+    state.reload(Profile::current()).expect(rt, "no memory");
 }
 
 /// The same state again, in a box.
@@ -392,14 +403,29 @@ fn a_state_of_each_profile_is_read(rt: HostRuntime) {
     }
 }
 
+#[test]
+fn a_unit_is_in_start_pre_under_profile_2_alone(rt: HostRuntime) {
+    is_read::<State>(&rt, hex(&rt, PREPARED).as_slice());
+    state_is_not_read(&rt, of_profile(&rt, PREPARED, 1).as_slice(), "profile 1");
+}
+
 /// Asserts that the state is the empty one but for the profile, of this tag.
 fn is_empty_of(rt: &(impl AllocGlobal + Abort), state: &State, tag: u8) {
     is_spelled(rt, state, of_profile(rt, EMPTY, tag).as_slice());
 }
 
+/// The empty state that begins with this tag.
+fn empty_of(rt: &(impl AllocGlobal + Abort), tag: u8) -> Box<State> {
+    let found = State::get(rt.alloc(), of_profile(rt, EMPTY, tag).as_slice());
+    let (state, _) = found.expect(rt, "no memory").expect(rt, "it isn't read");
+    Box::new(rt.alloc(), state).expect(rt, "no memory")
+}
+
 #[test]
 fn a_tree_is_loaded_by_the_later_profile(rt: HostRuntime) {
-    let mut state = empty(&rt);
+    is_empty_of(&rt, &empty(&rt), 2);
+    let mut state = empty_of(&rt, 1);
+    state.reload(Profile::One).expect(&rt, "no memory");
     is_empty_of(&rt, &state, 1);
     state.reload(Profile::Two).expect(&rt, "no memory");
     is_empty_of(&rt, &state, 2);

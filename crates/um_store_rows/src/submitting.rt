@@ -86,7 +86,7 @@ fn a_tick_is_a_record_where_it_restarts_and_else_no_disk_call(rt: HostRuntime) {
     // its name, generation, number, part, parts, length and bytes
     let written = [
         0x55, 0x4d, 0x4c, 0x47, 0, 0, 0, 0, 0, 0, 0, 2, 0, 0, 0, 0, 0, 0, 0, 4, 0, 0, 0, 0, 0, 0,
-        0, 1, 0, 0, 0, 10, 0x01, 0x11, 0, 0, 0, 0, 0, 0x10, 0xc8, 0xe0,
+        0, 1, 0, 0, 0, 10, 0x02, 0x11, 0, 0, 0, 0, 0, 0x10, 0xc8, 0xe0,
     ];
     has_layout(&rt, &mut disk, START + 4, &written);
 }

@@ -59,7 +59,7 @@ fn install(
 ) -> Result<Installed, Refusal> {
     let reading = Reading {
         tree,
-        profile: Profile::One,
+        profile: Profile::current(),
     };
     match verb {
         "enable" => enable(rt.alloc(), reading, unit),

@@ -19,16 +19,26 @@ fn tree_with(rt: &(impl AllocGlobal + Abort), files: &[(&str, &str)]) -> Tree {
     tree
 }
 
-/// What becomes of a unit in a tree of these files. Boxed, as it is large: the prover takes it apart, field by field, wherever it is
-/// let go.
-fn loaded(rt: &(impl AllocGlobal + Abort), name: &str, files: &[(&str, &str)]) -> Box<Loading> {
+/// What becomes of a unit in a tree of these files that is read by the profile. Boxed, as it is large: the prover takes it apart, field by
+/// field, wherever it is let go.
+fn loaded_by(
+    rt: &(impl AllocGlobal + Abort),
+    profile: Profile,
+    name: &str,
+    files: &[(&str, &str)],
+) -> Box<Loading> {
     let tree = tree_with(rt, files);
     let reading = Reading {
         tree: &tree,
-        profile: Profile::One,
+        profile,
     };
     let loading = load(rt.alloc(), reading, &unit!(rt, name)).expect(rt, "no memory");
     Box::new(rt.alloc(), loading).expect(rt, "no memory")
+}
+
+/// What becomes of a unit in a tree of these files, as they are read now.
+fn loaded(rt: &(impl AllocGlobal + Abort), name: &str, files: &[(&str, &str)]) -> Box<Loading> {
+    loaded_by(rt, Profile::current(), name, files)
 }
 
 /// What becomes of `a.service` with this text.
@@ -474,6 +484,36 @@ fn reason<'l>(rt: &impl Abort, loading: &'l Loading) -> Option<&'l str> {
         Loading::Found(_) => None,
         _ => panic!(rt; "the unit is not found"),
     }
+}
+
+/// A service with two commands that run before its own; an empty value took back those before them.
+const PREPARED: &str =
+    "[Service]\nExecStart=/bin/sleep 9\nExecStartPre=/bin/z\nExecStartPre=\nExecStartPre=/bin/a\nExecStartPre=-/bin/b\n";
+
+/// The first words of the commands, and whether each may fail.
+fn are_commands(rt: &impl Abort, commands: &[Command], wanted: &[(&str, bool)]) {
+    same_at!(rt, commands.len(), wanted.len(), "commands");
+    for (command, (word, ignores_failure)) in commands.iter().zip(wanted) {
+        same_at!(rt, command.ignores_failure, *ignores_failure, word);
+        same_at!(
+            rt,
+            command.words.first().map(|w| w.as_str()),
+            Some(*word),
+            word
+        );
+    }
+}
+
+#[test]
+fn commands_before_the_start_are_read_by_profile_2_alone(rt: HostRuntime) {
+    let files = [("lib/p.service", PREPARED)];
+    let loading = loaded_by(&rt, Profile::One, "p.service", &files);
+    let why = reason(&rt, loading.as_ref());
+    same_at!(&rt, why, Some("setting ExecStartPre"), "profile 1");
+    let loading = loaded_by(&rt, Profile::Two, "p.service", &files);
+    let unit = found(&rt, loading.as_ref());
+    let commands = unit.settings.service.start_pre.as_slice();
+    are_commands(&rt, commands, &[("/bin/a", false), ("/bin/b", true)]);
 }
 
 /// Services, and why each cannot be loaded, where it cannot.

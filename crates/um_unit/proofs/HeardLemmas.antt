@@ -7,6 +7,7 @@ use Rattle.um_model.specs.Names.{suffix_of}
 use Rattle.um_model.specs.Syntax.{Item, Section, Assignment, Warned, Placed, line_number}
 use Rattle.um_model.specs.Units as model
 use Rattle.um_model.specs.declared.names.Suffix.{Suffix}
+use Rattle.um_model.specs.declared.profile.Profile.{Profile}
 use Rattle.um_model.specs.declared.warnings.WarningKind.{WarningKind}
 use Rattle.um_syntax.specs.Items.{item_of}
 use Rattle.um_syntax.specs.declared.items.Item.{Item as Read}
@@ -48,21 +49,21 @@ at_warnings : (path : List ℕ) (line : ℕ) (warning : Option WarningKind) (b :
 at_warnings path line warning true = refl
 at_warnings path line warning false = refl
 
-warned_heard : (unit path : List ℕ) (section : Option (List ℕ)) (item : Item)
-    → warnings_at path (line_number item) (warning_of unit section item)
-    ≡ cond (model.is_heard (suffix_of unit) section item) (warnings_at path (line_number item) (model.warning_of unit section item)) []
-warned_heard unit path section (Section name line) = refl
-warned_heard unit path (Some s) (Assignment key value line whole) = at_warnings path line (model.assignment_warning unit s key value) (is_known_section (suffix_of unit) s)
-warned_heard unit path None (Assignment key value line whole) = refl
-warned_heard unit path (Some s) (Warned warning line) = at_warnings path line (Some warning) (is_known_section (suffix_of unit) s)
-warned_heard unit path None (Warned warning line) = refl
+warned_heard : (profile : Profile) (unit path : List ℕ) (section : Option (List ℕ)) (item : Item)
+    → warnings_at path (line_number item) (warning_of profile unit section item)
+    ≡ cond (model.is_heard (suffix_of unit) section item) (warnings_at path (line_number item) (model.warning_of profile unit section item)) []
+warned_heard profile unit path section (Section name line) = refl
+warned_heard profile unit path (Some s) (Assignment key value line whole) = at_warnings path line (model.assignment_warning profile unit s key value) (is_known_section (suffix_of unit) s)
+warned_heard profile unit path None (Assignment key value line whole) = refl
+warned_heard profile unit path (Some s) (Warned warning line) = at_warnings path line (Some warning) (is_known_section (suffix_of unit) s)
+warned_heard profile unit path None (Warned warning line) = refl
 
 -- the warnings of a file
-file_warns : (unit : List ℕ) (source : model.Source)
-    → warned_in unit source ≡ model.warnings_in unit source
-file_warns unit source =
-    sorted_out (λ (p : Placed). model.is_heard (suffix_of unit) p.section p.item) (λ p. warnings_at source.path (line_number p.item) (warning_of unit p.section p.item))
-    (λ p. warnings_at source.path (line_number p.item) (model.warning_of unit p.section p.item)) (λ p. warned_heard unit source.path p.section p.item) source.reading
+file_warns : (profile : Profile) (unit : List ℕ) (source : model.Source)
+    → warned_in profile unit source ≡ model.warnings_in profile unit source
+file_warns profile unit source =
+    sorted_out (λ (p : Placed). model.is_heard (suffix_of unit) p.section p.item) (λ p. warnings_at source.path (line_number p.item) (warning_of profile unit p.section p.item))
+    (λ p. warnings_at source.path (line_number p.item) (model.warning_of profile unit p.section p.item)) (λ p. warned_heard profile unit source.path p.section p.item) source.reading
 
 same_files : {A B : Type 0} (f g : A → List B) → ((x : A) → f x ≡ g x) → (xs : List A) → flat_map f xs ≡ flat_map g xs
 same_files f g same [] = refl
@@ -73,8 +74,8 @@ pub all_assign : (type : Option Suffix) (sources : List model.Source)
     → flat_map (λ (s : model.Source). assigned_in type s.reading) sources ≡ model.assignments_in type sources
 all_assign type sources = same_files _ _ (file_assigns type) sources
 
-pub all_warn : (unit : List ℕ) (sources : List model.Source) → flat_map (warned_in unit) sources ≡ warnings_of unit sources
-all_warn unit sources = same_files _ _ (file_warns unit) sources
+pub all_warn : (profile : Profile) (unit : List ℕ) (sources : List model.Source) → flat_map (warned_in profile unit) sources ≡ warnings_of profile unit sources
+all_warn profile unit sources = same_files _ _ (file_warns profile unit) sources
 
 -- ---- heads and assignments alone
 

@@ -11,6 +11,7 @@ use Rattle.um_model.specs.Substitution.{Variable}
 use Rattle.um_model.specs.Units.{Assigned, Dependencies, Found, InstallSettings, LoadedUnit, Settings, Source, Warning, assignments_in, loading_by_file, reason_of, refused_kind, refused_service, refused_setting, TypeSaid, Unsaid, Served, Unserved, service_settings_of, settings_of, type_of, unit_by}
 use Rattle.um_model.specs.Commands.{Command}
 use Rattle.um_model.specs.declared.names.Suffix.{Suffix}
+use Rattle.um_model.specs.declared.profile.Profile.{Profile}
 use Rattle.um_model.specs.declared.service.End.{End}
 use Rattle.um_model.specs.declared.settings.RestartPolicy.{RestartPolicy}
 use Rattle.um_model.specs.declared.settings.RestartPolicy.TheVariants.{No, Always, OnSuccess, OnFailure, OnAbnormal, OnAbort, OnWatchdog}
@@ -20,14 +21,14 @@ use Rattle.um_model.specs.declared.transition.UnitKind.{UnitKind}
 use Rattle.um_model.proofs.Forms.{found_unless}
 use Rattle.um_model.specs.FileForms.{warnings_of}
 
-pub same_settings : {kind : UnitKind} {start stop stop' : List Command} {environment environment' : List Variable} {remains remains' : Bool} {restart restart' : RestartPolicy}
+pub same_settings : {kind : UnitKind} {start_pre start stop stop' : List Command} {environment environment' : List Variable} {remains remains' : Bool} {restart restart' : RestartPolicy}
     {delay delay' timeout_start timeout_start' timeout_stop timeout_stop' interval interval' : Option ℕ} {burst burst' : ℕ}
     {success success' prevents prevents' forces forces' : End → Bool}
     → stop ≡ stop' → environment ≡ environment' → remains ≡ remains' → restart ≡ restart' → delay ≡ delay' → timeout_start ≡ timeout_start' → timeout_stop ≡ timeout_stop'
     → interval ≡ interval' → burst ≡ burst' → success ≡ success' → prevents ≡ prevents' → forces ≡ forces'
     → ◌≡◌ {A = ServiceSettings}
-    (record { kind = kind; start = start; stop = stop; environment = environment; remains = remains; restart = restart; restart_delay = delay; timeout_start = timeout_start; timeout_stop = timeout_stop; limit_interval = interval; limit_burst = burst; success = success; prevents_restart = prevents; forces_restart = forces })
-    (record { kind = kind; start = start; stop = stop'; environment = environment'; remains = remains'; restart = restart'; restart_delay = delay'; timeout_start = timeout_start'; timeout_stop = timeout_stop'; limit_interval = interval'; limit_burst = burst'; success = success'; prevents_restart = prevents'; forces_restart = forces' })
+    (record { kind = kind; start_pre = start_pre; start = start; stop = stop; environment = environment; remains = remains; restart = restart; restart_delay = delay; timeout_start = timeout_start; timeout_stop = timeout_stop; limit_interval = interval; limit_burst = burst; success = success; prevents_restart = prevents; forces_restart = forces })
+    (record { kind = kind; start_pre = start_pre; start = start; stop = stop'; environment = environment'; remains = remains'; restart = restart'; restart_delay = delay'; timeout_start = timeout_start'; timeout_stop = timeout_stop'; limit_interval = interval'; limit_burst = burst'; success = success'; prevents_restart = prevents'; forces_restart = forces' })
 same_settings stop environment remains restart delay timeout_start timeout_stop interval burst success prevents forces = cc
 
 pub same_parts : {description description' : List ℕ} {dependencies dependencies' : Dependencies} {service service' : ServiceSettings} {install install' : InstallSettings}
@@ -43,12 +44,12 @@ same_unit : {name name' : List ℕ} {path path' : Option (List ℕ)} {settings s
 same_unit named placed sets warns = cc
 
 -- a unit with these settings and warnings is the one of its files
-pub unit_is : (unit : List ℕ) (sources : List Source) → {name : List ℕ} {path path' : Option (List ℕ)} {suffix : Suffix} {assigned : List Assigned} {settings : Settings} {warnings : List Warning}
-    → name ≡ unit → path ≡ path' → suffix_of unit ≡ Some suffix → assigned ≡ assignments_in (Some suffix) sources → settings ≡ settings_of unit assigned → warnings ≡ warnings_of unit sources
-    → ◌≡◌ {A = LoadedUnit} (record { name = name; path = path; settings = settings; warnings = warnings }) (unit_by unit path' sources)
-unit_is unit sources {name} {path} {path'} {suffix} {assigned} {settings} {warnings} named placed typed assigns sets warns =
+pub unit_is : (profile : Profile) (unit : List ℕ) (sources : List Source) → {name : List ℕ} {path path' : Option (List ℕ)} {suffix : Suffix} {assigned : List Assigned} {settings : Settings} {warnings : List Warning}
+    → name ≡ unit → path ≡ path' → suffix_of unit ≡ Some suffix → assigned ≡ assignments_in (Some suffix) sources → settings ≡ settings_of profile unit assigned → warnings ≡ warnings_of profile unit sources
+    → ◌≡◌ {A = LoadedUnit} (record { name = name; path = path; settings = settings; warnings = warnings }) (unit_by profile unit path' sources)
+unit_is profile unit sources {name} {path} {path'} {suffix} {assigned} {settings} {warnings} named placed typed assigns sets warns =
     let assigned_is : assigned ≡ assignments_in (suffix_of unit) sources = assigns ∙ ap (λ t. assignments_in t sources) (sym typed) in
-    same_unit named placed (sets ∙ ap (settings_of unit) assigned_is) warns
+    same_unit named placed (sets ∙ ap (settings_of profile unit) assigned_is) warns
 
 -- the reason test by test is that of the definition
 restarts_same : (policy : RestartPolicy) → tests.restarts_after_success Oneshot policy ≡ list_any (λ p. bytes_eq (restart_text p) (restart_text policy)) (Always ∷ OnSuccess ∷ [])
@@ -78,18 +79,18 @@ same_refusal (Some Service) (Served kind) s = same_kind s.kind s
 same_refusal _ said s = refl
 
 -- the reason by the settings that are already known
-pub reason_is : (unit : List ℕ) (sources : List Source) → {suffix other : Suffix} {assigned : List Assigned} {settings : Settings} {reason : Option (List ℕ)}
-    → suffix_of unit ≡ Some suffix → suffix_of unit ≡ Some other → assigned ≡ assignments_in (Some suffix) sources → settings ≡ settings_of unit assigned
-    → reason ≡ option_or (refused_setting assigned) (tests.refused_service (Some other) (type_of assigned) settings.service)
-    → reason ≡ reason_of unit (assignments_in (suffix_of unit) sources)
-reason_is unit sources {suffix} {other} {assigned} {settings} {reason} typed typed_too assigns sets is =
+pub reason_is : (profile : Profile) (unit : List ℕ) (sources : List Source) → {suffix other : Suffix} {assigned : List Assigned} {settings : Settings} {reason : Option (List ℕ)}
+    → suffix_of unit ≡ Some suffix → suffix_of unit ≡ Some other → assigned ≡ assignments_in (Some suffix) sources → settings ≡ settings_of profile unit assigned
+    → reason ≡ option_or (refused_setting profile assigned) (tests.refused_service (Some other) (type_of assigned) settings.service)
+    → reason ≡ reason_of profile unit (assignments_in (suffix_of unit) sources)
+reason_is profile unit sources {suffix} {other} {assigned} {settings} {reason} typed typed_too assigns sets is =
     let assigned_is : assigned ≡ assignments_in (suffix_of unit) sources = assigns ∙ ap (λ t. assignments_in t sources) (sym typed) in
-    is ∙ ap (option_or (refused_setting assigned)) (same_refusal (Some other) (type_of assigned) settings.service)
-    ∙ ap (λ s. option_or (refused_setting assigned) (refused_service (Some other) (type_of assigned) s)) (ap (λ s. s.service) sets)
-    ∙ ap (λ t. option_or (refused_setting assigned) (refused_service t (type_of assigned) (service_settings_of (suffix_of unit) unit assigned))) (sym typed_too)
-    ∙ ap (reason_of unit) assigned_is
+    is ∙ ap (option_or (refused_setting profile assigned)) (same_refusal (Some other) (type_of assigned) settings.service)
+    ∙ ap (λ s. option_or (refused_setting profile assigned) (refused_service (Some other) (type_of assigned) s)) (ap (λ s. s.service) sets)
+    ∙ ap (λ t. option_or (refused_setting profile assigned) (refused_service t (type_of assigned) (service_settings_of profile (suffix_of unit) unit assigned))) (sym typed_too)
+    ∙ ap (reason_of profile unit) assigned_is
 
 -- with no reason against it, the unit of the file is found
-pub found_by_file : (unit path : List ℕ) (sources : List Source) → {u : LoadedUnit} → None ≡ reason_of unit (assignments_in (suffix_of unit) sources) → u ≡ unit_by unit (Some path) sources
-    → Found u ≡ loading_by_file unit path sources
-found_by_file unit path sources {u} free is = ap Found is ∙ ap (λ r. found_unless r (unit_by unit (Some path) sources)) free
+pub found_by_file : (profile : Profile) (unit path : List ℕ) (sources : List Source) → {u : LoadedUnit} → None ≡ reason_of profile unit (assignments_in (suffix_of unit) sources) → u ≡ unit_by profile unit (Some path) sources
+    → Found u ≡ loading_by_file profile unit path sources
+found_by_file profile unit path sources {u} free is = ap Found is ∙ ap (λ r. found_unless r (unit_by profile unit (Some path) sources)) free

@@ -8,6 +8,7 @@ use Rattle.um_words.specs.Environment.{variables_of}
 abbrev pub service_settings_of : ServiceSettings → model.ServiceSettings
 service_settings_of s = record {
   kind = s.kind;
+  start_pre = commands_seen s.start_pre.items;
   start = commands_seen s.start.items;
   stop = commands_seen s.stop.items;
   environment = variables_of s.environment.items;

@@ -10,6 +10,7 @@ use Rattle.um_model.specs.declared.service.End.{End}
 use Rattle.um_model.specs.Names.{suffix_of}
 use Rattle.um_model.specs.declared.names.Suffix.{Suffix}
 use Rattle.um_model.specs.declared.names.Suffix.TheVariants.{Service}
+use Rattle.um_model.specs.declared.profile.Profile.{Profile}
 use Rattle.um_model.specs.declared.settings.RestartPolicy.{RestartPolicy}
 use Rattle.um_model.specs.declared.settings.RestartPolicy.TheVariants.{Always, OnSuccess}
 use Rattle.um_model.specs.declared.transition.UnitKind.{UnitKind}
@@ -22,8 +23,8 @@ abbrev pub tells_any : List (End → Bool) → End → Bool
 tells_any sets end = list_any (λ set. set end) sets
 
 -- a key that no unit may have is given a value
-abbrev pub is_refused : Assigned → Bool
-is_refused a = is_refused_key a.key && not (is_empty a.value)
+abbrev pub is_refused : Profile → Assigned → Bool
+is_refused profile a = is_refused_key profile a.key && not (is_empty a.value)
 
 -- neither a command of `ExecStart=`, nor does it remain with one of `ExecStop=`
 abbrev pub lacks_command : ServiceSettings → Bool
@@ -34,10 +35,10 @@ abbrev pub head_warning : Option Suffix → List ℕ → Option WarningKind
 head_warning type name = if is_known_section type name || is_foreign name then None else Some UnknownSection
 
 -- the warning that an assignment gives; the lines of a section that isn't known give none
-abbrev pub warning_of_assignment : List ℕ → Option (List ℕ) → List ℕ → List ℕ → Option WarningKind
-warning_of_assignment unit None key value = None
-warning_of_assignment unit (Some section) key value =
-    if is_known_section (suffix_of unit) section then assignment_warning unit section key value else None
+abbrev pub warning_of_assignment : Profile → List ℕ → Option (List ℕ) → List ℕ → List ℕ → Option WarningKind
+warning_of_assignment profile unit None key value = None
+warning_of_assignment profile unit (Some section) key value =
+    if is_known_section (suffix_of unit) section then assignment_warning profile unit section key value else None
 
 -- a warning of the syntax stands, but for those in a section that isn't known
 abbrev pub warning_of_syntax : Option Suffix → Option (List ℕ) → WarningKind → Option WarningKind
@@ -45,18 +46,18 @@ warning_of_syntax type None warning = Some warning
 warning_of_syntax type (Some section) warning = if is_known_section type section then Some warning else None
 
 -- the warning that an item gives; of what stands in a section that isn't known nothing gives one but its head
-abbrev pub warning_of : List ℕ → Option (List ℕ) → Item → Option WarningKind
-warning_of unit section (Section name line) = head_warning (suffix_of unit) name
-warning_of unit section (Assignment key value line whole) = warning_of_assignment unit section key value
-warning_of unit section (Warned warning line) = warning_of_syntax (suffix_of unit) section warning
+abbrev pub warning_of : Profile → List ℕ → Option (List ℕ) → Item → Option WarningKind
+warning_of profile unit section (Section name line) = head_warning (suffix_of unit) name
+warning_of profile unit section (Assignment key value line whole) = warning_of_assignment profile unit section key value
+warning_of profile unit section (Warned warning line) = warning_of_syntax (suffix_of unit) section warning
 
 -- the warning of a line, where it gives one
 abbrev pub warnings_at : List ℕ → ℕ → Option WarningKind → List Warning
 warnings_at path line warning = option_map_or (λ kind. record { kind = kind; path = path; line = line } ∷ []) warning []
 
 -- the warnings of a file, by line
-abbrev pub warned_in : List ℕ → Source → List Warning
-warned_in unit s = flat_map (λ p. warnings_at s.path (line_number p.item) (warning_of unit p.section p.item)) s.reading
+abbrev pub warned_in : Profile → List ℕ → Source → List Warning
+warned_in profile unit s = flat_map (λ p. warnings_at s.path (line_number p.item) (warning_of profile unit p.section p.item)) s.reading
 
 -- it assigns to one of the keys
 abbrev pub assigns : List Key → Assigned → Bool

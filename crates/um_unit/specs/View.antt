@@ -5,6 +5,7 @@ use Rattle.um_model.specs.Resolution.{Resolution, AtFile, AtNoFile, AtMask, Nowh
 use Rattle.um_model.specs.FileForms.{without_install}
 use Rattle.um_model.specs.Profiles.{ReadTree, read_by}
 use Rattle.um_model.specs.Units as model
+use Rattle.um_model.specs.declared.profile.Profile.{Profile}
 use Rattle.um_unit.specs.ServiceView.{service_settings_of}
 use Rattle.um_unit.specs.declared.reading.Reading.{Reading}
 use Rattle.um_unit.specs.declared.warnings.FileWarnings.{FileWarnings}
@@ -78,8 +79,8 @@ loading_of loading.NotFound = model.NotFound
 loading_of (loading.BadSetting unit reason) = model.BadSetting unit (string_bytes reason)
 
 -- what becomes of a name that leads there, with these files
-abbrev pub loading_with : Resolution → List model.Source → model.Loading
-loading_with (AtFile unit path text) sources = model.loading_by_file unit path sources
-loading_with (AtNoFile unit) sources = model.Found (without_install (model.unit_by unit None sources))
-loading_with (AtMask unit) sources = model.Masked unit
-loading_with Nowhere sources = model.NotFound
+abbrev pub loading_with : Profile → Resolution → List model.Source → model.Loading
+loading_with profile (AtFile unit path text) sources = model.loading_by_file profile unit path sources
+loading_with profile (AtNoFile unit) sources = model.Found (without_install (model.unit_by profile unit None sources))
+loading_with profile (AtMask unit) sources = model.Masked unit
+loading_with profile Nowhere sources = model.NotFound

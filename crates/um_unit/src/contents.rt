@@ -13,6 +13,7 @@ ghost use Rattle.um_unit.specs.View.{warnings_seen};
 use crate::assignments::Source;
 use crate::warnings::{FileWarnings, add_file, file_warnings};
 use std::alloc::{AllocError, Global};
+use um_model::Profile;
 use um_name::UnitName;
 use um_resolve::SourceFile;
 use um_syntax::{Item, parse};
@@ -57,6 +58,7 @@ fn said<'t>(source: Source<'t>) -> Source<'t>
 /// Adds what is read of a file.
 fn add_contents<'t>(
     alloc: Global,
+    profile: Profile,
     unit: &UnitName,
     file: &SourceFile<'t>,
     contents: &mut Contents<'t>,
@@ -65,32 +67,33 @@ fn add_contents<'t>(
         ≡ all_assigned (suffix_of unit.now) contents.old.sources.items
         ++ assigned_in (suffix_of unit.now) (model.source_of (unit_file_of file.now)).reading) }
     ensures warned { OnOk result (warnings_seen contents.new.warnings.items
-        ≡ warnings_seen contents.old.warnings.items ++ tests.warned_in unit.now (model.source_of (unit_file_of file.now))) }
+        ≡ warnings_seen contents.old.warnings.items ++ tests.warned_in profile unit.now (model.source_of (unit_file_of file.now))) }
 {
     let source = source(alloc, file)?;
-    let warned = file_warnings(alloc, unit, &source)?;
+    let warned = file_warnings(alloc, profile, unit, &source)?;
     add_file(&mut contents.warnings, warned)?;
     contents.sources.push(said(source))?;
     Ok(())
 }
 
-/// What is read of a unit's files, in their order.
+/// What is read of a unit's files by the profile, in their order.
 pub fn contents_of<'t>(
     alloc: Global,
+    profile: Profile,
     unit: &UnitName,
     files: &[SourceFile<'t>],
 ) -> Result<Contents<'t>, AllocError>
     ensures assigned { IfOk result (λ c. all_assigned (suffix_of unit.now) c.sources.items
         ≡ model.assignments_in (suffix_of unit.now) (map model.source_of (map unit_file_of files.now))) }
     ensures warned { IfOk result (λ c. warnings_seen c.warnings.items
-        ≡ warnings_of unit.now (map model.source_of (map unit_file_of files.now))) }
+        ≡ warnings_of profile unit.now (map model.source_of (map unit_file_of files.now))) }
 {
     let mut contents = Contents {
         sources: Vec::new(alloc),
         warnings: Vec::new(alloc),
     };
     for file in files {
-        add_contents(alloc, unit, file, &mut contents)?;
+        add_contents(alloc, profile, unit, file, &mut contents)?;
     }
     Ok(contents)
 }

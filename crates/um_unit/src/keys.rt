@@ -6,7 +6,7 @@ ghost use Rattle.std.specs.Map.{lookup};
 ghost use Rattle.std.specs.Str.{bytes_eq};
 ghost use Rattle.um_model.specs.Keys as keys;
 
-use um_model::{Suffix, ValueKind};
+use um_model::{Profile, Suffix, ValueKind};
 
 /// The keys of `[Unit]` (systemd.unit(5)).
 const UNIT_KEYS: [(&str, ValueKind); 12] = [
@@ -25,8 +25,9 @@ const UNIT_KEYS: [(&str, ValueKind); 12] = [
 ];
 
 /// The keys of `[Service]` (systemd.service(5)).
-const SERVICE_KEYS: [(&str, ValueKind); 15] = [
+const SERVICE_KEYS: [(&str, ValueKind); 16] = [
     ("Type", ValueKind::ServiceType),
+    ("ExecStartPre", ValueKind::Commands),
     ("ExecStart", ValueKind::Commands),
     ("ExecStop", ValueKind::Commands),
     ("Environment", ValueKind::Environment),
@@ -52,8 +53,9 @@ const INSTALL_KEYS: [(&str, ValueKind); 5] = [
     ("DefaultInstance", ValueKind::Instance),
 ];
 
-/// Keys that no unit may have, in any section: a start that ignored one would do what its author didn't write.
-const REFUSED_KEYS: [&str; 14] = [
+/// Keys that no unit may have, in any section, by whatever profile it is read: a start that ignored one would do what its author didn't
+/// write.
+const REFUSED_KEYS: [&str; 13] = [
     "User",
     "Group",
     "DynamicUser",
@@ -61,7 +63,6 @@ const REFUSED_KEYS: [&str; 14] = [
     "WorkingDirectory",
     "EnvironmentFile",
     "ExecCondition",
-    "ExecStartPre",
     "ExecStartPost",
     "ExecStopPost",
     "Requisite",
@@ -82,14 +83,24 @@ fn begins_with(front: &str, text: &str) -> bool
     text.as_bytes().starts_with(front.as_bytes())
 }
 
-/// Whether no unit may have the key with a value: it is one of those, or begins with `Condition` or `Assert`.
-pub fn is_refused_key(key: &str) -> bool
-    ensures { result ≡ keys.is_refused_key key.now }
+/// Whether the key is served by no profile: it is one of those, or begins with `Condition` or `Assert`.
+fn is_never_served(key: &str) -> bool
+    ensures { result ≡ keys.is_never_served key.now }
 {
     if is_among(key, &REFUSED_KEYS) {
         return true;
     }
     begins_with("Condition", key) || begins_with("Assert", key)
+}
+
+/// Whether no unit that is read by the profile may have the key with a value.
+pub fn is_refused_key(profile: Profile, key: &str) -> bool
+    ensures { result ≡ keys.is_refused_key profile key.now }
+{
+    if key == "ExecStartPre" && !profile.serves_start_pre() {
+        return true;
+    }
+    is_never_served(key)
 }
 
 /// Whether a section or a key isn't ours: it begins with `X-` (systemd.unit(5)).
@@ -134,13 +145,14 @@ fn kind_in(section: &str, key: &str) -> Option<ValueKind>
     kind_among(&SERVICE_KEYS, key)
 }
 
-/// The kind of a key's values in a known section, where the key is known.
+/// The kind of a key's values in a known section, where the profile knows the key.
 #[tactic(auto, unfolding(um_model::specs::Keys::kind_of_key))]
-pub fn kind_of_key(section: &str, key: &str) -> Option<ValueKind>
-    ensures { result ≡ keys.kind_of_key section.now key.now }
+pub fn kind_of_key(profile: Profile, section: &str, key: &str) -> Option<ValueKind>
+    ensures { result ≡ keys.kind_of_key profile section.now key.now }
 {
-    match kind_in(section, key) {
-        None if is_refused_key(key) => Some(ValueKind::Refused),
-        kind => kind,
+    if is_refused_key(profile, key) {
+        Some(ValueKind::Refused)
+    } else {
+        kind_in(section, key)
     }
 }

@@ -14,25 +14,28 @@ use crate::reasons::reason_of;
 use crate::settings::{InstallSettings, settings_of};
 use std::alloc::{AllocError, Global};
 use std::rc::Rc;
+use um_model::Profile;
 use um_name::UnitName;
 use um_resolve::{Resolution, SourceFile, resolve, source_files};
 
 /// A unit with a file: found, unless a setting is refused.
 fn loading_by_file(
     alloc: Global,
+    profile: Profile,
     unit: &UnitName,
     path: &str,
     files: &[SourceFile<'_>],
 ) -> Result<Loading, AllocError>
-    ensures { IfOk result (λ l. loading_of l ≡ model.loading_by_file unit.now path.now (map model.source_of (map unit_file_of files.now))) }
+    ensures { IfOk result (λ l. loading_of l ≡ model.loading_by_file profile unit.now path.now (map model.source_of (map unit_file_of files.now))) }
 {
-    let Contents { sources, warnings } = contents_of(alloc, unit, files)?;
+    let Contents { sources, warnings } = contents_of(alloc, profile, unit, files)?;
     let assigned = assignments(alloc, unit.suffix(), sources.as_slice())?;
     let name = unit.copy()?;
     let path = String::from_str(alloc, path)?;
     let warnings = Rc::new(alloc, warnings)?;
-    let settings = settings_of(alloc, unit, assigned.as_slice())?;
-    match reason_of(alloc, unit.suffix(), assigned.as_slice(), &settings.service)? {
+    let settings = settings_of(alloc, profile, unit, assigned.as_slice())?;
+    let suffix = unit.suffix();
+    match reason_of(alloc, profile, suffix, assigned.as_slice(), &settings.service)? {
         Some(reason) => Ok(Loading::BadSetting { unit: name, reason }),
         None => Ok(Loading::Found(LoadedUnit {
             name,
@@ -46,16 +49,17 @@ fn loading_by_file(
 /// A unit that needs no file: found, whatever its drop-ins set, and nothing in them enables it.
 fn unit_without_file(
     alloc: Global,
+    profile: Profile,
     unit: &UnitName,
     files: &[SourceFile<'_>],
 ) -> Result<LoadedUnit, AllocError>
-    ensures { IfOk result (λ u. unit_of u ≡ without_install (model.unit_by unit.now None (map model.source_of (map unit_file_of files.now)))) }
+    ensures { IfOk result (λ u. unit_of u ≡ without_install (model.unit_by profile unit.now None (map model.source_of (map unit_file_of files.now)))) }
 {
-    let Contents { sources, warnings } = contents_of(alloc, unit, files)?;
+    let Contents { sources, warnings } = contents_of(alloc, profile, unit, files)?;
     let assigned = assignments(alloc, unit.suffix(), sources.as_slice())?;
     let name = unit.copy()?;
     let warnings = Rc::new(alloc, warnings)?;
-    let mut settings = settings_of(alloc, unit, assigned.as_slice())?;
+    let mut settings = settings_of(alloc, profile, unit, assigned.as_slice())?;
     settings.install = InstallSettings::nothing(alloc);
     Ok(LoadedUnit {
         name,
@@ -68,14 +72,19 @@ fn unit_without_file(
 /// What becomes of a name that leads there.
 fn loading_at(
     alloc: Global,
+    profile: Profile,
     resolution: &Resolution<'_>,
     files: &[SourceFile<'_>],
 ) -> Result<Loading, AllocError>
-    ensures { IfOk result (λ l. loading_of l ≡ loading_with (resolution_of resolution.now) (map model.source_of (map unit_file_of files.now))) }
+    ensures { IfOk result (λ l. loading_of l ≡ loading_with profile (resolution_of resolution.now) (map model.source_of (map unit_file_of files.now))) }
 {
     match resolution {
-        Resolution::File { unit, path, .. } => loading_by_file(alloc, unit, path.as_str(), files),
-        Resolution::NoFile { unit } => Ok(Loading::Found(unit_without_file(alloc, unit, files)?)),
+        Resolution::File { unit, path, .. } => {
+            loading_by_file(alloc, profile, unit, path.as_str(), files)
+        }
+        Resolution::NoFile { unit } => Ok(Loading::Found(unit_without_file(
+            alloc, profile, unit, files,
+        )?)),
         Resolution::Mask { unit } => Ok(Loading::Masked { unit: unit.copy()? }),
         Resolution::Nowhere => Ok(Loading::NotFound),
     }
@@ -90,5 +99,5 @@ pub fn load(alloc: Global, reading: Reading<'_>, unit: &UnitName) -> Result<Load
 {
     let resolution = resolve(alloc, reading.tree, unit)?;
     let files = source_files(alloc, reading.tree, &resolution)?;
-    loading_at(alloc, &resolution, files.as_slice())
+    loading_at(alloc, reading.profile, &resolution, files.as_slice())
 }

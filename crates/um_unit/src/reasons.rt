@@ -13,7 +13,7 @@ use crate::keys::is_refused_key;
 use crate::service_settings::ServiceSettings;
 use crate::singles::{TypeSaid, type_of};
 use std::alloc::{AllocError, Global};
-use um_model::{RestartPolicy, Suffix, UnitKind};
+use um_model::{Profile, RestartPolicy, Suffix, UnitKind};
 
 fn setting_reason(alloc: Global, key: &str) -> Result<String, AllocError>
     ensures { IfOk result (λ reason. string_bytes reason ≡ codes "setting " ++ key.now) }
@@ -23,18 +23,22 @@ fn setting_reason(alloc: Global, key: &str) -> Result<String, AllocError>
     Ok(reason)
 }
 
-fn is_refused(assigned: &Assigned<'_>) -> bool
-    ensures { result ≡ tests.is_refused (assigned_of assigned.now) }
+fn is_refused(profile: Profile, assigned: &Assigned<'_>) -> bool
+    ensures { result ≡ tests.is_refused profile (assigned_of assigned.now) }
 {
-    is_refused_key(assigned.key) && !assigned.value.is_empty()
+    is_refused_key(profile, assigned.key) && !assigned.value.is_empty()
 }
 
 /// `setting` and the first key that no unit may have, where it is given a value.
-fn refused_setting(alloc: Global, assigned: &[Assigned<'_>]) -> Result<Option<String>, AllocError>
-    ensures { IfOk result (λ reason. option_map string_bytes reason ≡ model.refused_setting (map assigned_of assigned.now)) }
+fn refused_setting(
+    alloc: Global,
+    profile: Profile,
+    assigned: &[Assigned<'_>],
+) -> Result<Option<String>, AllocError>
+    ensures { IfOk result (λ reason. option_map string_bytes reason ≡ model.refused_setting profile (map assigned_of assigned.now)) }
 {
     for one in assigned {
-        if is_refused(one) {
+        if is_refused(profile, one) {
             return Ok(Some(setting_reason(alloc, one.key)?));
         }
     }
@@ -87,17 +91,18 @@ fn refused_service(
     }
 }
 
-/// The first reason why a unit with these settings can't be loaded.
+/// The first reason why a unit with these settings, which were read by the profile, can't be loaded.
 pub fn reason_of(
     alloc: Global,
+    profile: Profile,
     suffix: Suffix,
     assigned: &[Assigned<'_>],
     settings: &ServiceSettings,
 ) -> Result<Option<String>, AllocError>
-    ensures { IfOk result (λ reason. option_map string_bytes reason ≡ option_or (model.refused_setting (map assigned_of assigned.now))
+    ensures { IfOk result (λ reason. option_map string_bytes reason ≡ option_or (model.refused_setting profile (map assigned_of assigned.now))
         (tests.refused_service (Some suffix) (model.type_of (map assigned_of assigned.now)) (service_settings_of settings.now))) }
 {
-    if let Some(reason) = refused_setting(alloc, assigned)? {
+    if let Some(reason) = refused_setting(alloc, profile, assigned)? {
         return Ok(Some(reason));
     }
     match refused_service(suffix, type_of(alloc, assigned)?, settings) {

@@ -13,6 +13,8 @@ use um_words::{Command, Variable};
 #[derive(Debug)]
 pub struct ServiceSettings {
     pub kind: UnitKind,
+    /// `ExecStartPre=`, its commands in order.
+    pub start_pre: Vec<Command>,
     /// `ExecStart=`, its commands in order.
     pub start: Vec<Command>,
     /// `ExecStop=`, its commands in order.
@@ -46,6 +48,7 @@ impl Drop for ServiceSettings {
     fn drop(self) {
         let ServiceSettings {
             kind: _,
+            start_pre: _start_pre,
             start: _start,
             stop: _stop,
             environment: _environment,
@@ -71,6 +74,7 @@ impl ServiceSettings {
     {
         ServiceSettings {
             kind,
+            start_pre: Vec::new(alloc),
             start: Vec::new(alloc),
             stop: Vec::new(alloc),
             environment: Vec::new(alloc),

@@ -3,6 +3,7 @@
 ghost use Rattle.std.specs.Prelude.{◌≡◌, ◌∷◌, [], IfOk, map, string_bytes};
 ghost use Rattle.um_model.specs.Names.{suffix_of};
 ghost use Rattle.um_model.specs.Units as model;
+ghost use Rattle.um_model.specs.declared.profile.Profile.TheVariants.{One};
 ghost use Rattle.um_model.specs.declared.transition.UnitKind.TheVariants.{Target};
 ghost use Rattle.um_model.specs.declared.units.ValueKind.TheVariants as kinds;
 ghost use Rattle.um_unit.specs.Parts.{AreExits, AreTimes};
@@ -18,7 +19,7 @@ use crate::service_settings::ServiceSettings;
 use crate::singles::{Count, Delay, Instance, Policy, Text, Truth, TypeSaid, last_read, type_of};
 use std::alloc::{AllocError, Global};
 use std::rc::Rc;
-use um_model::{RestartPolicy, Span, Suffix, UnitKind};
+use um_model::{Profile, RestartPolicy, Span, Suffix, UnitKind};
 use um_name::UnitName;
 use um_value::ExitSet;
 use um_words::Command;
@@ -255,7 +256,7 @@ fn unless_zero(span: Option<Span>) -> Option<Span>
 }
 
 fn restart_delay_of(alloc: Global, assigned: &[Assigned<'_>]) -> Result<Option<Span>, AllocError>
-    ensures { IfOk result (λ span. span ≡ (model.service_settings_with [] Target [] (map assigned_of assigned.now)).restart_delay) }
+    ensures { IfOk result (λ span. span ≡ (model.service_settings_with [] [] Target [] (map assigned_of assigned.now)).restart_delay) }
 {
     let default = Some(Span::from_micros(100_000));
     last_span(alloc, assigned, &[("Service", "RestartSec")], default)
@@ -266,7 +267,7 @@ fn timeout_start_of(
     kind: UnitKind,
     assigned: &[Assigned<'_>],
 ) -> Result<Option<Span>, AllocError>
-    ensures { IfOk result (λ span. span ≡ (model.service_settings_with [] kind [] (map assigned_of assigned.now)).timeout_start) }
+    ensures { IfOk result (λ span. span ≡ (model.service_settings_with [] [] kind [] (map assigned_of assigned.now)).timeout_start) }
 {
     let keys = [("Service", "TimeoutStartSec"), ("Service", "TimeoutSec")];
     let said = last_span(alloc, assigned, &keys, default_timeout_start(kind))?;
@@ -274,7 +275,7 @@ fn timeout_start_of(
 }
 
 fn timeout_stop_of(alloc: Global, assigned: &[Assigned<'_>]) -> Result<Option<Span>, AllocError>
-    ensures { IfOk result (λ span. span ≡ (model.service_settings_with [] Target [] (map assigned_of assigned.now)).timeout_stop) }
+    ensures { IfOk result (λ span. span ≡ (model.service_settings_with [] [] Target [] (map assigned_of assigned.now)).timeout_stop) }
 {
     let keys = [("Service", "TimeoutStopSec"), ("Service", "TimeoutSec")];
     let default = Some(Span::from_micros(90_000_000));
@@ -283,7 +284,7 @@ fn timeout_stop_of(alloc: Global, assigned: &[Assigned<'_>]) -> Result<Option<Sp
 }
 
 fn limit_interval_of(alloc: Global, assigned: &[Assigned<'_>]) -> Result<Option<Span>, AllocError>
-    ensures { IfOk result (λ span. span ≡ (model.service_settings_with [] Target [] (map assigned_of assigned.now)).limit_interval) }
+    ensures { IfOk result (λ span. span ≡ (model.service_settings_with [] [] Target [] (map assigned_of assigned.now)).limit_interval) }
 {
     let keys = [
         ("Unit", "StartLimitIntervalSec"),
@@ -293,14 +294,14 @@ fn limit_interval_of(alloc: Global, assigned: &[Assigned<'_>]) -> Result<Option<
 }
 
 fn limit_burst_of(alloc: Global, assigned: &[Assigned<'_>]) -> Result<u32, AllocError>
-    ensures { IfOk result (λ burst. burst ≡ (model.service_settings_with [] Target [] (map assigned_of assigned.now)).limit_burst) }
+    ensures { IfOk result (λ burst. burst ≡ (model.service_settings_with [] [] Target [] (map assigned_of assigned.now)).limit_burst) }
 {
     let keys = [("Unit", "StartLimitBurst"), ("Service", "StartLimitBurst")];
     last_read(alloc, &Count, assigned, &keys, 5)
 }
 
 fn restart_of(alloc: Global, assigned: &[Assigned<'_>]) -> Result<RestartPolicy, AllocError>
-    ensures { IfOk result (λ policy. policy ≡ (model.service_settings_with [] Target [] (map assigned_of assigned.now)).restart) }
+    ensures { IfOk result (λ policy. policy ≡ (model.service_settings_with [] [] Target [] (map assigned_of assigned.now)).restart) }
 {
     last_read(
         alloc,
@@ -321,7 +322,7 @@ struct Times {
 }
 
 fn times_of(alloc: Global, kind: UnitKind, assigned: &[Assigned<'_>]) -> Result<Times, AllocError>
-    ensures { IfOk result (λ times. AreTimes times (model.service_settings_with [] kind [] (map assigned_of assigned.now))) }
+    ensures { IfOk result (λ times. AreTimes times (model.service_settings_with [] [] kind [] (map assigned_of assigned.now))) }
 {
     Ok(Times {
         restart_delay: restart_delay_of(alloc, assigned)?,
@@ -340,7 +341,7 @@ struct Exits {
 }
 
 fn exits_of(alloc: Global, assigned: &[Assigned<'_>]) -> Result<Exits, AllocError>
-    ensures { IfOk result (λ exits. AreExits exits (model.service_settings_with [] Target [] (map assigned_of assigned.now))) }
+    ensures { IfOk result (λ exits. AreExits exits (model.service_settings_with [] [] Target [] (map assigned_of assigned.now))) }
 {
     Ok(Exits {
         success: exits_in(alloc, assigned, "SuccessExitStatus")?,
@@ -352,12 +353,13 @@ fn exits_of(alloc: Global, assigned: &[Assigned<'_>]) -> Result<Exits, AllocErro
 /// The settings of a service of this kind with these commands.
 fn service_settings_with(
     alloc: Global,
+    start_pre: Vec<Command>,
     start: Vec<Command>,
     kind: UnitKind,
     unit: &UnitName,
     assigned: &[Assigned<'_>],
 ) -> Result<ServiceSettings, AllocError>
-    ensures { IfOk result (λ s. service_settings_of s ≡ model.service_settings_with (commands_seen start.items) kind unit.now (map assigned_of assigned.now)) }
+    ensures { IfOk result (λ s. service_settings_of s ≡ model.service_settings_with (commands_seen start_pre.items) (commands_seen start.items) kind unit.now (map assigned_of assigned.now)) }
 {
     let times = times_of(alloc, kind, assigned)?;
     let exits = exits_of(alloc, assigned)?;
@@ -368,6 +370,7 @@ fn service_settings_with(
     let stop = commands_of(alloc, unit, assigned, "ExecStop")?;
     Ok(ServiceSettings {
         kind,
+        start_pre,
         start,
         stop,
         environment,
@@ -384,21 +387,46 @@ fn service_settings_with(
     })
 }
 
+/// The commands of `ExecStartPre=`, where the profile serves that.
+fn start_pre_of(
+    alloc: Global,
+    profile: Profile,
+    unit: &UnitName,
+    assigned: &[Assigned<'_>],
+) -> Result<Vec<Command>, AllocError>
+    ensures { IfOk result (λ commands. commands_seen commands.items ≡ model.start_pre_of profile unit.now (map assigned_of assigned.now)) }
+{
+    if profile.serves_start_pre() {
+        commands_of(alloc, unit, assigned, "ExecStartPre")
+    } else {
+        Ok(Vec::new(alloc))
+    }
+}
+
 /// What a unit's files say of its processes. A unit that isn't a service has none, and may set the start limit alone.
 #[tactic(auto, unfolding(um_model::specs::Units::service_settings_of))]
 fn service_settings_of(
     alloc: Global,
+    profile: Profile,
     unit: &UnitName,
     assigned: &[Assigned<'_>],
 ) -> Result<ServiceSettings, AllocError>
-    ensures { IfOk result (λ s. service_settings_of s ≡ model.service_settings_of (suffix_of unit.now) unit.now (map assigned_of assigned.now)) }
+    ensures { IfOk result (λ s. service_settings_of s ≡ model.service_settings_of profile (suffix_of unit.now) unit.now (map assigned_of assigned.now)) }
 {
     let Suffix::Service = unit.suffix() else {
-        return service_settings_with(alloc, Vec::new(alloc), UnitKind::Target, unit, assigned);
+        return service_settings_with(
+            alloc,
+            Vec::new(alloc),
+            Vec::new(alloc),
+            UnitKind::Target,
+            unit,
+            assigned,
+        );
     };
     let start = commands_of(alloc, unit, assigned, "ExecStart")?;
     let kind = kind_by(type_of(alloc, assigned)?, start.as_slice());
-    service_settings_with(alloc, start, kind, unit, assigned)
+    let start_pre = start_pre_of(alloc, profile, unit, assigned)?;
+    service_settings_with(alloc, start_pre, start, kind, unit, assigned)
 }
 
 fn description_of(
@@ -406,7 +434,7 @@ fn description_of(
     unit: &UnitName,
     assigned: &[Assigned<'_>],
 ) -> Result<String, AllocError>
-    ensures { IfOk result (λ text. string_bytes text ≡ (model.settings_of unit.now (map assigned_of assigned.now)).description) }
+    ensures { IfOk result (λ text. string_bytes text ≡ (model.settings_of One unit.now (map assigned_of assigned.now)).description) }
 {
     last_read(
         alloc,
@@ -417,15 +445,16 @@ fn description_of(
     )
 }
 
-/// The settings of a unit by its assignments.
+/// The settings of a unit by its assignments, read by the profile.
 pub fn settings_of(
     alloc: Global,
+    profile: Profile,
     unit: &UnitName,
     assigned: &[Assigned<'_>],
 ) -> Result<Settings, AllocError>
-    ensures { IfOk result (λ s. settings_of s ≡ model.settings_of unit.now (map assigned_of assigned.now)) }
+    ensures { IfOk result (λ s. settings_of s ≡ model.settings_of profile unit.now (map assigned_of assigned.now)) }
 {
-    let service = Rc::new(alloc, service_settings_of(alloc, unit, assigned)?)?;
+    let service = Rc::new(alloc, service_settings_of(alloc, profile, unit, assigned)?)?;
     let description = description_of(alloc, unit, assigned)?;
     let install = install_settings_of(alloc, unit, assigned)?;
     let dependencies = dependencies_of(alloc, unit, assigned)?;

@@ -18,7 +18,7 @@ use crate::readings::{
 };
 use crate::singles::{default_instance_in, type_said};
 use std::alloc::{AllocError, Global};
-use um_model::{Suffix, ValueKind, WarningKind};
+use um_model::{Profile, Suffix, ValueKind, WarningKind};
 use um_name::UnitName;
 use um_syntax::Item;
 use um_value::{boolean, exit_set, number, restart, span};
@@ -94,17 +94,18 @@ fn value_warning(
 /// The warning of an assignment in a known section.
 fn assignment_warning(
     alloc: Global,
+    profile: Profile,
     unit: &UnitName,
     section: &str,
     key: &str,
     value: &str,
 ) -> Result<Option<WarningKind>, AllocError>
-    ensures { IfOk result (λ w. w ≡ model.assignment_warning unit.now section.now key.now value.now) }
+    ensures { IfOk result (λ w. w ≡ model.assignment_warning profile unit.now section.now key.now value.now) }
 {
     if is_foreign(key) {
         return Ok(None);
     }
-    match kind_of_key(section, key) {
+    match kind_of_key(profile, section, key) {
         Some(kind) => value_warning(alloc, unit, kind, value),
         None => Ok(Some(WarningKind::UnknownKey)),
     }
@@ -123,16 +124,17 @@ fn head_warning(suffix: Suffix, name: &str) -> Option<WarningKind>
 /// The lines of a section that isn't known give no warning.
 fn warning_of_assignment(
     alloc: Global,
+    profile: Profile,
     unit: &UnitName,
     section: Option<&str>,
     key: &str,
     value: &str,
 ) -> Result<Option<WarningKind>, AllocError>
-    ensures { IfOk result (λ w. w ≡ tests.warning_of_assignment unit.now (option_map (λ s. s.now) section.entry) key.now value.now) }
+    ensures { IfOk result (λ w. w ≡ tests.warning_of_assignment profile unit.now (option_map (λ s. s.now) section.entry) key.now value.now) }
 {
     match section {
         Some(section) if is_known_section(unit.suffix(), section) => assignment_warning(
-            alloc, unit, section, key, value,
+            alloc, profile, unit, section, key, value,
         ),
         _ => Ok(None),
     }
@@ -154,16 +156,18 @@ fn warning_of_syntax(
 /// The warning that an item gives in this section.
 fn item_warning(
     alloc: Global,
+    profile: Profile,
     unit: &UnitName,
     section: Option<&str>,
     item: &Item<'_>,
 ) -> Result<Option<WarningKind>, AllocError>
-    ensures { IfOk result (λ w. w ≡ tests.warning_of unit.now (option_map (λ s. s.now) section.entry) (item_of item.now)) }
+    ensures { IfOk result (λ w. w ≡ tests.warning_of profile unit.now (option_map (λ s. s.now) section.entry) (item_of item.now)) }
 {
     match item {
         Item::Section { name, .. } => Ok(head_warning(unit.suffix(), name.as_str())),
         Item::Assignment { key, value, .. } => warning_of_assignment(
             alloc,
+            profile,
             unit,
             section,
             key.as_str(),
@@ -183,19 +187,20 @@ fn line_of(item: &Item<'_>) -> usize
     }
 }
 
-/// The warnings of a file, by line.
+/// The warnings of a file that is read by the profile, by line.
 pub fn file_warnings(
     alloc: Global,
+    profile: Profile,
     unit: &UnitName,
     source: &Source<'_>,
 ) -> Result<FileWarnings, AllocError>
-    ensures { IfOk result (λ f. warned_by f ≡ tests.warned_in unit.now (source_of source.now)) }
+    ensures { IfOk result (λ f. warned_by f ≡ tests.warned_in profile unit.now (source_of source.now)) }
 {
     let mut warnings = Vec::new(alloc);
     let mut section = None;
     for item in &source.items {
         section = section_after(section, item);
-        if let Some(kind) = item_warning(alloc, unit, section, item)? {
+        if let Some(kind) = item_warning(alloc, profile, unit, section, item)? {
             let line = line_of(item);
             warnings.push(Warning { kind, line })?;
         }

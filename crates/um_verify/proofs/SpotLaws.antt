@@ -7,6 +7,7 @@ use Rattle.std.specs.Prelude.{◌&&◌, filter, find, not}
 use Rattle.std.specs.Str.{bytes_eq}
 use Rattle.std.specs.List.{flat_map}
 use Rattle.um_model.specs.Keys.{is_known_section, is_refused_key}
+use Rattle.um_model.specs.Profiles.{current}
 use Rattle.um_model.specs.Syntax.{Item, Section, Assignment, Warned, Placed}
 use Rattle.um_model.specs.Text.{is_empty}
 use Rattle.um_model.specs.Units.{Assigned, Source, assigned_by, assignments_in, is_heard}
@@ -85,12 +86,12 @@ first_told (x ∷ xs) s found = step (is_refused x) (gives s.key x) refl refl (�
         let same : Some x ≡ Some s = subst (λ b. cond b (Some x) (first_refused xs) ≡ Some s) refused found in
         let eq : x ≡ s = cc in
         let is_key : bytes_eq x.key s.key ≡ true = (bytes_eq-Decides x.key s.key).1 (ap (λ y. y.key) eq) in
-        let has : not (is_empty x.value) ≡ true = and_right (is_refused_key x.key) (not (is_empty x.value)) refused in
+        let has : not (is_empty x.value) ≡ true = and_right (is_refused_key current x.key) (not (is_empty x.value)) refused in
         absurd (true≢false (sym (and_both (bytes_eq x.key s.key) (not (is_empty x.value)) is_key has) ∙ given))
     step false true refused given more =
         let is_key : x.key ≡ s.key = (bytes_eq-Decides x.key s.key).0 (and_left (bytes_eq x.key s.key) (not (is_empty x.value)) given) in
         let has : not (is_empty x.value) ≡ true = and_right (bytes_eq x.key s.key) (not (is_empty x.value)) given in
-        let never : is_refused_key x.key ≡ true = ap is_refused_key is_key ∙ and_left (is_refused_key s.key) (not (is_empty s.value)) valued in
-        absurd (true≢false (sym (and_both (is_refused_key x.key) (not (is_empty x.value)) never has) ∙ refused))
+        let never : is_refused_key current x.key ≡ true = ap (is_refused_key current) is_key ∙ and_left (is_refused_key current s.key) (not (is_empty s.value)) valued in
+        absurd (true≢false (sym (and_both (is_refused_key current x.key) (not (is_empty x.value)) never has) ∙ refused))
     step false false refused given more =
         ap (λ b. cond b (Some x) (first_with s.key xs)) given ∙ more (subst (λ b. cond b (Some x) (first_refused xs) ≡ Some s) refused found)

@@ -77,7 +77,7 @@ assigned_at s = record { section = s.section; key = s.key; value = s.value }
 
 -- an assignment gives a value to a key that no unit may have
 abbrev pub is_refused : Spot → Bool
-is_refused s = is_refused_key s.key && not (is_empty s.value)
+is_refused s = is_refused_key current s.key && not (is_empty s.value)
 
 -- the first assignment that does
 abbrev pub first_refused : List Spot → Option Spot

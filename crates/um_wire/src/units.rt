@@ -36,6 +36,7 @@ impl Tagged for SubState {
             SubState::Failed => 7,
             SubState::AutoRestart => 8,
             SubState::Active => 9,
+            SubState::StartPre => 10,
         }
     }
 
@@ -51,6 +52,7 @@ impl Tagged for SubState {
             7 => Some(SubState::Failed),
             8 => Some(SubState::AutoRestart),
             9 => Some(SubState::Active),
+            10 => Some(SubState::StartPre),
             _ => None,
         }
     }

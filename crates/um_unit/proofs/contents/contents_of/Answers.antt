@@ -18,5 +18,5 @@ returns-clause-assigned c =
 pub returns-clause-warned : goal.returns-clause-warned
 returns-clause-warned c =
     c.loop-file.invariant.1
-    ∙ ap (λ files. flat_map (warned_in c.args.unit.now) (map model.source_of (map unit_file_of files))) (take_all _ c.args.files.now c.loop-file-test.false)
-    ∙ all_warn c.args.unit.now (map model.source_of (map unit_file_of c.args.files.now))
+    ∙ ap (λ files. flat_map (warned_in c.args.profile c.args.unit.now) (map model.source_of (map unit_file_of files))) (take_all _ c.args.files.now c.loop-file-test.false)
+    ∙ all_warn c.args.profile c.args.unit.now (map model.source_of (map unit_file_of c.args.files.now))

@@ -13,4 +13,4 @@ abbrev pub invariant-loop-file : goal.invariant-loop-file
 invariant-loop-file l =
     let sources = map model.source_of (map unit_file_of (take l.file-index l.files)) in
     (all_assigned (suffix_of l.unit) l.contents.sources.items ≡ flat_map (λ (s : model.Source). assigned_in (suffix_of l.unit) s.reading) sources)
-    × (warnings_seen l.contents.warnings.items ≡ flat_map (warned_in l.unit) sources)
+    × (warnings_seen l.contents.warnings.items ≡ flat_map (warned_in l.profile l.unit) sources)

@@ -7,4 +7,4 @@ use Rattle.um_unit.proofs.loader.loading_at.Goals as goal
 pub returns-in_ok-unit_without_file-in-NoFile : goal.returns-in_ok-unit_without_file-in-NoFile
 returns-in_ok-unit_without_file-in-NoFile c =
     ap model.Found c.in_ok-unit_without_file-in-NoFile.ensures
-    ∙ ap (λ r. loading_with (resolution_of r) (map model.source_of (map unit_file_of c.args.files.now))) (sym c.in-NoFile.is)
+    ∙ ap (λ r. loading_with c.args.profile (resolution_of r) (map model.source_of (map unit_file_of c.args.files.now))) (sym c.in-NoFile.is)

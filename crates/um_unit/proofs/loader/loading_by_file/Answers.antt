@@ -15,6 +15,6 @@ returns c =
     let sets = rw c.as_slice-2.ensures.value at c.in_ok-settings.ensures in
     let reason = rw (c.as_slice-3.ensures.value, c.deref.ensures) at c.in_ok-reason.ensures in
     let warns = ap (λ files. warnings_seen files.items) c.in_ok-warnings.ensures.ok ∙ c.in_ok-sources.ensures.warned in
-    found_by_file c.args.unit.now c.args.path.now sources
-    (ap (option_map string_bytes) (sym c.in-None.is) ∙ reason_is c.args.unit.now sources {settings = settings_of c.in_ok-settings.settings} c.suffix.ensures c.suffix-2.ensures assigns sets reason)
-    (unit_is c.args.unit.now sources c.in_ok-name.ensures (ap Some c.in_ok-path.ensures.ok) c.suffix.ensures assigns sets warns)
+    found_by_file c.args.profile c.args.unit.now c.args.path.now sources
+    (ap (option_map string_bytes) (sym c.in-None.is) ∙ reason_is c.args.profile c.args.unit.now sources {settings = settings_of c.in_ok-settings.settings} c.suffix.ensures c.suffix-suffix.ensures assigns sets reason)
+    (unit_is c.args.profile c.args.unit.now sources c.in_ok-name.ensures (ap Some c.in_ok-path.ensures.ok) c.suffix.ensures assigns sets warns)

@@ -16,4 +16,4 @@ returns c =
     let sets = rw c.as_slice-2.ensures.value at c.in_ok-settings.ensures in
     let warns = ap (λ files. warnings_seen files.items) c.in_ok-warnings.ensures.ok ∙ c.in_ok-sources.ensures.warned in
     ap {B = model.LoadedUnit} (λ install. record { name = c.in_ok-name.name; path = None; settings = record (settings_of c.in_ok-settings.settings) { install = install }; warnings = warnings_seen c.in_ok-warnings.warnings.value.items }) c.nothing.ensures
-    ∙ ap without_install (unit_is c.args.unit.now sources c.in_ok-name.ensures refl c.suffix.ensures assigns sets warns)
+    ∙ ap without_install (unit_is c.args.profile c.args.unit.now sources c.in_ok-name.ensures refl c.suffix.ensures assigns sets warns)

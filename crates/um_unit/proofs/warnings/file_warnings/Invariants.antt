@@ -12,5 +12,5 @@ use Rattle.um_unit.proofs.warnings.file_warnings.Given as goal
 abbrev pub invariant-loop-item : goal.invariant-loop-item
 invariant-loop-item l =
     map (warning_of l.source.path.now) l.warnings.items
-    ++ flat_map (λ p. tests.warnings_at l.source.path.now (line_number p.item) (tests.warning_of l.unit p.section p.item)) (in_sections (option_map (λ s. s.now) l.section) (map item_of (drop l.item-index l.item-items)))
-    ≡ tests.warned_in l.unit (source_of l.source)
+    ++ flat_map (λ p. tests.warnings_at l.source.path.now (line_number p.item) (tests.warning_of l.profile l.unit p.section p.item)) (in_sections (option_map (λ s. s.now) l.section) (map item_of (drop l.item-index l.item-items)))
+    ≡ tests.warned_in l.profile l.unit (source_of l.source)

@@ -1,5 +1,5 @@
 use Rattle.std.proofs.Common.{refl, rules}
-use Rattle.um_unit.proofs.keys.is_refused_key.Goals as goal
+use Rattle.um_unit.proofs.keys.is_never_served.Goals as goal
 
 pub returns-then-is_among : goal.returns-then-is_among
 returns-then-is_among c = rw (← c.if-is_among.ensures) refl
