@@ -39,7 +39,7 @@ _umd_value() {
 
 # _umd_fields HELP VERB: what stands for the verb's arguments, in their order
 _umd_fields() {
-    sed -n "s/^  $2 //p" <<<"$1" | sed 's/\[--mode <MODE>\]//;s/<* FILE$//' | grep -o '[a-z]*' # a word without brackets each
+    sed -n "s/^  $2 //p" <<<"$1" | sed 's/\[--[^]]*\]//g;s/<* FILE$//' | grep -o '[a-z]*' # a word without brackets each
 }
 
 # _umd_units: the units that the manager at the socket in hand knows
@@ -54,7 +54,7 @@ _umd_units() {
 # _umd_offer_value KIND: what may stand for this in a help
 _umd_offer_value() {
     case $1 in
-    PATH | FILE | DIR | OUT) _umd_offer_files ;;
+    PATH | FILE | DIR | OUT | dir) _umd_offer_files ;;
     UNIT | unit) _umd_offer "$(_umd_units)" ;;
     MODE) _umd_offer fail replace ;;
     path) _umd_offer etc/ run/ lib/ && compopt -o nospace 2>/dev/null ;;

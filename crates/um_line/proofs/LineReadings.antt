@@ -13,7 +13,7 @@ use Rattle.um_line.specs.Line.{HasNoHelp, named, IsNoCode, IsNoNumber, IsReadLin
 use Rattle.um_line.specs.declared.line.Line.{Line}
 use Rattle.um_line.specs.declared.line.Subcommand.TheVariants.{Nothing}
 use Rattle.um_sentences.specs.Sentences.{topic_named}
-use Rattle.um_line.specs.declared.line.Line.TheVariants.{Memory, Run, Create, Check, Serve, LongBoot, Ctl, Status, Verify, Logs, Help, Topic, Told, Wrong}
+use Rattle.um_line.specs.declared.line.Line.TheVariants.{Memory, Run, Create, Check, Serve, LongBoot, Ctl, Sync, Status, Verify, Logs, Help, Topic, Told, Wrong}
 
 -- the words of the program are simple ones
 pub umd_simple : is_simple_and_free umd_words ≡ true
@@ -87,6 +87,7 @@ told mistakes kind (Check line) among is = absurd is
 told mistakes kind (Serve line) among is = absurd is
 told mistakes kind LongBoot among is = absurd is
 told mistakes kind (Ctl line) among is = absurd is
+told mistakes kind (Sync line) among is = absurd is
 told mistakes kind (Logs line) among is = absurd is
 told mistakes kind (Help n) among is = absurd is
 told mistakes kind (Status line) among is = absurd is

@@ -13,10 +13,11 @@ use Rattle.um_line.specs.declared.ctl.CtlLine.{CtlLine}
 use Rattle.um_line.specs.declared.logs.LogsLine.{LogsLine}
 use Rattle.um_line.specs.declared.serve.ServeLine.{ServeLine}
 use Rattle.um_line.specs.declared.status.StatusLine.{StatusLine}
+use Rattle.um_line.specs.declared.sync.SyncLine.{SyncLine}
 use Rattle.um_line.specs.declared.verify.VerifyLine.{VerifyLine}
 use Rattle.um_line.specs.declared.line.Line.{Line}
 use Rattle.um_line.specs.declared.help.TopicLine.{TopicLine}
-use Rattle.um_line.specs.declared.line.Line.TheVariants.{Memory, Run, Create, Check, Serve, LongBoot, Ctl, Status, Verify, Logs, Help, Topic, Told, Wrong}
+use Rattle.um_line.specs.declared.line.Line.TheVariants.{Memory, Run, Create, Check, Serve, LongBoot, Ctl, Sync, Status, Verify, Logs, Help, Topic, Told, Wrong}
 use Rattle.um_line.specs.declared.line.Subcommand.{Subcommand}
 use Rattle.um_line.specs.declared.line.Subcommand.TheVariants as sub
 use Rattle.um_runner.specs.Jobs.{entries_of, words_of}
@@ -81,11 +82,12 @@ serve_words =
     (option_rule (codes "socket"))) (option_rule (codes "dir"))) (option_rule (codes "runner"))) (optional_rule (codes "start")))
     (optional_rule (codes "output"))) (optional_rule (codes "output-size"))) (word_rule (codes "file"))
 
--- the words of `umd ctl`: the socket, two times, a mode and a flag that may be left out, and a verb with its arguments
+-- the words of `umd ctl`: the socket, two times, a mode and three flags that may be left out, and a verb with its arguments, or `sync` with its folder
 abbrev pub ctl_words : App
 ctl_words =
-    with_rule (with_rule (with_rule (with_rule (with_rule (with_rule (new_app (codes "umd ctl")) (optional_rule (codes "socket")))
-    (optional_rule (codes "retry"))) (optional_rule (codes "timeout"))) (optional_rule (codes "mode"))) (flag_rule (codes "wait"))) (words_rule (codes "word"))
+    with_rule (with_rule (with_rule (with_rule (with_rule (with_rule (with_rule (with_rule (new_app (codes "umd ctl")) (optional_rule (codes "socket")))
+    (optional_rule (codes "retry"))) (optional_rule (codes "timeout"))) (optional_rule (codes "mode"))) (flag_rule (codes "wait")))
+    (flag_rule (codes "dry-run"))) (flag_rule (codes "all"))) (words_rule (codes "word"))
 
 -- the words of `umd status`: the socket, two times and two folders that may be left out, and units
 abbrev pub status_words : App
@@ -298,13 +300,29 @@ TakesServe rows other = ⊥
 abbrev pub IsServeLine : List (List ℕ) → Line → Type 0
 IsServeLine words = IsReadLine (fault_of serve_words words) (TakesServe (matches_of serve_words words))
 
--- a verb with its arguments, for the manager at a socket, how long is waited, and whether for what becomes of the unit
+-- this flag was given
+abbrev pub HasFlag : List ℕ → List Row → Type 0
+HasFlag name rows = first_of name rows ≡ Some (codes "true")
+
+-- one of the flags of `sync` was given
+abbrev pub HasSyncFlag : List Row → Type 0
+HasSyncFlag rows = HasFlag (codes "dry-run") rows ⊎ HasFlag (codes "all") rows
+
+-- a verb of a request, which `sync` is none, with its arguments, for the manager at a socket, how long is waited, and whether for what becomes of the unit
 abbrev pub IsCtl : List Row → CtlLine → Type 0
 IsCtl rows line =
     (first_of (codes "socket") rows ≡ option_map (λ path. path.now) line.socket) × IsTime (first_of (codes "retry") rows) line.retry
     × IsTime (first_of (codes "timeout") rows) line.timeout × (first_of (codes "mode") rows ≡ option_map (λ mode. mode.now) line.mode)
-    × ((line.waits ≡ true) ↔ (first_of (codes "wait") rows ≡ Some (codes "true")))
+    × ((line.waits ≡ true) ↔ HasFlag (codes "wait") rows) × ¬ HasSyncFlag rows × (line.verb.now ≢ codes "sync")
     × (all_of (codes "word") rows ≡ Some (line.verb.now ∷ map (λ word. word.now) line.arguments.items))
+
+-- `sync` with a folder, for the manager at a socket, how long is waited, whether it is only said what would be done, and whether everything is put
+abbrev pub IsSync : List Row → SyncLine → Type 0
+IsSync rows line =
+    (first_of (codes "socket") rows ≡ option_map (λ path. path.now) line.socket) × IsTime (first_of (codes "retry") rows) line.retry
+    × IsTime (first_of (codes "timeout") rows) line.timeout × (first_of (codes "mode") rows ≡ None) × ¬ HasFlag (codes "wait") rows
+    × ((line.is_dry ≡ true) ↔ HasFlag (codes "dry-run") rows) × ((line.all ≡ true) ↔ HasFlag (codes "all") rows)
+    × (all_of (codes "word") rows ≡ Some (codes "sync" ∷ line.folder.now ∷ []))
 
 -- a word is missing, or a time isn't within its limits
 abbrev pub IsNoCtl : List Row → Type 0
@@ -312,10 +330,25 @@ IsNoCtl rows =
     IsNoTime (first_of (codes "retry") rows) ⊎ IsNoTime (first_of (codes "timeout") rows)
     ⊎ (all_of (codes "word") rows ≡ None) ⊎ (all_of (codes "word") rows ≡ Some [])
 
+-- words that begin with `sync`
+abbrev pub AsksSync : List (List ℕ) → Type 0
+AsksSync words = slice_get words 0 ≡ Some (codes "sync")
+
+-- a flag of `sync` stands with a verb
+abbrev pub IsNoVerb : List Row → Type 0
+IsNoVerb rows = (words : List (List ℕ)) × (all_of (codes "word") rows ≡ Some words) × ¬ AsksSync words × HasSyncFlag rows
+
+-- `sync` without a folder or with more than one, or with a mode or with `--wait`
+abbrev pub IsNoSync : List Row → Type 0
+IsNoSync rows =
+    (words : List (List ℕ)) × (all_of (codes "word") rows ≡ Some words) × AsksSync words
+    × ((length words ≢ 2) ⊎ (first_of (codes "mode") rows ≢ None) ⊎ HasFlag (codes "wait") rows)
+
 -- what they ask for by these values
 abbrev pub TakesCtl : List Row → Line → Type 0
 TakesCtl rows (Ctl line) = IsCtl rows line
-TakesCtl rows (Wrong text) = IsNoCtl rows
+TakesCtl rows (Sync line) = IsSync rows line
+TakesCtl rows (Wrong text) = IsNoCtl rows ⊎ IsNoVerb rows ⊎ IsNoSync rows
 TakesCtl rows other = ⊥
 
 -- what the words from `ctl` on ask for

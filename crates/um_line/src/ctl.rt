@@ -1,12 +1,13 @@
 //! The words of `umd ctl`.
 
-ghost use Rattle.std.specs.Prelude.{◌≡◌, ◌≢◌, IfOk, OnOk, map, string_bytes};
-ghost use Rattle.clap.specs.Words.{app_of, found_of, kind_of, rows_of};
-ghost use Rattle.um_line.specs.Line.{ctl_words, IsCtlLine, IsToldAs, TakesCtl};
+ghost use Rattle.std.specs.Prelude.{◌≡◌, ◌≢◌, ◌↔◌, IfOk, IsTrue, OnOk, Some, codes, map, string_bytes};
+ghost use Rattle.clap.specs.Words.{all_of, app_of, first_of, found_of, kind_of, rows_of};
+ghost use Rattle.um_line.specs.Line.{ctl_words, AsksSync, HasSyncFlag, IsCtlLine, IsTime, IsToldAs, TakesCtl};
 
 use crate::line::Line;
 use crate::mistake::line_of_mistake;
 use crate::numbers::time;
+use crate::sync::sync_line;
 use crate::values::{
     copied, described, is_given, value, values, with_flag, with_optional, with_words,
 };
@@ -40,6 +41,14 @@ Usage: umd ctl [--socket <PATH>] [--retry <SECONDS>] [--timeout <SECONDS>] [--mo
 For more information, try '--help'.
 ";
 
+/// What is told where a flag of `sync` stands with another verb.
+const NO_SYNC: &str = "error: --dry-run and --all are for sync
+
+Usage: umd ctl [--socket <PATH>] [--retry <SECONDS>] [--timeout <SECONDS>] [--mode <MODE>] [--wait] <VERB> [ARG]..
+
+For more information, try '--help'.
+";
+
 /// What is told where a time isn't within its limits.
 const NO_TIME: &str = "error: --retry and --timeout are 1 to 86400 seconds
 
@@ -65,10 +74,16 @@ const MODE_HELP: &str =
 const WAIT_HELP: &str =
     "For start, stop and restart: goes on until no job of the unit is pending and it neither starts nor stops, and ends with 0, printing nothing, where that is what was asked for, else with 1 and a line that says how the unit stands; --timeout is of the whole";
 
+const DRY_RUN_HELP: &str = "For sync: prints what would be put and removed, and asks no manager";
+
+const ALL_HELP: &str = "For sync: puts everything again, as behind a boot or in another store";
+
 const AFTER_HELP: &str =
     "Words after -- may begin with a -. A refusal prints one line, as E4 NotFound a.service; umd help E4 says what it means and what to do.
 
 With --wait start and restart end with 0 where the unit is active, one that runs still under the same process a second later, or where it has ended with success; stop where it is inactive or failed, but for result timeout.
+
+sync puts what is new or changed in the folders etc, run and lib of a folder, removes what was put of it before and is gone, and then reloads. It prints a line a change, as put lib/a.service. What it put stands in the folder's file .umd-sync; what others put, and links that enable made, stay.
 
 Exit statuses: 0 done; 1 refused, or with --wait not as asked; 2 wrong words; 3 not active, not failed, not enabled; 4 no connection, or it was closed unread and the request not taken; 5 a fault; 6 no reply in time.
 
@@ -78,6 +93,7 @@ For example:
   umd ctl --socket /run/umd/socket start --mode fail a
   umd ctl --socket /run/umd/socket --retry 10 --timeout 60 list-units
   UMD_SOCKET=/run/umd/socket umd ctl --wait --timeout 60 start a
+  umd ctl --socket /run/umd/socket sync --dry-run /etc/units
   umd ctl --socket /run/umd/socket start shutdown.target
 
 The last one stops everything but units with DefaultDependencies=no.
@@ -91,7 +107,8 @@ fn command<'a>(alloc: Global) -> Result<Command<'a>, AllocError>
     let command = described(
         alloc,
         "umd ctl",
-        "umd ctl [--socket <PATH>] [--retry <SECONDS>] [--timeout <SECONDS>] [--mode <MODE>] [--wait] <VERB> [ARG]..",
+        "umd ctl [--socket <PATH>] [--retry <SECONDS>] [--timeout <SECONDS>] [--mode <MODE>] [--wait] <VERB> [ARG]..
+umd ctl [--socket <PATH>] [--retry <SECONDS>] [--timeout <SECONDS>] [--dry-run] [--all] sync <DIR>",
         "Asks the manager at a socket, and prints the value of its reply as JSON",
         AFTER_HELP,
     );
@@ -100,29 +117,38 @@ fn command<'a>(alloc: Global) -> Result<Command<'a>, AllocError>
     let command = with_optional(command, alloc, "timeout", "SECONDS", TIMEOUT_HELP)?;
     let command = with_optional(command, alloc, "mode", "MODE", MODE_HELP)?;
     let command = with_flag(command, alloc, "wait", WAIT_HELP)?;
+    let command = with_flag(command, alloc, "dry-run", DRY_RUN_HELP)?;
+    let command = with_flag(command, alloc, "all", ALL_HELP)?;
     with_words(command, alloc, "word", "WORD", WORD_HELP)
 }
 
-fn usage(alloc: Global) -> Result<String, AllocError> {
-    String::from_str(alloc, USAGE)
+/// Whether one of the flags of `sync` was given.
+fn has_sync_flag(matches: &ArgMatches<'_>) -> bool
+    ensures { IsTrue result ↔ HasSyncFlag (rows_of (found_of matches.now)) }
+{
+    is_given(matches, "dry-run") || is_given(matches, "all")
 }
 
-/// What the words ask for that hold these values.
-fn ctl_line<'a>(alloc: Global, matches: &ArgMatches<'a>) -> Result<Line<'a>, AllocError>
+/// What a verb with its arguments asks for, how long is waited, and the values.
+fn verb_line<'a>(
+    alloc: Global,
+    matches: &ArgMatches<'a>,
+    retry: Option<u32>,
+    timeout: Option<u32>,
+    words: &[&'a str],
+) -> Result<Line<'a>, AllocError>
+    requires retry { IsTime (first_of (codes "retry") (rows_of (found_of matches.now))) retry }
+    requires timeout { IsTime (first_of (codes "timeout") (rows_of (found_of matches.now))) timeout }
+    requires words { all_of (codes "word") (rows_of (found_of matches.now)) ≡ Some (map (λ word. word.now) words.now) }
+    requires verb { ¬ AsksSync (map (λ word. word.now) words.now) }
     ensures { IfOk result (TakesCtl (rows_of (found_of matches.now))) }
 {
-    let Some(retry) = time(value(matches, "retry")) else {
-        return Ok(Line::Wrong(String::from_str(alloc, NO_TIME)?));
+    let Some((verb, arguments)) = words.split_first() else {
+        return Ok(Line::Wrong(String::from_str(alloc, USAGE)?));
     };
-    let Some(timeout) = time(value(matches, "timeout")) else {
-        return Ok(Line::Wrong(String::from_str(alloc, NO_TIME)?));
-    };
-    let Some(told) = values(matches, "word") else {
-        return Ok(Line::Wrong(usage(alloc)?));
-    };
-    let Some((verb, arguments)) = told.split_first() else {
-        return Ok(Line::Wrong(usage(alloc)?));
-    };
+    if has_sync_flag(matches) {
+        return Ok(Line::Wrong(String::from_str(alloc, NO_SYNC)?));
+    }
     let arguments = copied(alloc, arguments)?;
     Ok(Line::Ctl(CtlLine {
         socket: value(matches, "socket"),
@@ -135,10 +161,45 @@ fn ctl_line<'a>(alloc: Global, matches: &ArgMatches<'a>) -> Result<Line<'a>, All
     }))
 }
 
+/// Whether the first word is `sync`.
+fn asks_sync(words: &[&str]) -> bool
+    ensures { IsTrue result ↔ AsksSync (map (λ word. word.now) words.now) }
+{
+    match words.split_first() {
+        Some((first, _)) => *first == "sync",
+        None => false,
+    }
+}
+
+/// What the words ask for that hold these values.
+fn ctl_line<'a>(alloc: Global, matches: &ArgMatches<'a>) -> Result<Line<'a>, AllocError>
+    ensures { IfOk result (TakesCtl (rows_of (found_of matches.now))) }
+{
+    let Some(retry) = time(value(matches, "retry")) else {
+        return Ok(Line::Wrong(String::from_str(alloc, NO_TIME)?));
+    };
+    let Some(timeout) = time(value(matches, "timeout")) else {
+        return Ok(Line::Wrong(String::from_str(alloc, NO_TIME)?));
+    };
+    let Some(words) = values(matches, "word") else {
+        return Ok(Line::Wrong(String::from_str(alloc, USAGE)?));
+    };
+    if asks_sync(words) {
+        sync_line(alloc, matches, retry, timeout, words)
+    } else {
+        verb_line(alloc, matches, retry, timeout, words)
+    }
+}
+
+/// How it lists `sync`, which is no verb of a request.
+const SYNC: &str = "  sync [--dry-run] [--all] <dir>
+";
+
 /// The help, with a line for each verb.
 fn with_verbs(alloc: Global, help: String) -> Result<String, AllocError> {
     let mut text = help;
     text.push_str(verb_lines(alloc)?.as_str())?;
+    text.push_str(SYNC)?;
     Ok(text)
 }
 

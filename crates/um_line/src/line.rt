@@ -9,6 +9,7 @@ use crate::logs::{LogsLine, read_logs};
 use crate::run::read_run;
 use crate::serve::{ServeLine, read_serve};
 use crate::status::{StatusLine, read_status};
+use crate::sync::SyncLine;
 use crate::top::read_top;
 use crate::verify::{VerifyLine, read_verify};
 use std::alloc::{AllocError, Global};
@@ -31,6 +32,8 @@ pub enum Line<'a> {
     LongBoot,
     /// To ask the manager at a socket.
     Ctl(CtlLine<'a>),
+    /// To bring the manager at a socket what a folder holds.
+    Sync(SyncLine<'a>),
     /// To show how units stand.
     Status(StatusLine<'a>),
     /// To look at unit files.

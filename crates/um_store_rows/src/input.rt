@@ -1,11 +1,11 @@
 //! The canonical bytes of inputs: each of the 18, typed from the format, and what is no input.
-use crate::spelled::{hex, is_not_read, is_read, is_spelled};
+use crate::spelled::{hex, is_not_read, is_read, is_spelled, read_from};
 use std::process::Abort;
 use um_asserts::{same, text, unit};
 use um_model::{End, InstallVerb, JobMode, Moment, Profile, UnitVerb};
 use um_state::{BootId, Command, Event, Happening, Input};
 use um_tree::Tree;
-use um_wire::{Canon, spell};
+use um_wire::spell;
 
 /// The unit of each command for one.
 const UNIT: &str = "a.service";
@@ -174,8 +174,7 @@ const PROFILES: &[(Profile, &str)] = &[
 /// Asserts that an input of this profile is read from the bytes, and is spelled by them.
 fn is_of_profile(rt: &(impl AllocGlobal + Abort), profile: Profile, bytes: &[u8]) {
     is_read::<Input>(rt, bytes);
-    let found = Input::get(rt.alloc(), bytes).expect(rt, "no memory");
-    let (input, _) = found.expect(rt, "it isn't read");
+    let input: Input = read_from(rt, bytes);
     same!(rt, input.profile(), profile);
 }
 

@@ -28,6 +28,13 @@ pub fn is_read<T: Canon + Drop>(rt: &(impl AllocGlobal + Abort), bytes: &[u8]) {
     has_spelling(rt, &read, bytes);
 }
 
+/// The value that is read from the bytes.
+pub fn read_from<T: Canon + Drop>(rt: &(impl AllocGlobal + Abort), bytes: &[u8]) -> T {
+    let found = T::get(rt.alloc(), bytes).expect(rt, "no memory");
+    let (read, _) = found.expect(rt, "what is spelled isn't read");
+    read
+}
+
 /// Asserts that no front of the bytes spells a value, in this row.
 pub fn is_not_read<T: Canon + Drop, R: Debug + Drop>(
     rt: &(impl AllocGlobal + Abort),

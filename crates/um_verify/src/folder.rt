@@ -13,8 +13,11 @@ const LAYERS: [&str; 3] = ["etc", "run", "lib"];
 /// What the folders of a unit end in.
 const FOLDERS: [&str; 3] = [".d", ".wants", ".requires"];
 
-/// So many bytes of a file are read: one more than a tree's may have.
-const LONGEST: u64 = 65_537;
+/// A tree's file has so many bytes at most; of a file one more is read.
+const LONGEST: usize = 65_536;
+
+/// The names of what a sync keeps in a folder begin so.
+const SYNC: &str = ".umd-sync";
 
 /// That what stands at the path can't be read; want of memory as such.
 fn unread(alloc: Global, path: &str, fault: io::Error) -> VerifyFault {
@@ -30,7 +33,9 @@ fn unread(alloc: Global, path: &str, fault: io::Error) -> VerifyFault {
 /// The first bytes of a file.
 fn bytes_of<R: Files>(rt: &R, alloc: Global, path: &str) -> io::Result<Vec<u8>> {
     let mut bytes = Vec::new(alloc);
-    File::open(rt, path)?.take(LONGEST).read_to_end(&mut bytes)?;
+    File::open(rt, path)?
+        .take(LONGEST as u64 + 1)
+        .read_to_end(&mut bytes)?;
     Ok(bytes)
 }
 
@@ -43,9 +48,10 @@ fn read_file<R: Files>(
 ) -> Result<(), VerifyFault> {
     let alloc = collected.alloc;
     match bytes_of(rt, alloc, path) {
+        Ok(bytes) if bytes.len() > LONGEST => collected.tell_too_long(place, path),
         Ok(bytes) => match String::from_utf8(bytes) {
             Ok(text) => collected.put_file(place, path, text.as_str()),
-            Err(_) => collected.tell(path, "not UTF-8", true),
+            Err(_) => collected.tell_no_text(place, path),
         },
         Err(fault) => Err(unread(alloc, path, fault)),
     }
@@ -62,6 +68,22 @@ fn target_of<R: Files>(rt: &R, alloc: Global, path: &str) -> Result<Option<Strin
     }
 }
 
+/// Puts a link into the tree. False where it can't stand there.
+fn put_link(
+    collected: &mut Collected,
+    place: &str,
+    path: &str,
+    target: Option<&str>,
+) -> Result<bool, VerifyFault> {
+    match target {
+        Some(target) => collected.put_link(place, path, target),
+        None => {
+            collected.no_place(place)?;
+            Ok(false)
+        }
+    }
+}
+
 /// Reads a link into the tree, or, where such a link can't stand there, the file that it leads to.
 fn read_link<R: Files>(
     rt: &R,
@@ -70,10 +92,8 @@ fn read_link<R: Files>(
     path: &str,
 ) -> Result<(), VerifyFault> {
     let target = target_of(rt, collected.alloc, path)?;
-    if let Some(target) = &target {
-        if collected.put_link(place, path, target.as_str())? {
-            return Ok(());
-        }
+    if put_link(collected, place, path, target.as_deref())? {
+        return Ok(());
     }
     match fs::metadata(rt, path) {
         Ok(about) if about.is_file() => read_file(rt, collected, place, path),
@@ -94,7 +114,7 @@ fn read_entry<R: Files>(
     match fs::symlink_metadata(rt, path) {
         Ok(about) if about.is_symlink() => read_link(rt, collected, place, path),
         Ok(about) if about.is_file() => read_file(rt, collected, place, path),
-        Ok(_) => collected.tell_no_unit(path),
+        Ok(_) => collected.tell_no_place(place, path),
         Err(fault) => Err(unread(collected.alloc, path, fault)),
     }
 }
@@ -192,7 +212,7 @@ fn read_layers<R: Files>(rt: &R, collected: &mut Collected, path: &str) -> Resul
         let inner = joined(alloc, path, name.as_str())?;
         if is_layer(rt, alloc, path, name.as_str())? {
             read_layer(rt, collected, name.as_str(), inner.as_str())?;
-        } else {
+        } else if !name.as_str().starts_with(SYNC) {
             collected.tell_no_unit(inner.as_str())?;
         }
     }
@@ -217,13 +237,22 @@ fn read_named<R: Files>(rt: &R, collected: &mut Collected, path: &str) -> Result
     }
 }
 
+/// The path of a folder, without slashes at its end.
+fn folder_at(path: &str) -> &str {
+    let folder = path.trim_end_matches('/');
+    if folder.is_empty() && !path.is_empty() {
+        "/"
+    } else {
+        folder
+    }
+}
+
 /// Reads what a path names.
 fn read_path<R: Files>(rt: &R, collected: &mut Collected, path: &str) -> Result<(), VerifyFault> {
     let alloc = collected.alloc;
-    let folder = path.trim_end_matches('/');
     match fs::metadata(rt, path) {
         Ok(about) if about.is_dir() => {
-            let folder = if folder.is_empty() { "/" } else { folder };
+            let folder = folder_at(path);
             if has_layers(rt, alloc, folder)? {
                 read_layers(rt, collected, folder)
             } else {
@@ -243,6 +272,38 @@ pub fn collect<R: Files>(rt: &R, alloc: Global, paths: &[&str]) -> Result<Collec
     let mut collected = Collected::new(alloc);
     for path in paths {
         read_path(rt, &mut collected, path)?;
+    }
+    Ok(collected)
+}
+
+/// Reads what stands at a layer's name in a folder: another folder, and nothing else can be.
+fn read_own_layer<R: Files>(
+    rt: &R,
+    collected: &mut Collected,
+    folder: &str,
+    layer: &str,
+) -> Result<(), VerifyFault> {
+    let path = joined(collected.alloc, folder, layer)?;
+    if is_folder(rt, path.as_str()) {
+        read_layer(rt, collected, layer, path.as_str())
+    } else {
+        collected.no_place(layer)
+    }
+}
+
+/// Reads the folders `etc`, `run` and `lib` of a folder into a tree, as `collect` does, and nothing else of it. What can't be put at its place in a tree
+/// is among the misfits too.
+pub fn collect_layers<R: Files>(
+    rt: &R,
+    alloc: Global,
+    folder: &str,
+) -> Result<Collected, VerifyFault> {
+    let folder = folder_at(folder);
+    let mut collected = Collected::new(alloc);
+    for name in &names_in(rt, alloc, folder)? {
+        if LAYERS.contains(&name.as_str()) {
+            read_own_layer(rt, &mut collected, folder, name.as_str())?;
+        }
     }
     Ok(collected)
 }

@@ -18,7 +18,7 @@ mod units;
 
 pub use fault::VerifyFault;
 pub use finding::Finding;
-pub use folder::collect;
+pub use folder::{collect, collect_layers};
 pub use laws::{all_assignments_are_looked_through, the_first_refused_key_is_told};
 pub use places::Collected;
 pub use reasons::{Looked, look_at};

@@ -16,6 +16,8 @@ pub struct Collected {
     pub(crate) origins: BTreeMap<String, String>,
     /// What was told of what isn't in the tree.
     pub(crate) findings: Vec<Finding>,
+    /// What can't be put at its place in a tree, and why, a line each.
+    pub(crate) misfits: Vec<String>,
 }
 
 impl Collected {
@@ -26,12 +28,55 @@ impl Collected {
             tree: Tree::new(alloc),
             origins: BTreeMap::new(alloc),
             findings: Vec::new(alloc),
+            misfits: Vec::new(alloc),
         }
+    }
+
+    /// The files and links that were read.
+    pub fn tree(&self) -> &Tree {
+        &self.tree
+    }
+
+    /// What no command would put at its place in a tree, and why: `lib/a.txt: E12 BadPath lib/a.txt`.
+    pub fn misfits(&self) -> &[String] {
+        self.misfits.as_slice()
+    }
+
+    /// Notes that what stands at a place can't be put there.
+    pub(crate) fn misfit(&mut self, place: &str, why: &str) -> Result<(), VerifyFault> {
+        let line = format!(in self.alloc; "{place}: {why}")?;
+        self.misfits.push(line)?;
+        Ok(())
+    }
+
+    /// Notes that nothing of this kind can be put at a place, or nothing at all.
+    pub(crate) fn no_place(&mut self, place: &str) -> Result<(), VerifyFault> {
+        let line = format!(in self.alloc; "{place}: E12 BadPath {place}")?;
+        self.misfits.push(line)?;
+        Ok(())
     }
 
     /// Tells of a file that it is none of a unit.
     pub(crate) fn tell_no_unit(&mut self, path: &str) -> Result<(), VerifyFault> {
         self.tell(path, "no unit file", false)
+    }
+
+    /// Tells of what stands at a place that it is no file of a unit.
+    pub(crate) fn tell_no_place(&mut self, place: &str, path: &str) -> Result<(), VerifyFault> {
+        self.no_place(place)?;
+        self.tell_no_unit(path)
+    }
+
+    /// Tells of a file that it is no text.
+    pub(crate) fn tell_no_text(&mut self, place: &str, path: &str) -> Result<(), VerifyFault> {
+        self.misfit(place, "not UTF-8")?;
+        self.tell(path, "not UTF-8", true)
+    }
+
+    /// Tells of a file that it is too long.
+    pub(crate) fn tell_too_long(&mut self, place: &str, path: &str) -> Result<(), VerifyFault> {
+        self.misfit(place, "E13 TooLarge text")?;
+        self.tell(path, "longer than 65536 bytes", true)
     }
 
     /// Tells of a file as a whole.
@@ -44,7 +89,7 @@ impl Collected {
     /// Whether a file may stand at the path of the tree: false, and told, where none can.
     pub(crate) fn takes(&mut self, place: &str, path: &str) -> Result<bool, VerifyFault> {
         if ServedPath::parse(place).is_none() {
-            self.tell_no_unit(path)?;
+            self.tell_no_place(place, path)?;
             return Ok(false);
         }
         match self.origins.get(place) {
@@ -77,7 +122,7 @@ impl Collected {
                 Refusal::TooLarge {
                     limit: um_wire::Limit::Text,
                 },
-            ) => self.tell(path, "longer than 65536 bytes", true),
+            ) => self.tell_too_long(place, path),
             Err(refusal) => Err(VerifyFault::from(refusal)),
         }
     }
@@ -94,7 +139,10 @@ impl Collected {
                 self.note(place, path)?;
                 Ok(true)
             }
-            Err(Refusal::BadPath { path: _ }) => Ok(false),
+            Err(Refusal::BadPath { path: _ }) => {
+                self.no_place(place)?;
+                Ok(false)
+            }
             Err(refusal) => Err(VerifyFault::from(refusal)),
         }
     }

@@ -112,6 +112,7 @@ pub fn verify(collected: Collected) -> Result<Vec<Finding>, VerifyFault> {
         tree,
         origins,
         findings,
+        misfits: _,
     } = collected;
     let mut findings = findings;
     for (name, path) in &units_in(alloc, &tree)? {

@@ -15,6 +15,7 @@ mod serving;
 mod showing;
 mod starting;
 mod surroundings;
+mod syncing;
 mod telling;
 mod um_bin;
 mod verifying;
@@ -36,6 +37,7 @@ use std::process::{ExitCode, Processes};
 use std::time::Clock;
 use std::{env, io, process};
 use surroundings::Surroundings;
+use syncing::sync;
 use um_bin::{memory, read_line};
 use um_create::{Layout, create_store};
 use um_ctl::{meaning_line, shown};
@@ -180,6 +182,7 @@ where
         Line::Create(line) => Ok(create(rt, alloc, line)),
         Line::Check(line) => check(rt, alloc, line),
         Line::Ctl(line) => ctl(rt, alloc, line, surroundings),
+        Line::Sync(line) => sync(rt, alloc, *line, surroundings),
         Line::Status(line) => show_units(rt, alloc, line, surroundings),
         Line::Logs(line) => logs(rt, alloc, line, surroundings.output),
         Line::Serve(line) => Ok(serve_store(rt, alloc, line, surroundings.is_first)),

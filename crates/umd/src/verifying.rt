@@ -30,7 +30,7 @@ fn findings_in<R: Files>(
 }
 
 /// Says why nothing is looked at, and gives the exit status.
-fn tell<R: Eprint>(rt: &R, alloc: Global, fault: &VerifyFault) -> Result<u8, Fault> {
+pub fn tell_unread<R: Eprint>(rt: &R, alloc: Global, fault: &VerifyFault) -> Result<u8, Fault> {
     match fault {
         VerifyFault::Twice { path, other } => {
             put_line(
@@ -60,7 +60,7 @@ pub fn verify<R: Files + Print + Eprint>(
 ) -> Result<u8, Fault> {
     let findings = match findings_in(rt, alloc, line.paths.as_slice()) {
         Ok(findings) => findings,
-        Err(fault) => return tell(rt, alloc, &fault),
+        Err(fault) => return tell_unread(rt, alloc, &fault),
     };
     put_text(rt, text_of(alloc, findings.as_slice())?.as_str())?;
     if findings.iter().any(|finding| finding.stops) {

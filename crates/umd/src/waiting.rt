@@ -4,6 +4,7 @@ use crate::lines::put_line;
 use crate::messages::{DEVICE, REFUSED, ctl_fault};
 use serde_json::Value;
 use std::alloc::Global;
+use std::io::Read;
 use std::net::Net;
 use std::thread;
 use std::time::{Clock, Duration, Instant};
@@ -89,12 +90,16 @@ impl<'a, R: Net + Clock + Input> Asking<'a, R> {
 
     /// What is told of the reply to these words.
     pub fn ask(&self, words: &Words<'_>) -> Result<Told, CtlFault> {
+        self.ask_with(words, &mut self.rt.reader())
+    }
+
+    /// What is told of the reply to these words, with the text of a file from the input.
+    pub fn ask_with<I: Read>(&self, words: &Words<'_>, input: &mut I) -> Result<Told, CtlFault> {
         let patience = Patience {
             retry: self.retry,
             timeout: self.left()?,
         };
-        let (rt, alloc, socket) = (self.rt, self.alloc, self.socket);
-        match ask(rt, alloc, socket, words, patience, &mut rt.reader()) {
+        match ask(self.rt, self.alloc, self.socket, words, patience, input) {
             Ok(told) => Ok(told),
             Err(fault) => Err(self.of_whole(fault)),
         }

@@ -7,4 +7,6 @@ returns c =
     let retry = added _ _ _ _ c.in_ok-command-2.ensures socket in
     let timeout = added _ _ _ _ c.in_ok-command-3.ensures retry in
     let mode = added _ _ _ _ c.in_ok-command-4.ensures timeout in
-    let wait = added _ _ _ _ c.in_ok-command-5.ensures mode in added_last _ _ _ _ c.with_words.ensures wait
+    let wait = added _ _ _ _ c.in_ok-command-5.ensures mode in
+    let dry_run = added _ _ _ _ c.in_ok-command-6.ensures wait in
+    let all = added _ _ _ _ c.in_ok-command-7.ensures dry_run in added_last _ _ _ _ c.with_words.ensures all
