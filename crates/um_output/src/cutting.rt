@@ -8,6 +8,18 @@ use std::io::{Seek, SeekFrom};
 use std::{fs, io};
 use um_model::ProcessNumber;
 
+/// Copies so many bytes of a file, from where it stands, to a new one at the path.
+fn copy_to_new<R: Files>(
+    rt: &R,
+    file: &mut R::File,
+    size: u64,
+    path: &str,
+    room: &mut [u8],
+) -> io::Result<()> {
+    let mut draft = make_new(rt, path)?;
+    copy_up_to(file, &mut draft, size, room)
+}
+
 /// Copies so many of the last bytes of a file, which has this length, to a new one at the path.
 fn copy_last<R: Files>(
     rt: &R,
@@ -19,11 +31,30 @@ fn copy_last<R: Files>(
 ) -> io::Result<()> {
     let mut room = room(alloc)?;
     file.seek(SeekFrom::Start(length.saturating_sub(size)))?;
-    let mut draft = make_new(rt, path)?;
-    copy_up_to(file, &mut draft, size, room.as_mut_slice())
+    copy_to_new(rt, file, size, path, room.as_mut_slice())
 }
 
-/// Keeps so many of the last bytes of a number's file beside it, by way of a draft.
+/// Puts so many of the last bytes of a file in place of what stands at `old`, by way of a draft.
+fn replace_old<R: Files>(
+    rt: &R,
+    alloc: Global,
+    file: &mut R::File,
+    size: u64,
+    draft: &str,
+    old: &str,
+) -> io::Result<()> {
+    let length = file.metadata()?.len();
+    match copy_last(rt, alloc, file, length, size, draft) {
+        Ok(()) => fs::rename(rt, draft, old),
+        Err(fault) => {
+            // what is left of it where this fails goes at an opening
+            let _left = remove(rt, draft);
+            Err(fault)
+        }
+    }
+}
+
+/// Keeps so many of the last bytes of a number's file beside it.
 fn keep_last<R: Files>(
     rt: &R,
     alloc: Global,
@@ -34,15 +65,12 @@ fn keep_last<R: Files>(
 ) -> io::Result<()> {
     let draft = path_of(alloc, folder, number, Part::Draft)?;
     let old = path_of(alloc, folder, number, Part::Old)?;
-    let length = file.metadata()?.len();
-    match copy_last(rt, alloc, file, length, size, draft.as_str()) {
-        Ok(()) => fs::rename(rt, draft.as_str(), old.as_str()),
-        Err(fault) => {
-            // what is left of it where this fails goes at an opening
-            let _left = remove(rt, draft.as_str());
-            Err(fault)
-        }
-    }
+    replace_old(rt, alloc, file, size, draft.as_str(), old.as_str())
+}
+
+/// Opens a file that is to be cut.
+fn open_whole<R: Files>(rt: &R, path: &str) -> io::Result<R::File> {
+    OpenOptions::new().read(true).write(true).open(rt, path)
 }
 
 /// Keeps so many of the last bytes of a number's file beside it, and cuts the file to nothing; who writes to it adds, and so goes on. It is cut too where
@@ -55,11 +83,7 @@ pub(crate) fn cut<R: Files>(
     size: u64,
 ) -> io::Result<()> {
     let path = path_of(alloc, folder, number, Part::Printed)?;
-    let mut file = OpenOptions::new()
-        .read(true)
-        .write(true)
-        .open(rt, path.as_str())?;
+    let mut file = open_whole(rt, path.as_str())?;
     let kept = keep_last(rt, alloc, folder, number, &mut file, size);
-    file.set_len(0)?;
-    kept
+    file.set_len(0).and(kept)
 }

@@ -6,14 +6,14 @@ ghost use Rattle.um_output.specs.Ends as model;
 use crate::files::{MODE, is_regular, make_folder, make_new, path_of_name};
 use crate::lines::newer_half;
 use std::alloc::{AllocError, Global};
-use std::fs::{Files, OpenFile, OpenOptions};
+use std::fs::{File, Files, OpenFile, OpenOptions};
 use std::io::{ErrorKind, Read, Write};
 use std::os::unix::fs::OpenOptionsExt;
 use std::{fs, io};
 use um_model::{End, Fate, Moment, ProcessNumber};
 
 /// How a process ended, or that it never started.
-#[derive(Clone, Copy, Debug, PartialEq, Eq)]
+#[derive(Clone, Copy)]
 pub enum Ended {
     By(End),
     NotStarted,
@@ -67,16 +67,24 @@ pub fn end_line(
     format!(in alloc; "{number} {moment} {text}")
 }
 
-/// Gives the file the newer half of its text, by way of a draft.
+/// The bytes of a file.
+fn bytes_of<R: Files>(rt: &R, alloc: Global, path: &str) -> io::Result<Vec<u8>> {
+    let mut bytes = Vec::new(alloc);
+    File::open(rt, path)?.read_to_end(&mut bytes)?;
+    Ok(bytes)
+}
+
+/// Puts the bytes in place of a file, by way of a draft.
+fn replace<R: Files>(rt: &R, path: &str, draft: &str, bytes: &[u8]) -> io::Result<()> {
+    make_new(rt, draft)?.write_all(bytes)?;
+    fs::rename(rt, draft, path)
+}
+
+/// Gives the file the newer half of its text.
 fn halve<R: Files>(rt: &R, alloc: Global, folder: &str, path: &str) -> io::Result<()> {
-    let mut text = Vec::new(alloc);
-    OpenOptions::new()
-        .read(true)
-        .open(rt, path)?
-        .read_to_end(&mut text)?;
+    let text = bytes_of(rt, alloc, path)?;
     let draft = path_of_name(alloc, folder, DRAFT)?;
-    make_new(rt, draft.as_str())?.write_all(newer_half(text.as_slice()))?;
-    fs::rename(rt, draft.as_str(), path)
+    replace(rt, path, draft.as_str(), newer_half(text.as_slice()))
 }
 
 /// Opens the file at the path to be added to; it is made where it isn't there, and so is its folder.
@@ -102,18 +110,28 @@ pub(crate) fn begin_ends<R: Files>(rt: &R, alloc: Global, folder: &str) -> io::R
     Ok(())
 }
 
-/// Adds the line to the ends in the folder of a unit, of which the older half goes where they are too long.
-pub(crate) fn add_end<R: Files>(rt: &R, alloc: Global, folder: &str, line: &str) -> io::Result<()> {
-    let path = path_of_name(alloc, folder, NAME)?;
-    let path = path.as_str();
+/// Adds the line to the file at the path, and gives how long this is then.
+fn add_line<R: Files>(rt: &R, folder: &str, path: &str, line: &str) -> io::Result<u64> {
+    let mut file = open_to_add(rt, folder, path)?;
+    file.write_all(line.as_bytes())?;
+    Ok(file.metadata()?.len())
+}
+
+/// Adds the line to the ends at the path.
+fn add_to<R: Files>(rt: &R, alloc: Global, folder: &str, path: &str, line: &str) -> io::Result<()> {
     // what is no regular file is left as it is: the opening of a pipe would wait
     if !is_regular(rt, path)? {
         return Ok(());
     }
-    let mut file = open_to_add(rt, folder, path)?;
-    file.write_all(line.as_bytes())?;
-    if file.metadata()?.len() > LONGEST {
-        halve(rt, alloc, folder, path)?;
+    if add_line(rt, folder, path, line)? > LONGEST {
+        halve(rt, alloc, folder, path)
+    } else {
+        Ok(())
     }
-    Ok(())
+}
+
+/// Adds the line to the ends in the folder of a unit, of which the older half goes where they are too long.
+pub(crate) fn add_end<R: Files>(rt: &R, alloc: Global, folder: &str, line: &str) -> io::Result<()> {
+    let path = path_of_name(alloc, folder, NAME)?;
+    add_to(rt, alloc, folder, path.as_str(), line)
 }

@@ -5,7 +5,7 @@ use thiserror::Error;
 use um_model::ProcessNumber;
 
 /// What couldn't be done for the output of a process, or of a whole unit.
-#[derive(Debug, Drop)]
+#[derive(Drop)]
 pub struct Failure {
     pub number: Option<ProcessNumber>,
     pub error: io::Error,

@@ -6,7 +6,7 @@ ghost use Rattle.um_output.specs.Files as model;
 ghost use Rattle.um_output.specs.declared.files.Part.{Part};
 
 use std::alloc::Global;
-use std::fs::{DirBuilder, Files, OpenOptions};
+use std::fs::{DirBuilder, DirEntry, Files, OpenOptions, ReadDir};
 use std::io::ErrorKind;
 use std::os::unix::fs::{DirBuilderExt, OpenOptionsExt};
 use std::{fs, io};
@@ -23,7 +23,7 @@ const FOLDER_MODE: u32 = 0o700;
 const TRIES: u32 = 8;
 
 /// What a file of a number is.
-#[derive(Clone, Copy, Debug, PartialEq, Eq)]
+#[derive(Clone, Copy, PartialEq, Eq)]
 pub(crate) enum Part {
     /// What the process prints.
     Printed,
@@ -47,7 +47,7 @@ impl Part {
 }
 
 /// A file of a number.
-#[derive(Clone, Copy, Debug, PartialEq, Eq)]
+#[derive(Clone, Copy)]
 pub(crate) struct OutputFile {
     pub(crate) number: ProcessNumber,
     pub(crate) part: Part,
@@ -95,24 +95,57 @@ pub(crate) fn path_of(
     Ok(format!(in alloc; "{folder}/{number}{ending}")?)
 }
 
+/// Adds the name of an entry.
+fn push_entry<R: Files>(
+    names: &mut Vec<String>,
+    alloc: Global,
+    entry: io::Result<DirEntry<(&R, Global)>>,
+) -> io::Result<()> {
+    names.push(String::from_str(alloc, entry?.file_name())?)?;
+    Ok(())
+}
+
+/// Adds the names of these entries.
+fn push_entries<R: Files>(
+    names: &mut Vec<String>,
+    alloc: Global,
+    entries: ReadDir<(&R, Global)>,
+) -> io::Result<()> {
+    for entry in entries {
+        push_entry(names, alloc, entry)?;
+    }
+    Ok(())
+}
+
+/// The names of what stands in the folder.
+pub(crate) fn names_in<R: Files>(rt: &R, alloc: Global, folder: &str) -> io::Result<Vec<String>> {
+    let mut names = Vec::new(alloc);
+    push_entries(&mut names, alloc, fs::read_dir(&(rt, alloc), folder)?)?;
+    Ok(names)
+}
+
+/// The files of numbers that have one of these names.
+fn files_among(alloc: Global, names: &[String]) -> io::Result<Vec<OutputFile>> {
+    let mut files = Vec::new(alloc);
+    for name in names {
+        if let Some(file) = file_named(name.as_str()) {
+            files.push(file)?;
+        }
+    }
+    Ok(files)
+}
+
 /// The files of numbers that stand in the folder; none where it isn't there.
 pub(crate) fn files_in<R: Files>(
     rt: &R,
     alloc: Global,
     folder: &str,
 ) -> io::Result<Vec<OutputFile>> {
-    let mut files = Vec::new(alloc);
-    let entries = match fs::read_dir(&(rt, alloc), folder) {
-        Ok(entries) => entries,
-        Err(fault) if fault.kind() == ErrorKind::NotFound => return Ok(files),
-        Err(fault) => return Err(fault),
-    };
-    for entry in entries {
-        if let Some(file) = file_named(entry?.file_name()) {
-            files.push(file)?;
-        }
+    match names_in(rt, alloc, folder) {
+        Ok(names) => files_among(alloc, names.as_slice()),
+        Err(fault) if fault.kind() == ErrorKind::NotFound => Ok(Vec::new(alloc)),
+        Err(fault) => Err(fault),
     }
-    Ok(files)
 }
 
 /// Whether a folder stands at the path.

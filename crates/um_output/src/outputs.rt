@@ -3,7 +3,8 @@
 use crate::ends::{Ended, add_end, begin_ends, end_line};
 use crate::fault::{Failure, OpenFault};
 use crate::files::{
-    OutputFile, Part, files_in, is_folder, length_of, make_folder, path_of, path_of_name, remove,
+    OutputFile, Part, files_in, is_folder, length_of, make_folder, names_in, path_of, path_of_name,
+    remove,
 };
 use crate::kept::{foreign_in, is_among};
 use crate::unit_folder::{KEPT, finish, look_after, place, prune, tidy};
@@ -11,7 +12,7 @@ use std::alloc::Global;
 use std::collections::BTreeMap;
 use std::fs::Files;
 use std::time::{Duration, Instant};
-use std::{fs, io, mem};
+use std::{io, mem};
 use um_model::{Fate, Moment, NextNumber, ProcessNumber};
 use um_name::{UnitName, is_unit_name};
 use um_state::State;
@@ -31,6 +32,23 @@ struct Live {
     is_placed: bool,
     /// How it ended was written down.
     is_told: bool,
+}
+
+impl Live {
+    /// Moves its file from one folder into that of the unit, where it doesn't stand there yet.
+    fn place<R: Files>(
+        &mut self,
+        rt: &R,
+        alloc: Global,
+        from: &str,
+        folder: &str,
+    ) -> io::Result<()> {
+        if !self.is_placed {
+            place_in(rt, alloc, from, folder, self.number)?;
+            self.is_placed = true;
+        }
+        Ok(())
+    }
 }
 
 /// The output of a manager's processes in a folder, where each writes to a file of its number: it is moved into the folder of its unit, cut where it is
@@ -65,7 +83,33 @@ fn admit(files: &[OutputFile], next: NextNumber) -> Result<(), OpenFault> {
     }
 }
 
-/// Refuses the files of another store in these folders, and in that of output whose unit nobody told.
+/// Refuses the files of another store in this folder.
+fn admit_at<R: Files>(
+    rt: &R,
+    alloc: Global,
+    path: &str,
+    next: NextNumber,
+) -> Result<(), OpenFault> {
+    let files = files_in(rt, alloc, path)?;
+    admit(files.as_slice(), next)
+}
+
+/// Refuses them in the folder of output whose unit nobody told.
+fn admit_lost<R: Files>(
+    rt: &R,
+    alloc: Global,
+    folder: &str,
+    next: NextNumber,
+) -> Result<(), OpenFault> {
+    let lost = path_of_name(alloc, folder, LOST)?;
+    if is_folder(rt, lost.as_str())? {
+        admit_at(rt, alloc, lost.as_str(), next)
+    } else {
+        Ok(())
+    }
+}
+
+/// Refuses them in these folders, and in that of output whose unit nobody told.
 fn admit_in<R: Files>(
     rt: &R,
     alloc: Global,
@@ -74,30 +118,48 @@ fn admit_in<R: Files>(
     next: NextNumber,
 ) -> Result<(), OpenFault> {
     for path in folders {
-        let files = files_in(rt, alloc, path.as_str())?;
-        admit(files.as_slice(), next)?;
+        admit_at(rt, alloc, path.as_str(), next)?;
     }
-    let lost = path_of_name(alloc, folder, LOST)?;
-    if !is_folder(rt, lost.as_str())? {
-        return Ok(());
+    admit_lost(rt, alloc, folder, next)
+}
+
+/// The path of what has this name in the folder, where it is the folder of a unit.
+fn unit_folder<R: Files>(
+    rt: &R,
+    alloc: Global,
+    folder: &str,
+    name: &str,
+) -> io::Result<Option<String>> {
+    if !is_unit_name(name) {
+        return Ok(None);
     }
-    let files = files_in(rt, alloc, lost.as_str())?;
-    admit(files.as_slice(), next)
+    let path = path_of_name(alloc, folder, name)?;
+    if is_folder(rt, path.as_str())? {
+        return Ok(Some(path));
+    }
+    Ok(None)
+}
+
+/// The paths of the folders of units in a folder, where these names stand.
+fn unit_folders_among<R: Files>(
+    rt: &R,
+    alloc: Global,
+    folder: &str,
+    names: &[String],
+) -> io::Result<Vec<String>> {
+    let mut folders = Vec::new(alloc);
+    for name in names {
+        if let Some(path) = unit_folder(rt, alloc, folder, name.as_str())? {
+            folders.push(path)?;
+        }
+    }
+    Ok(folders)
 }
 
 /// The paths of the folders of units in a folder.
 fn unit_folders<R: Files>(rt: &R, alloc: Global, folder: &str) -> io::Result<Vec<String>> {
-    let mut folders = Vec::new(alloc);
-    for entry in fs::read_dir(&(rt, alloc), folder)? {
-        let entry = entry?;
-        if is_unit_name(entry.file_name()) {
-            let path = path_of_name(alloc, folder, entry.file_name())?;
-            if is_folder(rt, path.as_str())? {
-                folders.push(path)?;
-            }
-        }
-    }
-    Ok(folders)
+    let names = names_in(rt, alloc, folder)?;
+    unit_folders_among(rt, alloc, folder, names.as_slice())
 }
 
 /// The numbers of the live processes of a state.
@@ -132,24 +194,45 @@ impl<'a, R: Files> Outputs<'a, R> {
         size: u64,
         state: &State,
     ) -> Result<Outputs<'a, R>, OpenFault> {
-        let mut outputs = Outputs {
+        let mut outputs = Outputs::new(rt, alloc, folder, size, state.clock());
+        outputs.look_through(state)?;
+        Ok(outputs)
+    }
+
+    /// Nothing of what stands in the folder is known yet.
+    fn new(rt: &'a R, alloc: Global, folder: &'a str, size: u64, moment: Moment) -> Outputs<'a, R> {
+        Outputs {
             rt,
             alloc,
             folder,
             size,
-            moment: state.clock(),
+            moment,
             live: BTreeMap::new(alloc),
             started: Vec::new(alloc),
             ended: Vec::new(alloc),
             looked: None,
             failure: None,
-        };
-        let files = files_in(rt, alloc, folder)?;
-        let folders = unit_folders(rt, alloc, folder)?;
-        admit(files.as_slice(), state.next())?;
-        admit_in(rt, alloc, folder, folders.as_slice(), state.next())?;
-        outputs.take_up(state, files.as_slice(), folders.as_slice())?;
-        Ok(outputs)
+        }
+    }
+
+    /// Looks through the folder, refuses it where it is another store's, and takes up what stands there.
+    fn look_through(&mut self, state: &State) -> Result<(), OpenFault> {
+        let files = files_in(self.rt, self.alloc, self.folder)?;
+        let folders = unit_folders(self.rt, self.alloc, self.folder)?;
+        self.admit_all(files.as_slice(), folders.as_slice(), state.next())?;
+        self.take_up(state, files.as_slice(), folders.as_slice())?;
+        Ok(())
+    }
+
+    /// Refuses the files of another store: those at the top, and those in the folders.
+    fn admit_all(
+        &self,
+        files: &[OutputFile],
+        folders: &[String],
+        next: NextNumber,
+    ) -> Result<(), OpenFault> {
+        admit(files, next)?;
+        admit_in(self.rt, self.alloc, self.folder, folders, next)
     }
 
     /// Takes up the live processes of the state, and puts in order what these folders and files of the folder hold.
@@ -228,18 +311,22 @@ impl<'a, R: Files> Outputs<'a, R> {
         let _noted = self.started.push(number);
     }
 
-    /// Moves what stands at the top of a number whose unit nobody tells; nothing is left of an empty file, and what is no file stays.
-    fn lose(&mut self, number: ProcessNumber) -> io::Result<()> {
-        let path = path_of(self.alloc, self.folder, number, Part::Printed)?;
-        match length_of(self.rt, path.as_str())? {
-            Some(0) => return remove(self.rt, path.as_str()),
-            Some(_) => {}
-            None => return Ok(()),
-        }
+    /// Moves what stands at the top of a number to the output whose unit nobody told, of which the newest stays.
+    fn move_to_lost(&self, number: ProcessNumber) -> io::Result<()> {
         let lost = path_of_name(self.alloc, self.folder, LOST)?;
         make_folder(self.rt, lost.as_str())?;
         let _is_new = place(self.rt, self.alloc, self.folder, lost.as_str(), number)?;
         prune(self.rt, self.alloc, lost.as_str(), &[], LOST_KEPT)
+    }
+
+    /// Moves what stands at the top of a number whose unit nobody tells; nothing is left of an empty file, and what is no file stays.
+    fn lose(&self, number: ProcessNumber) -> io::Result<()> {
+        let path = path_of(self.alloc, self.folder, number, Part::Printed)?;
+        match length_of(self.rt, path.as_str())? {
+            Some(0) => remove(self.rt, path.as_str()),
+            Some(_) => self.move_to_lost(number),
+            None => Ok(()),
+        }
     }
 
     /// Moves the file of a live process into the folder of its unit.
@@ -248,9 +335,14 @@ impl<'a, R: Files> Outputs<'a, R> {
         place_in(self.rt, self.alloc, self.folder, folder.as_str(), number)
     }
 
-    /// Takes up a number that the unit has.
-    fn take_of(&mut self, number: ProcessNumber, unit: &UnitName) -> io::Result<()> {
-        let unit = unit.copy()?;
+    /// Adds a live process.
+    fn add(&mut self, live: Live) -> io::Result<()> {
+        self.live.insert(live.number.get(), live)?;
+        Ok(())
+    }
+
+    /// Takes up a number that the unit of this name has.
+    fn take_named(&mut self, number: ProcessNumber, unit: UnitName) -> io::Result<()> {
         let placed = self.place(number, &unit);
         let live = Live {
             number,
@@ -258,8 +350,12 @@ impl<'a, R: Files> Outputs<'a, R> {
             is_placed: placed.is_ok(),
             is_told: false,
         };
-        self.live.insert(number.get(), live)?;
-        placed
+        self.add(live).and(placed)
+    }
+
+    /// Takes up a number that the unit has.
+    fn take_of(&mut self, number: ProcessNumber, unit: &UnitName) -> io::Result<()> {
+        self.take_named(number, unit.copy()?)
     }
 
     /// Takes up a number by what the state tells of it.
@@ -271,18 +367,27 @@ impl<'a, R: Files> Outputs<'a, R> {
         self.mind(number, taken);
     }
 
+    /// Writes down how a process of the unit ended.
+    fn write_end(&self, number: ProcessNumber, unit: &UnitName, ended: Ended) -> io::Result<()> {
+        let folder = path_of_name(self.alloc, self.folder, unit.as_str())?;
+        let line = end_line(self.alloc, number, self.moment, ended)?;
+        add_end(self.rt, self.alloc, folder.as_str(), line.as_str())
+    }
+
+    /// Notes that it was written down how a process ended.
+    fn note_told(&mut self, number: ProcessNumber) {
+        if let Some(live) = self.live.get_mut(&number.get()) {
+            live.is_told = true;
+        }
+    }
+
     /// Writes down how a process ended, once.
     fn tell_end(&mut self, number: ProcessNumber, ended: Ended) -> io::Result<()> {
-        let Some(live) = self.live.get_mut(&number.get()) else {
-            return Ok(());
-        };
-        if live.is_told {
-            return Ok(());
+        match self.live.get(&number.get()) {
+            Some(live) if !live.is_told => self.write_end(number, &live.unit, ended)?,
+            _ => return Ok(()),
         }
-        let folder = path_of_name(self.alloc, self.folder, live.unit.as_str())?;
-        let line = end_line(self.alloc, number, self.moment, ended)?;
-        add_end(self.rt, self.alloc, folder.as_str(), line.as_str())?;
-        live.is_told = true;
+        self.note_told(number);
         Ok(())
     }
 
@@ -308,25 +413,33 @@ impl<'a, R: Files> Outputs<'a, R> {
         Ok(numbers)
     }
 
+    /// Keeps of a unit, in its folder, the live numbers and the newest of the others.
+    fn prune(&self, unit: &UnitName, folder: &str) -> io::Result<()> {
+        let live = self.live_of(unit)?;
+        prune(self.rt, self.alloc, folder, live.as_slice(), KEPT)
+    }
+
+    /// Puts in order, in the folder of the unit, what is left of a process that isn't live any more, and what the unit has of others.
+    fn finish_in(&self, number: ProcessNumber, unit: &UnitName, folder: &str) -> io::Result<()> {
+        let finished = finish(self.rt, self.alloc, folder, number, self.size);
+        self.prune(unit, folder).and(finished)
+    }
+
     /// Puts in order what is left of a process that isn't live any more, and what its unit has of others.
-    fn finish(&mut self, number: ProcessNumber) -> io::Result<()> {
-        let Some(live) = self.live.remove(&number.get()) else {
-            return Ok(());
-        };
-        let Live {
-            number: _,
-            unit,
-            is_placed,
-            is_told: _,
-        } = live;
-        if !is_placed {
-            self.place(number, &unit)?;
+    fn finish_of(&self, live: &Live) -> io::Result<()> {
+        if !live.is_placed {
+            self.place(live.number, &live.unit)?;
         }
-        let folder = path_of_name(self.alloc, self.folder, unit.as_str())?;
-        let finished = finish(self.rt, self.alloc, folder.as_str(), number, self.size);
-        let live = self.live_of(&unit)?;
-        prune(self.rt, self.alloc, folder.as_str(), live.as_slice(), KEPT)?;
-        finished
+        let folder = path_of_name(self.alloc, self.folder, live.unit.as_str())?;
+        self.finish_in(live.number, &live.unit, folder.as_str())
+    }
+
+    /// Forgets a process that isn't live any more, and puts in order what is left of it.
+    fn finish(&mut self, number: ProcessNumber) -> io::Result<()> {
+        match self.live.remove(&number.get()) {
+            Some(live) => self.finish_of(&live),
+            None => Ok(()),
+        }
     }
 
     /// Puts in order what is left of these numbers, but of those that are live still.
@@ -340,12 +453,22 @@ impl<'a, R: Files> Outputs<'a, R> {
         }
     }
 
-    /// Moves what was started since the last turn ended into the folders of its units, by the state behind it, and puts in order what has ended.
-    pub fn settle(&mut self, state: &State) {
+    /// Moves what was started since the last turn ended into the folders of its units.
+    fn settle_started(&mut self, state: &State) {
         let started = mem::replace(&mut self.started, Vec::new(self.alloc));
         self.take_all(started.as_slice(), state);
+    }
+
+    /// Puts in order what has ended since the last turn ended.
+    fn settle_ended(&mut self, state: &State) {
         let ended = mem::replace(&mut self.ended, Vec::new(self.alloc));
         self.finish_all(ended.as_slice(), state);
+    }
+
+    /// Moves what was started since the last turn ended into the folders of its units, by the state behind it, and puts in order what has ended.
+    pub fn settle(&mut self, state: &State) {
+        self.settle_started(state);
+        self.settle_ended(state);
     }
 
     /// Cuts the file of a live process where it is too long; one that couldn't be moved is moved.
@@ -354,10 +477,7 @@ impl<'a, R: Files> Outputs<'a, R> {
             return Ok(());
         };
         let folder = path_of_name(self.alloc, self.folder, live.unit.as_str())?;
-        if !live.is_placed {
-            place_in(self.rt, self.alloc, self.folder, folder.as_str(), number)?;
-            live.is_placed = true;
-        }
+        live.place(self.rt, self.alloc, self.folder, folder.as_str())?;
         look_after(self.rt, self.alloc, folder.as_str(), number, self.size)
     }
 
@@ -378,6 +498,15 @@ impl<'a, R: Files> Outputs<'a, R> {
         }
     }
 
+    /// Looks at the file of a process.
+    fn look_at(&mut self, number: ProcessNumber, state: &State) {
+        let done = match state.units().process(number.get()) {
+            Some(_) => self.look_after(number),
+            None => self.finish(number),
+        };
+        self.mind(number, done);
+    }
+
     /// Looks at the files of all live processes, if a second has gone by since that was done. True where it was done.
     pub fn tend(&mut self, state: &State, now: Instant) -> bool {
         if !self.is_due(now) {
@@ -387,11 +516,7 @@ impl<'a, R: Files> Outputs<'a, R> {
         // where there is no memory for them, they are looked at a second later
         let numbers = self.numbers().unwrap_or(Vec::new(self.alloc));
         for number in &numbers {
-            let done = match state.units().process(number.get()) {
-                Some(_) => self.look_after(*number),
-                None => self.finish(*number),
-            };
-            self.mind(*number, done);
+            self.look_at(*number, state);
         }
         true
     }

@@ -3,7 +3,7 @@
 use crate::cutting::cut;
 use crate::files::{OutputFile, Part, files_in, length_of, make_folder, path_of, remove};
 use crate::kept::{idle_numbers, is_among, old_numbers};
-use std::alloc::Global;
+use std::alloc::{AllocError, Global};
 use std::fs::Files;
 use std::io::ErrorKind;
 use std::{fs, io};
@@ -11,6 +11,25 @@ use um_model::ProcessNumber;
 
 /// Of a unit so many numbers stay that aren't live.
 pub(crate) const KEPT: usize = 4;
+
+/// Moves a file to a folder that isn't there yet, and makes this: true where it was. Where no such file stands nothing is done.
+fn place_in_new<R: Files>(rt: &R, folder: &str, old: &str, new: &str) -> io::Result<bool> {
+    if length_of(rt, old)?.is_none() {
+        return Ok(false);
+    }
+    make_folder(rt, folder)?;
+    fs::rename(rt, old, new)?;
+    Ok(true)
+}
+
+/// Moves a file into a folder, which is made where it isn't there: true where it was.
+fn place_at<R: Files>(rt: &R, folder: &str, old: &str, new: &str) -> io::Result<bool> {
+    match fs::rename(rt, old, new) {
+        Ok(()) => Ok(false),
+        Err(fault) if fault.kind() == ErrorKind::NotFound => place_in_new(rt, folder, old, new),
+        Err(fault) => Err(fault),
+    }
+}
 
 /// Moves the file of a number from one folder to another one, which is made where it isn't there: true where it was. Where no such file stands nothing
 /// is done.
@@ -23,17 +42,7 @@ pub(crate) fn place<R: Files>(
 ) -> io::Result<bool> {
     let old = path_of(alloc, from, number, Part::Printed)?;
     let new = path_of(alloc, folder, number, Part::Printed)?;
-    match fs::rename(rt, old.as_str(), new.as_str()) {
-        Ok(()) => return Ok(false),
-        Err(fault) if fault.kind() == ErrorKind::NotFound => {}
-        Err(fault) => return Err(fault),
-    }
-    if length_of(rt, old.as_str())?.is_none() {
-        return Ok(false);
-    }
-    make_folder(rt, folder)?;
-    fs::rename(rt, old.as_str(), new.as_str())?;
-    Ok(true)
+    place_at(rt, folder, old.as_str(), new.as_str())
 }
 
 /// Cuts the file of a number where it is too long.
@@ -74,8 +83,19 @@ pub(crate) fn finish<R: Files>(
     size: u64,
 ) -> io::Result<()> {
     let cut = look_after(rt, alloc, folder, number, size);
-    remove_empty(rt, alloc, folder, number)?;
-    cut
+    remove_empty(rt, alloc, folder, number).and(cut)
+}
+
+/// Removes a file of the number.
+fn remove_part<R: Files>(
+    rt: &R,
+    alloc: Global,
+    folder: &str,
+    number: ProcessNumber,
+    part: Part,
+) -> io::Result<()> {
+    let path = path_of(alloc, folder, number, part)?;
+    remove(rt, path.as_str())
 }
 
 /// Removes these files of the number.
@@ -88,10 +108,35 @@ fn remove_number<R: Files>(
 ) -> io::Result<()> {
     for file in files {
         if file.number == number {
-            remove(rt, path_of(alloc, folder, number, file.part)?.as_str())?;
+            remove_part(rt, alloc, folder, number, file.part)?;
         }
     }
     Ok(())
+}
+
+/// Removes these files of the numbers.
+fn remove_numbers<R: Files>(
+    rt: &R,
+    alloc: Global,
+    folder: &str,
+    files: &[OutputFile],
+    numbers: &[ProcessNumber],
+) -> io::Result<()> {
+    for number in numbers {
+        remove_number(rt, alloc, folder, files, *number)?;
+    }
+    Ok(())
+}
+
+/// The numbers of these files but the live ones and so many of the newest of the others.
+fn old_in(
+    alloc: Global,
+    files: &[OutputFile],
+    live: &[ProcessNumber],
+    kept: usize,
+) -> Result<Vec<ProcessNumber>, AllocError> {
+    let idle = idle_numbers(alloc, files, live)?;
+    old_numbers(alloc, kept, idle.as_slice())
 }
 
 /// Removes the files of all numbers in the folder but the live ones and so many of the newest of the others.
@@ -103,11 +148,8 @@ pub(crate) fn prune<R: Files>(
     kept: usize,
 ) -> io::Result<()> {
     let files = files_in(rt, alloc, folder)?;
-    let idle = idle_numbers(alloc, files.as_slice(), live)?;
-    for number in &old_numbers(alloc, kept, idle.as_slice())? {
-        remove_number(rt, alloc, folder, files.as_slice(), *number)?;
-    }
-    Ok(())
+    let old = old_in(alloc, files.as_slice(), live, kept)?;
+    remove_numbers(rt, alloc, folder, files.as_slice(), old.as_slice())
 }
 
 /// Removes a draft that was left, and finishes a number that isn't live.
@@ -120,12 +162,28 @@ fn tidy_file<R: Files>(
     size: u64,
 ) -> io::Result<()> {
     match file.part {
-        Part::Draft => remove(rt, path_of(alloc, folder, file.number, file.part)?.as_str()),
+        Part::Draft => remove_part(rt, alloc, folder, file.number, file.part),
         Part::Printed if !is_among(live, file.number) => {
             finish(rt, alloc, folder, file.number, size)
         }
         Part::Printed | Part::Old => Ok(()),
     }
+}
+
+/// Does that with each of these files. What fails of one holds up no other one; of these the last is told.
+fn tidy_files<R: Files>(
+    rt: &R,
+    alloc: Global,
+    folder: &str,
+    files: &[OutputFile],
+    live: &[ProcessNumber],
+    size: u64,
+) -> io::Result<()> {
+    let mut tidied = Ok(());
+    for file in files {
+        tidied = tidy_file(rt, alloc, folder, *file, live, size).and(tidied);
+    }
+    tidied
 }
 
 /// Finishes the numbers in the folder that aren't live, removes what was left of drafts, and keeps the newest numbers alone. What fails of a file holds up
@@ -137,12 +195,7 @@ pub(crate) fn tidy<R: Files>(
     live: &[ProcessNumber],
     size: u64,
 ) -> io::Result<()> {
-    let mut tidied = Ok(());
-    for file in &files_in(rt, alloc, folder)? {
-        if let Err(fault) = tidy_file(rt, alloc, folder, *file, live, size) {
-            tidied = Err(fault);
-        }
-    }
-    prune(rt, alloc, folder, live, KEPT)?;
-    tidied
+    let files = files_in(rt, alloc, folder)?;
+    let tidied = tidy_files(rt, alloc, folder, files.as_slice(), live, size);
+    prune(rt, alloc, folder, live, KEPT).and(tidied)
 }

@@ -9,7 +9,7 @@ use std::alloc::{AllocError, Global};
 use um_runner::number_in;
 
 /// A line by which the end of a process is kept.
-#[derive(Clone, Copy, Debug)]
+#[derive(Clone, Copy)]
 pub struct LastEnd<'a> {
     /// The process's number.
     pub number: u64,

@@ -11,7 +11,7 @@ use serde_json::Value;
 use std::alloc::{AllocError, Global};
 
 /// A row of the table, and the lines behind it.
-#[derive(Debug, Drop)]
+#[derive(Drop)]
 pub struct Row {
     pub unit: String,
     /// Whether it is loaded.
@@ -28,7 +28,7 @@ pub struct Row {
 }
 
 /// How wide the columns are, but the last.
-#[derive(Clone, Copy, Debug)]
+#[derive(Clone, Copy)]
 struct Widths {
     unit: usize,
     loaded: usize,

@@ -12,7 +12,7 @@ use serde_json::Value;
 use std::alloc::{AllocError, Global};
 
 /// What a unit was told to be.
-#[derive(Clone, Copy, Debug, PartialEq, Eq)]
+#[derive(Clone, Copy)]
 pub enum Goal {
     /// Active, or ended with success: by `start` and `restart`.
     Up,
@@ -21,7 +21,7 @@ pub enum Goal {
 }
 
 /// How a unit stands by what it was told to be.
-#[derive(Clone, Copy, Debug, PartialEq, Eq)]
+#[derive(Clone, Copy)]
 pub enum Standing {
     /// A job of it is pending, or it starts or stops.
     Moving,

@@ -8,7 +8,7 @@ ghost use Rattle.um_status.specs.View.{shown_of};
 use serde_json::Value;
 
 /// What `show` tells of a unit.
-#[derive(Clone, Copy, Debug)]
+#[derive(Clone, Copy)]
 pub struct UnitShown<'v> {
     /// Its own name, to which the one that was asked for leads.
     pub id: &'v str,

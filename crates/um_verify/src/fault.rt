@@ -3,7 +3,7 @@ use std::io;
 use um_wire::Refusal;
 
 /// Why unit files aren't looked at.
-#[derive(Debug, Drop)]
+#[derive(Drop)]
 pub enum VerifyFault {
     /// Two files are the same unit's in the same layer.
     Twice { path: String, other: String },

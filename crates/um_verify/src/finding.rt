@@ -3,7 +3,7 @@ ghost use Rattle.std.specs.Prelude.{◌≡◌, IfOk, None, string_bytes};
 use std::alloc::{AllocError, Global};
 
 /// What is told of a line of a file, or of a file as a whole.
-#[derive(Debug, Drop)]
+#[derive(Drop)]
 pub struct Finding {
     /// The path of the file.
     pub path: String,

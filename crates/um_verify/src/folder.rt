@@ -3,7 +3,7 @@
 use crate::fault::VerifyFault;
 use crate::places::Collected;
 use std::alloc::Global;
-use std::fs::{File, Files};
+use std::fs::{DirEntry, File, Files, ReadDir};
 use std::io::Read;
 use std::{fs, io};
 
@@ -39,6 +39,19 @@ fn bytes_of<R: Files>(rt: &R, alloc: Global, path: &str) -> io::Result<Vec<u8>> 
     Ok(bytes)
 }
 
+/// Puts a file with these bytes into the tree.
+fn put_bytes(
+    collected: &mut Collected,
+    place: &str,
+    path: &str,
+    bytes: &[u8],
+) -> Result<(), VerifyFault> {
+    match str::from_utf8(bytes) {
+        Ok(text) => collected.put_file(place, path, text),
+        Err(_) => collected.tell_no_text(place, path),
+    }
+}
+
 /// Reads a file into the tree.
 fn read_file<R: Files>(
     rt: &R,
@@ -46,14 +59,10 @@ fn read_file<R: Files>(
     place: &str,
     path: &str,
 ) -> Result<(), VerifyFault> {
-    let alloc = collected.alloc;
-    match bytes_of(rt, alloc, path) {
+    match bytes_of(rt, collected.alloc, path) {
         Ok(bytes) if bytes.len() > LONGEST => collected.tell_too_long(place, path),
-        Ok(bytes) => match String::from_utf8(bytes) {
-            Ok(text) => collected.put_file(place, path, text.as_str()),
-            Err(_) => collected.tell_no_text(place, path),
-        },
-        Err(fault) => Err(unread(alloc, path, fault)),
+        Ok(bytes) => put_bytes(collected, place, path, bytes.as_slice()),
+        Err(fault) => Err(unread(collected.alloc, path, fault)),
     }
 }
 
@@ -68,8 +77,8 @@ fn target_of<R: Files>(rt: &R, alloc: Global, path: &str) -> Result<Option<Strin
     }
 }
 
-/// Puts a link into the tree. False where it can't stand there.
-fn put_link(
+/// Puts a link to this target into the tree. False where it can't stand there.
+fn put_target(
     collected: &mut Collected,
     place: &str,
     path: &str,
@@ -84,6 +93,19 @@ fn put_link(
     }
 }
 
+/// Reads the file behind a link into the tree.
+fn read_behind<R: Files>(
+    rt: &R,
+    collected: &mut Collected,
+    place: &str,
+    path: &str,
+) -> Result<(), VerifyFault> {
+    match fs::metadata(rt, path) {
+        Ok(about) if about.is_file() => read_file(rt, collected, place, path),
+        _ => collected.tell_no_unit(path),
+    }
+}
+
 /// Reads a link into the tree, or, where such a link can't stand there, the file that it leads to.
 fn read_link<R: Files>(
     rt: &R,
@@ -92,12 +114,10 @@ fn read_link<R: Files>(
     path: &str,
 ) -> Result<(), VerifyFault> {
     let target = target_of(rt, collected.alloc, path)?;
-    if put_link(collected, place, path, target.as_deref())? {
-        return Ok(());
-    }
-    match fs::metadata(rt, path) {
-        Ok(about) if about.is_file() => read_file(rt, collected, place, path),
-        _ => collected.tell_no_unit(path),
+    if put_target(collected, place, path, target.as_deref())? {
+        Ok(())
+    } else {
+        read_behind(rt, collected, place, path)
     }
 }
 
@@ -119,20 +139,40 @@ fn read_entry<R: Files>(
     }
 }
 
+/// Adds the name of an entry.
+fn push_entry<R: Files>(
+    names: &mut Vec<String>,
+    alloc: Global,
+    entry: io::Result<DirEntry<(&R, Global)>>,
+) -> io::Result<()> {
+    names.push(String::from_str(alloc, entry?.file_name())?)?;
+    Ok(())
+}
+
+/// Adds the names of these entries.
+fn push_entries<R: Files>(
+    names: &mut Vec<String>,
+    alloc: Global,
+    entries: ReadDir<(&R, Global)>,
+) -> io::Result<()> {
+    for entry in entries {
+        push_entry(names, alloc, entry)?;
+    }
+    Ok(())
+}
+
+fn listed<R: Files>(rt: &R, alloc: Global, path: &str) -> io::Result<Vec<String>> {
+    let mut names = Vec::new(alloc);
+    push_entries(&mut names, alloc, fs::read_dir(&(rt, alloc), path)?)?;
+    Ok(names)
+}
+
 /// The names in a folder.
 fn names_in<R: Files>(rt: &R, alloc: Global, path: &str) -> Result<Vec<String>, VerifyFault> {
-    let mut names = Vec::new(alloc);
-    let entries = match fs::read_dir(&(rt, alloc), path) {
-        Ok(entries) => entries,
-        Err(fault) => return Err(unread(alloc, path, fault)),
-    };
-    for entry in entries {
-        match entry {
-            Ok(entry) => names.push(String::from_str(alloc, entry.file_name())?)?,
-            Err(fault) => return Err(unread(alloc, path, fault)),
-        }
+    match listed(rt, alloc, path) {
+        Ok(names) => Ok(names),
+        Err(fault) => Err(unread(alloc, path, fault)),
     }
-    Ok(names)
 }
 
 /// A name in a folder, as a path.
@@ -148,6 +188,19 @@ fn is_folder<R: Files>(rt: &R, path: &str) -> bool {
     }
 }
 
+/// Reads what has this name in a folder of a unit.
+fn read_inner_entry<R: Files>(
+    rt: &R,
+    collected: &mut Collected,
+    place: &str,
+    path: &str,
+    name: &str,
+) -> Result<(), VerifyFault> {
+    let place = joined(collected.alloc, place, name)?;
+    let path = joined(collected.alloc, path, name)?;
+    read_entry(rt, collected, place.as_str(), path.as_str())
+}
+
 /// Reads a folder of a unit, as `x.service.d`.
 fn read_inner<R: Files>(
     rt: &R,
@@ -155,11 +208,9 @@ fn read_inner<R: Files>(
     place: &str,
     path: &str,
 ) -> Result<(), VerifyFault> {
-    let alloc = collected.alloc;
-    for name in &names_in(rt, alloc, path)? {
-        let place = joined(alloc, place, name.as_str())?;
-        let path = joined(alloc, path, name.as_str())?;
-        read_entry(rt, collected, place.as_str(), path.as_str())?;
+    let names = names_in(rt, collected.alloc, path)?;
+    for name in &names {
+        read_inner_entry(rt, collected, place, path, name.as_str())?;
     }
     Ok(())
 }
@@ -169,6 +220,34 @@ fn is_of_unit(name: &str) -> bool {
     FOLDERS.iter().any(|end| name.ends_with(*end))
 }
 
+/// Reads what stands at the path in a layer, by this name.
+fn read_named_in<R: Files>(
+    rt: &R,
+    collected: &mut Collected,
+    name: &str,
+    place: &str,
+    path: &str,
+) -> Result<(), VerifyFault> {
+    if is_of_unit(name) && is_folder(rt, path) {
+        read_inner(rt, collected, place, path)
+    } else {
+        read_entry(rt, collected, place, path)
+    }
+}
+
+/// Reads what has this name in a layer.
+fn read_in_layer<R: Files>(
+    rt: &R,
+    collected: &mut Collected,
+    layer: &str,
+    path: &str,
+    name: &str,
+) -> Result<(), VerifyFault> {
+    let place = joined(collected.alloc, layer, name)?;
+    let path = joined(collected.alloc, path, name)?;
+    read_named_in(rt, collected, name, place.as_str(), path.as_str())
+}
+
 /// Reads a layer of the tree.
 fn read_layer<R: Files>(
     rt: &R,
@@ -176,45 +255,56 @@ fn read_layer<R: Files>(
     layer: &str,
     path: &str,
 ) -> Result<(), VerifyFault> {
-    let alloc = collected.alloc;
-    for name in &names_in(rt, alloc, path)? {
-        let place = joined(alloc, layer, name.as_str())?;
-        let path = joined(alloc, path, name.as_str())?;
-        if is_of_unit(name.as_str()) && is_folder(rt, path.as_str()) {
-            read_inner(rt, collected, place.as_str(), path.as_str())?;
-        } else {
-            read_entry(rt, collected, place.as_str(), path.as_str())?;
-        }
+    let names = names_in(rt, collected.alloc, path)?;
+    for name in &names {
+        read_in_layer(rt, collected, layer, path, name.as_str())?;
     }
     Ok(())
 }
 
-/// Whether the name is a layer's, and its folder stands in this one.
-fn is_layer<R: Files>(rt: &R, alloc: Global, path: &str, name: &str) -> Result<bool, VerifyFault> {
+/// Whether the name is a layer's, and its folder stands at the path.
+fn is_layer<R: Files>(rt: &R, name: &str, path: &str) -> bool {
+    LAYERS.contains(&name) && is_folder(rt, path)
+}
+
+/// Whether a folder has the layer of this name.
+fn has_layer<R: Files>(rt: &R, alloc: Global, path: &str, name: &str) -> Result<bool, VerifyFault> {
     let inner = joined(alloc, path, name)?;
-    Ok(LAYERS.contains(&name) && is_folder(rt, inner.as_str()))
+    Ok(is_folder(rt, inner.as_str()))
 }
 
 /// Whether a folder has one of a layer.
 fn has_layers<R: Files>(rt: &R, alloc: Global, path: &str) -> Result<bool, VerifyFault> {
     for name in LAYERS {
-        if is_layer(rt, alloc, path, name)? {
+        if has_layer(rt, alloc, path, name)? {
             return Ok(true);
         }
     }
     Ok(false)
 }
 
+/// Reads what has this name in a folder with layers.
+fn read_top<R: Files>(
+    rt: &R,
+    collected: &mut Collected,
+    path: &str,
+    name: &str,
+) -> Result<(), VerifyFault> {
+    let inner = joined(collected.alloc, path, name)?;
+    if is_layer(rt, name, inner.as_str()) {
+        read_layer(rt, collected, name, inner.as_str())
+    } else if name.starts_with(SYNC) {
+        Ok(())
+    } else {
+        collected.tell_no_unit(inner.as_str())
+    }
+}
+
 /// Reads a folder with its layers.
 fn read_layers<R: Files>(rt: &R, collected: &mut Collected, path: &str) -> Result<(), VerifyFault> {
-    let alloc = collected.alloc;
-    for name in &names_in(rt, alloc, path)? {
-        let inner = joined(alloc, path, name.as_str())?;
-        if is_layer(rt, alloc, path, name.as_str())? {
-            read_layer(rt, collected, name.as_str(), inner.as_str())?;
-        } else if !name.as_str().starts_with(SYNC) {
-            collected.tell_no_unit(inner.as_str())?;
-        }
+    let names = names_in(rt, collected.alloc, path)?;
+    for name in &names {
+        read_top(rt, collected, path, name.as_str())?;
     }
     Ok(())
 }
@@ -227,13 +317,36 @@ fn last_part(path: &str) -> &str {
     }
 }
 
+/// Reads a file into the tree, where one may stand at that path of it.
+fn read_where<R: Files>(
+    rt: &R,
+    collected: &mut Collected,
+    place: &str,
+    path: &str,
+) -> Result<(), VerifyFault> {
+    if collected.takes(place, path)? {
+        read_file(rt, collected, place, path)
+    } else {
+        Ok(())
+    }
+}
+
 /// Reads a file that was named by itself, as one of `lib`.
 fn read_named<R: Files>(rt: &R, collected: &mut Collected, path: &str) -> Result<(), VerifyFault> {
     let place = joined(collected.alloc, "lib", last_part(path))?;
-    if collected.takes(place.as_str(), path)? {
-        read_file(rt, collected, place.as_str(), path)
+    read_where(rt, collected, place.as_str(), path)
+}
+
+/// Reads a folder, by its layers or as one.
+fn read_folder<R: Files>(
+    rt: &R,
+    collected: &mut Collected,
+    folder: &str,
+) -> Result<(), VerifyFault> {
+    if has_layers(rt, collected.alloc, folder)? {
+        read_layers(rt, collected, folder)
     } else {
-        Ok(())
+        read_layer(rt, collected, "lib", folder)
     }
 }
 
@@ -249,19 +362,11 @@ fn folder_at(path: &str) -> &str {
 
 /// Reads what a path names.
 fn read_path<R: Files>(rt: &R, collected: &mut Collected, path: &str) -> Result<(), VerifyFault> {
-    let alloc = collected.alloc;
     match fs::metadata(rt, path) {
-        Ok(about) if about.is_dir() => {
-            let folder = folder_at(path);
-            if has_layers(rt, alloc, folder)? {
-                read_layers(rt, collected, folder)
-            } else {
-                read_layer(rt, collected, "lib", folder)
-            }
-        }
+        Ok(about) if about.is_dir() => read_folder(rt, collected, folder_at(path)),
         Ok(about) if about.is_file() => read_named(rt, collected, path),
         Ok(_) => collected.tell_no_unit(path),
-        Err(fault) => Err(unread(alloc, path, fault)),
+        Err(fault) => Err(unread(collected.alloc, path, fault)),
     }
 }
 

@@ -18,7 +18,7 @@ use um_unit::{FileWarnings, LoadedUnit, Loading, load};
 use um_wire::Refusal;
 
 /// What became of a look at a unit.
-#[derive(Debug, Drop)]
+#[derive(Drop)]
 pub enum Looked {
     /// It is found, or would be without these.
     Found(Vec<Finding>),

@@ -23,7 +23,7 @@ pub struct Reading<'t> {
 }
 
 /// An assignment in a known section, and where it stands.
-#[derive(Clone, Copy, Debug)]
+#[derive(Clone, Copy)]
 pub struct Spot<'a> {
     /// The path of its file in the tree.
     pub path: &'a str,

@@ -92,16 +92,18 @@ fn unread(alloc: Global, path: &str, error: io::Error) -> ShowFault {
     }
 }
 
-/// The pid of the main process, where it is told where that is kept.
-fn pid_of<R: Files>(
+/// That what came is no reply.
+fn no_reply() -> ShowFault {
+    ShowFault::Asked(CtlFault::NoReply)
+}
+
+/// The pid of a process by the folder where it is kept.
+fn pid_in<R: Files>(
     rt: &R,
     alloc: Global,
-    kept: Kept<'_>,
-    number: u64,
+    dir: &str,
+    number: ProcessNumber,
 ) -> Result<Option<u32>, ShowFault> {
-    let (Some(dir), Some(number)) = (kept.dir, ProcessNumber::new(number)) else {
-        return Ok(None);
-    };
     match um_runner::pid_in(rt, alloc, dir, number) {
         Ok(um_runner::Told::Pid(pid)) => Ok(Some(pid)),
         Ok(um_runner::Told::NoPid | um_runner::Told::Nothing) => Ok(None),
@@ -110,13 +112,31 @@ fn pid_of<R: Files>(
     }
 }
 
-/// The last bytes of a file.
-fn tail_of<R: Files>(rt: &R, alloc: Global, path: &str) -> io::Result<Vec<u8>> {
-    let mut bytes = Vec::new(alloc);
+/// The pid of the main process, where it is told where that is kept.
+fn pid_of<R: Files>(
+    rt: &R,
+    alloc: Global,
+    kept: Kept<'_>,
+    number: u64,
+) -> Result<Option<u32>, ShowFault> {
+    match (kept.dir, ProcessNumber::new(number)) {
+        (Some(dir), Some(number)) => pid_in(rt, alloc, dir, number),
+        _ => Ok(None),
+    }
+}
+
+/// Opens a file, and goes to its last bytes.
+fn open_tail<R: Files>(rt: &R, path: &str) -> io::Result<R::File> {
     let mut file = File::open(rt, path)?;
     let length = file.seek(SeekFrom::End(0))?;
     file.seek(SeekFrom::Start(length.saturating_sub(LINE)))?;
-    file.take(LINE).read_to_end(&mut bytes)?;
+    Ok(file)
+}
+
+/// The last bytes of a file.
+fn tail_of<R: Files>(rt: &R, alloc: Global, path: &str) -> io::Result<Vec<u8>> {
+    let mut bytes = Vec::new(alloc);
+    open_tail(rt, path)?.take(LINE).read_to_end(&mut bytes)?;
     Ok(bytes)
 }
 
@@ -131,6 +151,23 @@ fn last_line(text: &str) -> &str {
     }
 }
 
+/// The last whole line of these bytes; an empty text where they are none.
+fn last_of(alloc: Global, bytes: &[u8]) -> Result<String, AllocError> {
+    match str::from_utf8(bytes) {
+        Ok(text) => String::from_str(alloc, last_line(text)),
+        Err(_) => Ok(String::new(alloc)),
+    }
+}
+
+/// The last line of the file at the path; an empty text where it isn't there.
+fn end_at<R: Files>(rt: &R, alloc: Global, path: &str) -> Result<String, ShowFault> {
+    match tail_of(rt, alloc, path) {
+        Ok(bytes) => Ok(last_of(alloc, bytes.as_slice())?),
+        Err(fault) if fault.kind() == ErrorKind::NotFound => Ok(String::new(alloc)),
+        Err(fault) => Err(unread(alloc, path, fault)),
+    }
+}
+
 /// The last line by which it is kept how processes of the unit ended; an empty text where none is.
 fn end_kept<R: Files>(
     rt: &R,
@@ -142,15 +179,7 @@ fn end_kept<R: Files>(
         return Ok(String::new(alloc));
     };
     let path = format!(in alloc; "{output}/{id}/ends")?;
-    let bytes = match tail_of(rt, alloc, path.as_str()) {
-        Ok(bytes) => bytes,
-        Err(fault) if fault.kind() == ErrorKind::NotFound => return Ok(String::new(alloc)),
-        Err(fault) => return Err(unread(alloc, path.as_str(), fault)),
-    };
-    let Ok(text) = String::from_utf8(bytes) else {
-        return Ok(String::new(alloc));
-    };
-    Ok(String::from_str(alloc, last_line(text.as_str()))?)
+    end_at(rt, alloc, path.as_str())
 }
 
 /// What is told of a unit that no line of its files tells.
@@ -169,31 +198,45 @@ fn lines_of(alloc: Global, findings: &[Finding]) -> Result<Vec<String>, ShowFaul
     Ok(lines)
 }
 
+/// What is told of a unit whose files tell this.
+fn told_of(alloc: Global, findings: &[Finding]) -> Result<Vec<String>, ShowFault> {
+    if findings.iter().any(|finding| finding.stops) {
+        lines_of(alloc, findings)
+    } else {
+        whole(alloc, "its files can be loaded now: a reload is to come")
+    }
+}
+
+/// What these files tell of the unit of this name.
+fn reasons_in(alloc: Global, id: &str, files: &[Value]) -> Result<Vec<String>, ShowFault> {
+    let given = files_given(alloc, files)?;
+    let findings = verify_files(alloc, id, given.as_slice())?;
+    told_of(alloc, findings.as_slice())
+}
+
+/// What the reply to `cat` tells of the unit of this name.
+fn reasons_by(alloc: Global, id: &str, files: &Value) -> Result<Vec<String>, ShowFault> {
+    match files.as_array() {
+        Some(files) => reasons_in(alloc, id, files.as_slice()),
+        None => Err(no_reply()),
+    }
+}
+
 /// Why a unit with a bad setting isn't loaded, of its files as they stand now.
 fn bad_setting<R: Net + Clock + Input>(
     asking: &Asking<'_, R>,
     unit: UnitShown<'_>,
 ) -> Result<Vec<String>, ShowFault> {
     let alloc = asking.alloc();
-    let files = match value_of(asking, "cat", &[unit.id])? {
-        Answer::Value(files) => files,
+    match value_of(asking, "cat", &[unit.id])? {
+        Answer::Value(files) => reasons_by(alloc, unit.id, &files),
         Answer::Refused(told) => {
             drop(told);
-            return whole(
+            whole(
                 alloc,
                 "its files are gone or masked now: a reload is to come",
-            );
+            )
         }
-    };
-    let Some(files) = files.as_array() else {
-        return Err(ShowFault::Asked(CtlFault::NoReply));
-    };
-    let given = files_given(alloc, files.as_slice())?;
-    let findings = verify_files(alloc, unit.id, given.as_slice())?;
-    if findings.iter().any(|finding| finding.stops) {
-        lines_of(alloc, findings.as_slice())
-    } else {
-        whole(alloc, "its files can be loaded now: a reload is to come")
     }
 }
 
@@ -211,6 +254,14 @@ fn reasons_of<R: Net + Clock + Input>(
     }
 }
 
+/// The warnings that the reply to `show` tells.
+fn warnings_in(value: &Value) -> &[Value] {
+    match value.get("Warnings").and_then(Value::as_array) {
+        Some(warnings) => warnings.as_slice(),
+        None => &[],
+    }
+}
+
 /// The lines behind the row of a unit that was named.
 fn details<R: Net + Clock + Input + Files>(
     asking: &Asking<'_, R>,
@@ -222,11 +273,22 @@ fn details<R: Net + Clock + Input + Files>(
     let reasons = reasons_of(asking, unit)?;
     let line = end_kept(asking.rt(), alloc, kept, unit.id)?;
     let end: Option<LastEnd<'_>> = last_end(line.as_str());
-    let warnings = match value.get("Warnings").and_then(Value::as_array) {
-        Some(warnings) => warnings.as_slice(),
-        None => &[],
-    };
-    Ok(details_of(alloc, end, warnings, reasons.as_slice())?)
+    Ok(details_of(alloc, end, warnings_in(value), reasons.as_slice())?)
+}
+
+/// The same of a unit that was named, and nothing of others.
+fn details_where<R: Net + Clock + Input + Files>(
+    asking: &Asking<'_, R>,
+    kept: Kept<'_>,
+    unit: UnitShown<'_>,
+    value: &Value,
+    is_named: bool,
+) -> Result<String, ShowFault> {
+    if is_named {
+        details(asking, kept, unit, value)
+    } else {
+        Ok(String::new(asking.alloc()))
+    }
 }
 
 /// A row, and whether its unit is active.
@@ -234,6 +296,37 @@ fn details<R: Net + Clock + Input + Files>(
 struct Shown {
     row: Row,
     is_active: bool,
+}
+
+/// The row of a unit, with these lines behind it.
+fn shown_with<R: Net + Clock + Input + Files>(
+    asking: &Asking<'_, R>,
+    kept: Kept<'_>,
+    unit: UnitShown<'_>,
+    jobs: &[Value],
+    details: String,
+) -> Result<Shown, ShowFault> {
+    let pid = pid_of(asking.rt(), asking.alloc(), kept, unit.number)?;
+    let row = row_of(asking.alloc(), unit, jobs, pid, details)?;
+    Ok(Shown {
+        row,
+        is_active: unit.active == "active",
+    })
+}
+
+/// The row of a unit by the reply to `show`.
+fn shown_by<R: Net + Clock + Input + Files>(
+    asking: &Asking<'_, R>,
+    kept: Kept<'_>,
+    value: &Value,
+    jobs: &[Value],
+    is_named: bool,
+) -> Result<Shown, ShowFault> {
+    let Some(unit) = unit_shown(value) else {
+        return Err(no_reply());
+    };
+    let details = details_where(asking, kept, unit, value, is_named)?;
+    shown_with(asking, kept, unit, jobs, details)
 }
 
 /// The row of a unit.
@@ -244,21 +337,26 @@ fn shown_unit<R: Net + Clock + Input + Files>(
     jobs: &[Value],
     is_named: bool,
 ) -> Result<Shown, ShowFault> {
-    let alloc = asking.alloc();
     let value = asked(asking, "show", &[name])?;
-    let Some(unit) = unit_shown(&value) else {
-        return Err(ShowFault::Asked(CtlFault::NoReply));
-    };
-    let behind = if is_named {
-        details(asking, kept, unit, &value)?
-    } else {
-        String::new(alloc)
-    };
-    let pid = pid_of(asking.rt(), alloc, kept, unit.number)?;
-    Ok(Shown {
-        row: row_of(alloc, unit, jobs, pid, behind)?,
-        is_active: unit.active == "active",
-    })
+    shown_by(asking, kept, &value, jobs, is_named)
+}
+
+/// The rows of these units, and whether all are active; these jobs are pending.
+fn rows_beside<R: Net + Clock + Input + Files>(
+    asking: &Asking<'_, R>,
+    kept: Kept<'_>,
+    names: &[&str],
+    jobs: &[Value],
+    is_named: bool,
+) -> Result<(Vec<Row>, bool), ShowFault> {
+    let mut rows = Vec::new(asking.alloc());
+    let mut are_active = true;
+    for name in names {
+        let Shown { row, is_active } = shown_unit(asking, kept, name, jobs, is_named)?;
+        rows.push(row)?;
+        are_active &= is_active;
+    }
+    Ok((rows, are_active))
 }
 
 /// The rows of these units, and whether all are active.
@@ -269,25 +367,15 @@ fn rows_of<R: Net + Clock + Input + Files>(
     is_named: bool,
 ) -> Result<(Vec<Row>, bool), ShowFault> {
     let jobs = asked(asking, "list-jobs", &[])?;
-    let Some(jobs) = jobs.as_array() else {
-        return Err(ShowFault::Asked(CtlFault::NoReply));
-    };
-    let mut rows = Vec::new(asking.alloc());
-    let mut are_active = true;
-    for name in names {
-        let Shown { row, is_active } = shown_unit(asking, kept, name, jobs.as_slice(), is_named)?;
-        rows.push(row)?;
-        are_active &= is_active;
+    match jobs.as_array() {
+        Some(jobs) => rows_beside(asking, kept, names, jobs.as_slice(), is_named),
+        None => Err(no_reply()),
     }
-    Ok((rows, are_active))
 }
 
-/// The names of all known units.
-fn names_in<'v>(alloc: Global, units: &'v Value) -> Result<Vec<&'v str>, ShowFault> {
+/// The names of these units.
+fn names_of<'v>(alloc: Global, units: &'v [Value]) -> Result<Vec<&'v str>, ShowFault> {
     let mut names = Vec::new(alloc);
-    let Some(units) = units.as_array() else {
-        return Err(ShowFault::Asked(CtlFault::NoReply));
-    };
     for unit in units {
         if let Some(name) = unit.get(0usize).and_then(Value::as_str) {
             names.push(name)?;
@@ -296,44 +384,82 @@ fn names_in<'v>(alloc: Global, units: &'v Value) -> Result<Vec<&'v str>, ShowFau
     Ok(names)
 }
 
+/// The names of all known units, by the reply to `list-units`.
+fn names_in<'v>(alloc: Global, units: &'v Value) -> Result<Vec<&'v str>, ShowFault> {
+    match units.as_array() {
+        Some(units) => names_of(alloc, units.as_slice()),
+        None => Err(no_reply()),
+    }
+}
+
+/// What is printed of all known units.
+fn text_of_all<R: Net + Clock + Input + Files>(
+    asking: &Asking<'_, R>,
+    kept: Kept<'_>,
+) -> Result<String, ShowFault> {
+    let units = asked(asking, "list-units", &[])?;
+    let names = names_in(asking.alloc(), &units)?;
+    let (rows, _) = rows_of(asking, kept, names.as_slice(), false)?;
+    Ok(table_text(asking.alloc(), rows.as_slice())?)
+}
+
+/// What is printed of the units that were named, and the exit status.
+fn text_of_named<R: Net + Clock + Input + Files>(
+    asking: &Asking<'_, R>,
+    kept: Kept<'_>,
+    names: &[&str],
+) -> Result<(String, u8), ShowFault> {
+    let (rows, are_active) = rows_of(asking, kept, names, true)?;
+    let text = table_text(asking.alloc(), rows.as_slice())?;
+    Ok((text, if are_active { 0 } else { NOT_ACTIVE }))
+}
+
 /// What is printed of the units that the line names, and the exit status.
 fn text_of<R: Net + Clock + Input + Files>(
     asking: &Asking<'_, R>,
     kept: Kept<'_>,
-    line: &StatusLine<'_>,
+    names: &[&str],
 ) -> Result<(String, u8), ShowFault> {
-    let alloc = asking.alloc();
-    if line.units.is_empty() {
-        let units = asked(asking, "list-units", &[])?;
-        let names = names_in(alloc, &units)?;
-        let (rows, _) = rows_of(asking, kept, names.as_slice(), false)?;
-        return Ok((table_text(alloc, rows.as_slice())?, 0));
+    if names.is_empty() {
+        Ok((text_of_all(asking, kept)?, 0))
+    } else {
+        text_of_named(asking, kept, names)
     }
-    let (rows, are_active) = rows_of(asking, kept, line.units.as_slice(), true)?;
-    let status = if are_active { 0 } else { NOT_ACTIVE };
-    Ok((table_text(alloc, rows.as_slice())?, status))
+}
+
+/// Puts a line as it is shown.
+pub fn push_shown(all: &mut String, alloc: Global, line: &str) -> Result<(), AllocError> {
+    let line = shown(alloc, line)?;
+    all.push_str(line.as_str())?;
+    all.push_str("\n")
 }
 
 /// The text as it is shown, line by line.
 fn shown_lines(alloc: Global, text: &str) -> Result<String, AllocError> {
     let mut all = String::new(alloc);
     for line in text.lines() {
-        all.push_str(shown(alloc, line)?.as_str())?;
-        all.push_str("\n")?;
+        push_shown(&mut all, alloc, line)?;
     }
     Ok(all)
+}
+
+/// Puts out a text as it is shown, and gives the exit status that goes with it.
+fn put_shown<R: Print>(rt: &R, alloc: Global, text: &str, status: u8) -> Result<u8, Fault> {
+    let lines = shown_lines(alloc, text)?;
+    put_text(rt, lines.as_str())?;
+    Ok(status)
 }
 
 /// Says why nothing is shown, and gives the exit status.
 fn tell<R: Net + Clock + Input + Eprint>(
     asking: &Asking<'_, R>,
-    fault: ShowFault,
+    fault: &ShowFault,
 ) -> Result<u8, Fault> {
     let (rt, alloc) = (asking.rt(), asking.alloc());
     match fault {
-        ShowFault::Refused(told) => refused(rt, &told),
+        ShowFault::Refused(told) => refused(rt, told),
         ShowFault::Asked(fault) => {
-            ctl_fault(rt, alloc, &fault, "status", asking.socket());
+            ctl_fault(rt, alloc, fault, "status", asking.socket());
             Ok(fault.status())
         }
         ShowFault::Read(path, error) => {
@@ -362,11 +488,8 @@ where
         output: told(line.output, surroundings.output),
     };
     let asking = Asking::starting(rt, alloc, socket, line.retry, line.timeout);
-    match text_of(&asking, kept, line) {
-        Ok((text, status)) => {
-            put_text(rt, shown_lines(alloc, text.as_str())?.as_str())?;
-            Ok(status)
-        }
-        Err(fault) => tell(&asking, fault),
+    match text_of(&asking, kept, line.units.as_slice()) {
+        Ok((text, status)) => put_shown(rt, alloc, text.as_str(), status),
+        Err(fault) => tell(&asking, &fault),
     }
 }

@@ -2,20 +2,24 @@
 
 use crate::lines::put_line;
 use crate::messages::{DEVICE, REFUSED, USAGE, put_text};
+use crate::showing::push_shown;
 use std::alloc::{AllocError, Global};
 use std::fs::Files;
-use um_ctl::shown;
 use um_line::VerifyLine;
 use um_memory::Fault;
 use um_verify::{Finding, VerifyFault, collect};
+
+/// Puts the line of what is told.
+fn push_finding(text: &mut String, alloc: Global, finding: &Finding) -> Result<(), AllocError> {
+    let line = finding.to_line(alloc)?;
+    push_shown(text, alloc, line.as_str())
+}
 
 /// All that is told, a line each.
 fn text_of(alloc: Global, findings: &[Finding]) -> Result<String, AllocError> {
     let mut text = String::new(alloc);
     for finding in findings {
-        let line = finding.to_line(alloc)?;
-        text.push_str(shown(alloc, line.as_str())?.as_str())?;
-        text.push_str("\n")?;
+        push_finding(&mut text, alloc, finding)?;
     }
     Ok(text)
 }
@@ -52,20 +56,25 @@ pub fn tell_unread<R: Eprint>(rt: &R, alloc: Global, fault: &VerifyFault) -> Res
     }
 }
 
+/// Puts out what is told, and gives the exit status.
+fn put_findings<R: Print>(rt: &R, alloc: Global, findings: &[Finding]) -> Result<u8, Fault> {
+    let text = text_of(alloc, findings)?;
+    put_text(rt, text.as_str())?;
+    if findings.iter().any(|finding| finding.stops) {
+        Ok(REFUSED)
+    } else {
+        Ok(0)
+    }
+}
+
 /// Looks at unit files.
 pub fn verify<R: Files + Print + Eprint>(
     rt: &R,
     alloc: Global,
     line: &VerifyLine<'_>,
 ) -> Result<u8, Fault> {
-    let findings = match findings_in(rt, alloc, line.paths.as_slice()) {
-        Ok(findings) => findings,
-        Err(fault) => return tell_unread(rt, alloc, &fault),
-    };
-    put_text(rt, text_of(alloc, findings.as_slice())?.as_str())?;
-    if findings.iter().any(|finding| finding.stops) {
-        Ok(REFUSED)
-    } else {
-        Ok(0)
+    match findings_in(rt, alloc, line.paths.as_slice()) {
+        Ok(findings) => put_findings(rt, alloc, findings.as_slice()),
+        Err(fault) => tell_unread(rt, alloc, &fault),
     }
 }

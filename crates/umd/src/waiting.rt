@@ -30,6 +30,20 @@ pub struct Asking<'a, R> {
     begun: Option<Instant>,
 }
 
+/// A time in seconds, rounded up.
+fn rounded_up(time: Duration) -> u64 {
+    let more = if time.subsec_nanos() > 0 { 1 } else { 0 };
+    time.as_secs().saturating_add(more)
+}
+
+/// How many of these seconds are left, rounded up; none left is `Late`.
+fn left_of(seconds: u32, spent: Duration) -> Result<u32, CtlFault> {
+    match Duration::from_secs(u64::from(seconds)).checked_sub(spent) {
+        Some(left) if !left.is_zero() => Ok(u32::try_from(rounded_up(left)).unwrap_or(seconds)),
+        _ => Err(CtlFault::Late(seconds)),
+    }
+}
+
 impl<'a, R: Net + Clock + Input> Asking<'a, R> {
     /// The time begins now.
     pub fn starting(
@@ -74,17 +88,9 @@ impl<'a, R: Net + Clock + Input> Asking<'a, R> {
 
     /// How many seconds are left, rounded up; none left is `Late`.
     fn left(&self) -> Result<Option<u32>, CtlFault> {
-        let Some(seconds) = self.timeout else {
-            return Ok(None);
-        };
-        let whole = Duration::from_secs(u64::from(seconds));
-        match whole.checked_sub(self.spent()) {
-            Some(left) if !left.is_zero() => {
-                let more = if left.subsec_nanos() > 0 { 1 } else { 0 };
-                let left = left.as_secs().saturating_add(more);
-                Ok(Some(u32::try_from(left).unwrap_or(seconds)))
-            }
-            _ => Err(CtlFault::Late(seconds)),
+        match self.timeout {
+            Some(seconds) => Ok(Some(left_of(seconds, self.spent())?)),
+            None => Ok(None),
         }
     }
 
@@ -128,6 +134,24 @@ pub enum Answer {
     Refused(Told),
 }
 
+/// The value of a reply's text.
+fn value_in(alloc: Global, text: &str) -> Result<Answer, CtlFault> {
+    match Value::from_str(alloc, text) {
+        Ok(value) => Ok(Answer::Value(value)),
+        Err(fault) if fault.is_memory() => Err(CtlFault::NoMemory),
+        Err(_) => Err(CtlFault::NoReply),
+    }
+}
+
+/// The value of a reply, or what is told of its refusal.
+fn answer_of(alloc: Global, told: Told) -> Result<Answer, CtlFault> {
+    if told.status == 0 {
+        value_in(alloc, told.output.as_str())
+    } else {
+        Ok(Answer::Refused(told))
+    }
+}
+
 /// The value of the reply to a query, of a unit where one is named.
 pub fn value_of<'w, R: Net + Clock + Input>(
     asking: &Asking<'_, R>,
@@ -139,15 +163,7 @@ pub fn value_of<'w, R: Net + Clock + Input>(
         arguments,
         mode: None,
     };
-    let told = asking.ask(&words)?;
-    if told.status != 0 {
-        return Ok(Answer::Refused(told));
-    }
-    match Value::from_str(asking.alloc, told.output.as_str()) {
-        Ok(value) => Ok(Answer::Value(value)),
-        Err(fault) if fault.is_memory() => Err(CtlFault::NoMemory),
-        Err(_) => Err(CtlFault::NoReply),
-    }
+    answer_of(asking.alloc, asking.ask(&words)?)
 }
 
 /// What is known of a unit that is waited for.
@@ -158,25 +174,38 @@ enum Found {
     Refused(Told),
 }
 
+/// How a unit stands by the replies to `show` and `list-jobs`.
+fn found_by(alloc: Global, goal: Goal, value: &Value, jobs: &Value) -> Result<Found, CtlFault> {
+    let (Some(unit), Some(jobs)) = (unit_shown(value), jobs.as_array()) else {
+        return Err(CtlFault::NoReply);
+    };
+    let line = standing_line(alloc, unit)?;
+    Ok(Found::Standing(standing_of(goal, unit, jobs.as_slice()), line))
+}
+
+/// How the unit stands now, by the reply to `list-jobs`.
+fn look_beside<R: Net + Clock + Input>(
+    asking: &Asking<'_, R>,
+    goal: Goal,
+    unit: &str,
+    jobs: &Value,
+) -> Result<Found, CtlFault> {
+    match value_of(asking, "show", &[unit])? {
+        Answer::Value(value) => found_by(asking.alloc, goal, &value, jobs),
+        Answer::Refused(told) => Ok(Found::Refused(told)),
+    }
+}
+
 /// How the unit stands now.
 fn look<R: Net + Clock + Input>(
     asking: &Asking<'_, R>,
     goal: Goal,
     unit: &str,
 ) -> Result<Found, CtlFault> {
-    let jobs = match value_of(asking, "list-jobs", &[])? {
-        Answer::Value(jobs) => jobs,
-        Answer::Refused(told) => return Ok(Found::Refused(told)),
-    };
-    let value = match value_of(asking, "show", &[unit])? {
-        Answer::Value(value) => value,
-        Answer::Refused(told) => return Ok(Found::Refused(told)),
-    };
-    let (Some(unit), Some(jobs)) = (unit_shown(&value), jobs.as_array()) else {
-        return Err(CtlFault::NoReply);
-    };
-    let line = standing_line(asking.alloc, unit)?;
-    Ok(Found::Standing(standing_of(goal, unit, jobs.as_slice()), line))
+    match value_of(asking, "list-jobs", &[])? {
+        Answer::Value(jobs) => look_beside(asking, goal, unit, &jobs),
+        Answer::Refused(told) => Ok(Found::Refused(told)),
+    }
 }
 
 /// A process that ran when it was looked at, and when that was for the first time.
@@ -230,6 +259,38 @@ enum Outcome {
     Refused(Told),
 }
 
+/// What a look leads to.
+#[derive(Drop)]
+enum Step {
+    /// It is looked again.
+    Again(Option<Running>),
+    Ended(Outcome),
+}
+
+/// The step that comes of a look, of which the line says how the unit stands.
+fn step_of(next: Next, line: String) -> Step {
+    match next {
+        Next::Again(running) => Step::Again(running),
+        Next::Reached => Step::Ended(Outcome::Reached),
+        Next::Missed => Step::Ended(Outcome::Missed(line)),
+    }
+}
+
+/// Looks at the unit, where this ran before.
+fn next_step<R: Net + Clock + Input>(
+    asking: &Asking<'_, R>,
+    goal: Goal,
+    unit: &str,
+    before: Option<Running>,
+) -> Result<Step, CtlFault> {
+    match look(asking, goal, unit)? {
+        Found::Standing(standing, line) => {
+            Ok(step_of(next_of(standing, before, asking.spent()), line))
+        }
+        Found::Refused(told) => Ok(Step::Ended(Outcome::Refused(told))),
+    }
+}
+
 /// Looks at the unit again and again.
 fn watch<R: Net + Clock + Input>(
     asking: &Asking<'_, R>,
@@ -238,14 +299,9 @@ fn watch<R: Net + Clock + Input>(
 ) -> Result<Outcome, CtlFault> {
     let mut before = None;
     for _ in 0..u64::MAX {
-        let (standing, line) = match look(asking, goal, unit)? {
-            Found::Standing(standing, line) => (standing, line),
-            Found::Refused(told) => return Ok(Outcome::Refused(told)),
-        };
-        match next_of(standing, before, asking.spent()) {
-            Next::Again(running) => before = running,
-            Next::Reached => return Ok(Outcome::Reached),
-            Next::Missed => return Ok(Outcome::Missed(line)),
+        match next_step(asking, goal, unit, before)? {
+            Step::Again(running) => before = running,
+            Step::Ended(outcome) => return Ok(outcome),
         }
         asking.pause()?;
     }
