@@ -32,12 +32,6 @@ use Rattle.um_keeper.specs.Keeping.{MayHold, Keeps, IsBegun, snapshot_calls}
 use Rattle.um_keeper.specs.Underway.{MayRise}
 use Rattle.um_log.specs.declared.write.Log.{Log}
 
--- ---- answers
-
--- what is said of an answer that has a value, at that value
-pub at_some : {A E : Type 0} (P : A → Type 0) (result : Result (Option A) E) (found : Option A) (x : A) → IfOk result (λ o. IfSome o P) → result ≡ Ok found → found ≡ Some x → P x
-at_some P result found x said is some = subst (λ o. IfSome o P) some (subst (λ r. IfOk r (λ o. IfSome o P)) is said)
-
 -- ---- what the log and the slots need
 
 -- what a keeper holds, with the snapshot's body, its state and the inputs
@@ -99,10 +93,6 @@ module _ {past : Past} {sectors : ℕ} {layout : Layout} {slot : Slot} {newest g
   -- each image that a crash leaves is a store of the state
   pub stores : Images past (λ image. IsStoreOf layout image s)
   stores image is = store_of (unpacked.goes_on.store image is) unpacked.comes
-
-  -- each is that of its newest snapshot, as the slots need it
-  pub snapshots : Images past (HasStore layout slot newest unpacked.body)
-  snapshots image is = subst (IsStore current layout image slot newest unpacked.body) (sym (k.front image is)) (unpacked.goes_on.store image is)
 
   -- where nothing is written
   pub still : During past past (λ image. IsStoreOf layout image s)
@@ -272,40 +262,3 @@ pub rises_at_most : {layout : Layout} {size : ℕ} {s : State} (old new : Log) {
     → MayRise old new (most_snapshot_calls layout) most now
 rises_at_most old new held (inl kept) = inl kept
 rises_at_most old new {most} {now} held (inr (one, few)) = let small = most_of_snapshot held in inr (one, omega (arith, few, small))
-
-module _ {past : Past} {sectors : ℕ} {layout : Layout} {slot : Slot} {newest generation number next size : ℕ} {s : State} (held : MayHold layout size s)
-    (k : Keeps past sectors layout slot newest generation number next s) (fits : FitState s) where
-  may : IsServable (body_limit layout) s
-  may = subst (λ n. IsServable n s) held.size_is held.servable
-
-  -- while it is written the image is a store of the state
-  pub either_kept : IsImage past (seen past) → newest + 1 < 2 ^ 64 → (image : Image) → EitherSnapshot layout past slot newest (unpacked k).body (state_spelling s) image → IsStoreOf layout image s
-  either_kept here early image (inl was) = store_of (subst (IsStore current layout image slot newest (unpacked k).body) (k.front was.from was.was) was.store) (unpacked k).comes
-  either_kept here early image (inr new) = anew (subst (IsStore current layout image (other slot) (newest + 1) (state_spelling s)) none_new new) (state_back s fits) may
-    where
-      none_new : all_records current layout (newest + 1) (seen past) ≡ []
-      none_new = none_counts current layout (newest + 1) generation (seen past) (top_fits current (newest + 1) early) (omega (arith, k.same)) (k.above (seen past) here)
-
-  -- the same of the calls that write it
-  pub during_kept : {new : Past} {body : List ℕ} → IsImage past (seen past) → newest + 1 < 2 ^ 64 → body ≡ state_spelling s
-      → ((before : List ℕ) → Images past (HasStore layout slot newest before) → During past new (EitherSnapshot layout past slot newest before body))
-      → During past new (λ image. IsStoreOf layout image s)
-  during_kept {new} {body} here early is written = weaker past new _ _ (either_kept here early)
-      (subst (λ b. During past new (EitherSnapshot layout past slot newest (unpacked k).body b)) is (written (unpacked k).body (snapshots k)))
-
-  -- behind it the keeper holds the same state, with no record
-  pub snapped : {new : Past} {to : Slot} {after of later further : ℕ} → IsImage new (seen new) → store_sectors layout ≤ sectors
-      → GoesOn layout new to after (state_spelling s) [] of later further → Keeps new sectors layout to after of later further s
-  snapped is on_disk whole = packed is whole (comes_anew (state_back s fits) may) on_disk
-
-  -- behind the calls that write it
-  module _ {new : Past} {to : Slot} {after of later further : ℕ} {body : List ℕ} (is : body ≡ state_spelling s)
-      (written : (before : List ℕ) → Images past (HasStore layout slot newest before) → GoesOn layout new to after body [] of later further) where
-    behind : GoesOn layout new to after (state_spelling s) [] of later further
-    behind = subst (λ b. GoesOn layout new to after b [] of later further) is (written (unpacked k).body (snapshots k))
-
-    pub kept_behind : IsImage new (seen new) → store_sectors layout ≤ sectors → Keeps new sectors layout to after of later further s
-    kept_behind image on_disk = snapped image on_disk behind
-
-    pub told_behind : Images new (λ image. contents_of current layout image ≡ Some (contents to after s []))
-    told_behind image at = contents_are (behind.store image at) (state_back s fits) refl

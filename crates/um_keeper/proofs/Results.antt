@@ -9,6 +9,11 @@ pub ok_from : {T E : Type 0} (result : Result T E) {P Q : Type 0} → (P → Q) 
 ok_from (Ok x) f p = f p
 ok_from (Err e) f p = tt
 
+-- what follows at Ok and at Err
+pub in_both : {T E : Type 0} (result : Result T E) {P : Type 0} → OnOk result P → OnErr result P → P
+in_both (Ok x) p q = p
+in_both (Err e) p q = q
+
 -- what holds anyway
 pub ok_always : {T E : Type 0} (result : Result T E) {P : Type 0} → P → OnOk result P
 ok_always (Ok x) p = p

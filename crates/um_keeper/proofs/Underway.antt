@@ -1,6 +1,6 @@
 -- While a list is taken: how the disk stands behind each record that is written, each snapshot, and the sync.
 use Rattle.std.proofs.Common.{◌≡◌, ◌⊎◌, ◌∙◌, ℕ, ◌+◌, ◌-◌, ◌^◌, ◌<◌, ◌≤◌, Bool, true, false, List, [], ◌∷◌, ◌++◌, length, take, refl, sym, ap, subst, inl, inr, ⊎_elim, arith, append_assoc, append-nil, length-append}
-use Rattle.std.specs.Prelude.{Err, if◌then◌else◌}
+use Rattle.std.specs.Prelude.{Err, Some, if◌then◌else◌}
 use Rattle.std.proofs.lemmas.Bool.{cases_lt, true≢false}
 use Rattle.std.proofs.lemmas.List.{take_all, take-append-le}
 use Rattle.um_model.specs.Disk.{Past, Image, IsImage, Images, During, seen}
@@ -9,13 +9,14 @@ use Rattle.um_model.specs.Machine.{State, Input, Reply, Refusal, Run, rests, Ste
 use Rattle.um_model.specs.Refusals.{Refused}
 use Rattle.um_model.specs.Servable.{IsServable}
 use Rattle.um_model.specs.Service.{Action}
+use Rattle.um_model.specs.Stands.{contents_of, IsStoreOf}
 use Rattle.um_model.specs.StateSpellings.{FitState, state_spelling}
 use Rattle.um_model.specs.Store.{current, other, body_limit, store_sectors, all_records, IsStore, GoesOn}
 use Rattle.um_model.specs.declared.layout.Layout.{Layout}
 use Rattle.um_model.specs.declared.layout.Slot.{Slot}
 use Rattle.um_laws.proofs.CountedLaws.{none_counts, top_fits}
 use Rattle.um_laws.proofs.DiskLaws.{started, weaker, followed}
-use Rattle.um_laws.proofs.StandsLaws.{ComesTo, records_told, store_of, comes_further, comes_anew, state_back, run_step}
+use Rattle.um_laws.proofs.StandsLaws.{contents, ComesTo, contents_are, records_told, store_of, comes_further, comes_anew, only_end, state_back, run_step}
 use Rattle.um_slot.specs.Snapshots.{HasStore, EitherSnapshot}
 use Rattle.um_log.specs.Ahead.{HasSome, GoesOnAhead}
 use Rattle.um_log.proofs.Behind.{ahead_by_nothing, nothing_ahead}
@@ -26,7 +27,8 @@ use Rattle.um_wire.specs.declared.refusal.Refusal as declared
 use Rattle.um_wire.specs.declared.refusal.Refusal.TheVariants.{Device, GenerationsSpent}
 use Rattle.um_keeper.specs.Answering.{is_turned_away, where_step}
 use Rattle.um_keeper.specs.Keeping.{MayHold, Keeps, IsBegun}
-use Rattle.um_keeper.specs.Underway.{Spells, Begins, IsUnderway, owed}
+use Rattle.um_keeper.specs.Underway.{Spells, Begins, IsUnderway, UnderwayIn, KeptIn, owed}
+use Rattle.um_keeper.specs.declared.ahead.Ahead.{Ahead}
 use Rattle.um_keeper.proofs.Batching.{longer, begun_longer}
 use Rattle.um_keeper.proofs.Kept.{unpacked, packed}
 
@@ -192,6 +194,12 @@ module _ {layout : Layout} {s : State} {taken : List Input} {past : Past} {slot 
         (subst (λ n. IsUnderway layout s taken new to after of 0 n false state) (sym first)
         (nothing_behind false here (subst (λ b. GoesOn layout new to after b [] of 0 start) is whole) renewed under.ends))))
 
+    -- with what is told then of what stands there
+    pub told_renewed : {new : Past} {to : Slot} {after of start : ℕ} {body : List ℕ} → body ≡ state_spelling state → GoesOn layout new to after body [] of 0 start
+        → Images new (λ image. contents_of current layout image ≡ Some (contents to after state []))
+    told_renewed {new} {to} {after} {of} {start} is whole image at =
+        contents_are ((subst (λ b. GoesOn layout new to after b [] of 0 start) is whole).store image at) (state_back state fits) refl
+
   -- ---- at the end
 
   -- behind the sync each image is a store of the state
@@ -206,6 +214,23 @@ module _ {layout : Layout} {s : State} {taken : List Input} {past : Past} {slot 
       let all : under.records ≡ under.records ++ under.more = sym (ap (λ (l : List (List ℕ)). under.records ++ l) none ∙ append-nil under.records) in
       kept_synced here on_disk (subst (λ (l : List (List ℕ)). GoesOn layout past slot newest under.body l generation number next) all
       (nothing_ahead (subst (λ (l : List (List ℕ)). GoesOnAhead layout past slot newest under.body under.records l generation number next) none under.ahead)))
+
+-- ---- of no input
+
+-- where none was taken each image is a store of the state
+none_taken : {layout : Layout} {s : State} (image : Image) → IsBegun layout s [] image → IsStoreOf layout image s
+none_taken {layout} {s} image b =
+    let none : take b.count [] ≡ [] = take_all b.count [] (omega arith) in
+    subst (λ (t : State). IsStoreOf layout image t) (only_end rests b.state (subst (λ (l : List Input). Run (body_limit layout) s l b.state) none b.run)) b.store
+
+pub taken_none : {old new : Past} {layout : Layout} {s : State} → During old new (IsBegun layout s []) → During old new (λ image. IsStoreOf layout image s)
+taken_none {old} {new} run = weaker old new _ _ none_taken run
+
+-- and behind calls that sync all a keeper holds its state
+pub kept_on : {old new : Past} {sectors more : ℕ} {layout : Layout} {slot : Slot} {newest generation number next : ℕ} {s : State} (a : Ahead) → IsImage new (seen new)
+    → Keeps old sectors layout slot newest generation number next s → more ≡ sectors → a.log.layout ≡ layout → UnderwayIn s [] new a s → a.unsynced ≡ false → KeptIn new more a s
+kept_on {new = new} {sectors = sectors} {more} {s = s} a is k same on_layout under clean =
+    kept_unsynced under is (subst (λ n. store_sectors a.log.layout ≤ n) (sym same) (subst (λ (l : Layout). store_sectors l ≤ sectors) (sym on_layout) k.on_disk)) clean
 
 -- ---- what the calls need
 

@@ -6,7 +6,7 @@ use Rattle.std.proofs.lemmas.List.{length-replicate, get_or-replicate}
 use Rattle.um_model.specs.Disk.{Sector, Image, Past, seen, IsImage, Images, synced as synced_call, with_sector, Wrote, Synced, During}
 use Rattle.um_sector.specs.Runs.{IsLaid, MaybeLaid, AfterRun}
 use Rattle.um_model.specs.Machine.{empty_state}
-use Rattle.um_model.specs.Profiles.{current}
+use Rattle.um_model.specs.Profiles as profiles
 use Rattle.um_model.specs.StateSpellings.{state_spelling}
 use Rattle.um_model.specs.Store.{current, superblock, slot_start, body_limit, first_log_sector, HasNoHeader, IsHeader, IsNewest, IsOf, IsNoneAbove}
 use Rattle.um_model.specs.declared.layout.Layout.{Layout}
@@ -111,7 +111,7 @@ wiped_above layout image w theirs j low high is = absurd (blank_log theirs (subs
 
 -- whose bytes have room
 pub empty_room : (layout : Layout) → length (state_spelling empty_state) ≤ body_limit layout
-empty_room layout = spelled_room (body_limit layout) empty_state (empty_fit current) (empty_may layout)
+empty_room layout = spelled_room (body_limit layout) empty_state (empty_fit profiles.current) (empty_may layout)
 
 module _ (layout : Layout) (mid : Image) (newest : IsNewest layout mid A 1 (state_spelling empty_state)) (none : IsNoneAbove layout mid 0) where
   makes : (image : Image) → image 0 ≡ superblock current layout → ((j : ℕ) → 1 ≤ j → image j ≡ mid j) → IsEmptyStore layout image

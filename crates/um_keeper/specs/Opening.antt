@@ -63,12 +63,13 @@ pub data IsUnread (count : ℕ) (image : Image) : Refusal → Type 0 where
   no_sector : count ≡ 0 → IsUnread count image NotFormatted
   no_store : 0 < count → ¬ (take 6 (image 0) ≡ store_name) → IsUnread count image NotFormatted
   other_format : 0 < count → take 6 (image 0) ≡ store_name → ((format : Format) → ¬ (take 8 (image 0) ≡ format_name format)) → IsUnread count image OtherLayout
-  no_layout : (format : Format) → 0 < count → take 8 (image 0) ≡ format_name format → ((layout : Layout) → ¬ HasLayout count image layout) → IsUnread count image (Damaged 0)
+  no_layout : (format : Format) → 0 < count → take 8 (image 0) ≡ format_name format → ((layout : Layout) → ¬ HasLayout count image layout)
+      → IsUnread count image (Damaged 0)
   no_header : {layout : Layout} → HasLayout count image layout → newest_of layout image ≡ None → IsUnread count image (Damaged 1)
   no_state : {layout : Layout} {n : Newest} → HasLayout count image layout → newest_of layout image ≡ Some n
       → ((s : State) → ¬ IsStart layout n.body s) → IsUnread count image (Damaged (slot_start layout n.slot + 1))
-  no_input : {layout : Layout} {n : Newest} {s : State} {e : Refusal} (has : HasLayout count image layout) → newest_of layout image ≡ Some n → IsStart layout n.body s
-      → IsNoInput (all_placed has.format layout n.generation image) e → IsUnread count image e
+  no_input : {layout : Layout} {n : Newest} {s : State} {e : Refusal} (has : HasLayout count image layout) → newest_of layout image ≡ Some n
+      → IsStart layout n.body s → IsNoInput (all_placed has.format layout n.generation image) e → IsUnread count image e
 
 -- all records of the generation lie before this number and this place
 pub record IsBehind (format : Format) (layout : Layout) (generation : ℕ) (image : Image) (number next : ℕ) : Type 0 where
@@ -129,11 +130,13 @@ HasUncounted format layout generation image =
 -- and so many of later generations
 abbrev pub HasLater : Format → Layout → ℕ → Image → ℕ → Type 0
 HasLater format layout generation image =
-    Counts (EndsLater format layout image (end_in format layout generation image) generation) (end_in format layout generation image) (area_end format layout generation)
+    Counts (EndsLater format layout image (end_in format layout generation image) generation) (end_in format layout generation image)
+    (area_end format layout generation)
 
 -- the reading of the records of a generation ends with that sector
 abbrev pub EndsAt : Format → Layout → ℕ → Image → ℕ → Type 0
-EndsAt format layout generation image = StopsAt format layout generation image (count_in format layout generation image) (end_in format layout generation image)
+EndsAt format layout generation image =
+    StopsAt format layout generation image (count_in format layout generation image) (end_in format layout generation image)
 
 -- what is told of whole records of the generation that don't count: how many there are, and the sector with which the reading ends; or there are none
 abbrev pub TellsCutOff : Format → Layout → ℕ → Image → Option Uncounted → Type 0

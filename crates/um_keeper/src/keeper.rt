@@ -23,12 +23,14 @@ ghost use Rattle.um_state.specs.View.{state_of, input_of, query_of, reply_of};
 ghost use Rattle.um_tree.specs.Code.{tree_code};
 ghost use Rattle.um_wire.specs.Refusal.{refused_of};
 
+use crate::ahead::Ahead;
 use crate::receipt::Receipt;
+use crate::recording::{make_room, renew};
 use std::alloc::{AllocError, Global};
 use um_engine::{Engine, Next};
 use um_log::Log;
 use um_sector::Disk;
-use um_slot::{Home, write_other};
+use um_slot::Home;
 use um_state::{Input, Query, Reply, State};
 use um_wire::{Refusal, spell};
 
@@ -183,17 +185,17 @@ impl<D: Disk> Keeper<D> {
         if self.failed {
             return Err(Refusal::Reopen);
         }
-        if self.log.generation == u64::MAX {
-            return Err(Refusal::GenerationsSpent);
-        }
-        let body = spell(self.alloc, self.engine.state())?;
-        match write_other(&mut self.disk, self.log.layout, self.home, &body) {
-            Ok(Some(home)) => {
-                self.home = home;
-                self.log = Log::new(self.log.layout, home.generation);
+        let mut ahead = Ahead {
+            home: self.home,
+            log: self.log,
+            unsynced: false,
+        };
+        match renew(self.alloc, &mut self.disk, &mut ahead, &self.engine) {
+            Ok(()) => {
+                self.home = ahead.home;
+                self.log = ahead.log;
                 Ok(())
             }
-            Ok(None) => unreachable!(),
             Err(refusal) => Err(noted(&mut self.failed, refusal)),
         }
     }
@@ -221,10 +223,19 @@ impl<D: Disk> Keeper<D> {
         ensures size { D.size (disk_in self.new) ≡ D.size (disk_in self.old) }
         ensures honest { D.honest (disk_in self.new) ≡ D.honest (disk_in self.old) }
     {
-        if self.log.fits(bytes) {
-            return Ok(());
+        let mut ahead = Ahead {
+            home: self.home,
+            log: self.log,
+            unsynced: false,
+        };
+        match make_room(self.alloc, &mut self.disk, &mut ahead, &self.engine, bytes) {
+            Ok(()) => {
+                self.home = ahead.home;
+                self.log = ahead.log;
+                Ok(())
+            }
+            Err(refusal) => Err(noted(&mut self.failed, refusal)),
         }
-        self.checkpoint()
     }
 
     /// Takes a planned step, with the receipt of what it answers, once its record is on the disk.

@@ -13,6 +13,7 @@ pub mod laws;
 mod opening;
 mod receipt;
 mod recording;
+mod snapshot;
 
 pub use creating::create;
 pub use inspecting::{Summary, inspect, look};

@@ -16,14 +16,15 @@ ghost use Rattle.um_state.specs.View.{input_of};
 
 use crate::keeper::{Keeper, OpenedStore, Uncounted};
 use crate::receipt::Receipt;
+use crate::snapshot::NextSnapshot;
 use std::alloc::{AllocError, Global};
 use um_engine::Engine;
 use um_log::{Log, Reader, Remains};
 use um_model::{Format, Layout, Slot};
 use um_sector::{Disk, SECTOR_BYTES, Sector};
-use um_slot::{Home, newest, read_superblock, write_other};
+use um_slot::{Home, newest, read_superblock};
 use um_state::Input;
-use um_wire::{Refusal, read_whole, spell};
+use um_wire::{Refusal, read_whole};
 
 /// What was taken up of a disk: the layout of its store, where the newest snapshot stands, the engine in the state that the store stands for,
 /// and what was read.
@@ -266,8 +267,8 @@ fn renew<D: Disk>(alloc: Global, disk: &mut D, found: Found) -> Result<Held, Ref
     ensures size { D.size disk.new ≡ D.size disk.old }
     ensures honest { D.honest disk.new ≡ D.honest disk.old }
 {
-    let body = match spell(alloc, found.engine.state()) {
-        Ok(body) => body,
+    let snapshot = match NextSnapshot::begin(alloc, found.engine.state()) {
+        Ok(snapshot) => snapshot,
         Err(AllocError) => {
             drop(found.engine);
             return Err(Refusal::NoMemory);
@@ -277,14 +278,13 @@ fn renew<D: Disk>(alloc: Global, disk: &mut D, found: Found) -> Result<Held, Ref
         slot: found.home.slot,
         generation: found.greatest,
     };
-    match write_other(disk, found.layout, last, &body) {
-        Ok(Some(home)) => Ok(Held {
+    match snapshot.store(disk, found.layout, last) {
+        Ok(home) => Ok(Held {
             engine: found.engine,
             home,
             log: Log::new(found.layout, home.generation),
             opened: found.opened,
         }),
-        Ok(None) => unreachable!(),
         Err(refusal) => {
             drop(found.engine);
             Err(refusal)

@@ -1,29 +1,30 @@
 //! Records of inputs, written ahead of the last sync.
-ghost use Rattle.std.specs.Prelude.{◌≡◌, ◌⊎◌, ◌+◌, ◌-◌, ◌^◌, ◌<◌, ◌≤◌, ◌∷◌, ◌++◌, [], ℕ, List, true, false, length, Err, IfOk, IfErr, OnOk, OnErr, IsTrue};
+ghost use Rattle.std.specs.Prelude.{◌≡◌, ◌⊎◌, ◌↔◌, ◌+◌, ◌-◌, ◌^◌, ◌<◌, ◌≤◌, ◌∷◌, ◌++◌, [], ℕ, List, true, false, length, Err, Some, IfOk, IfErr, OnOk, OnErr, IsTrue};
 ghost use Rattle.um_engine.specs.Engine.{reply_in, actions_in, standing_in, state_in, size_in, state_after, state_before};
 ghost use Rattle.um_keeper.specs.Keeping.{MayHold, IsBegun, snapshot_calls};
 ghost use Rattle.um_keeper.specs.Underway.{UnderwayIn, LacksRoom, HasRoomFor, IsFreeAt, IsPlannedBy, MayRise};
 ghost use Rattle.um_log.specs.Reading.{Fits};
-ghost use Rattle.um_model.specs.Disk.{During};
+ghost use Rattle.um_model.specs.Disk.{During, Images};
 ghost use Rattle.um_model.specs.InputSpellings.{FitInput, input_limit, input_spelling};
 ghost use Rattle.um_model.specs.Machine as model;
-ghost use Rattle.um_model.specs.Store.{log_start, log_end, part_count};
+ghost use Rattle.um_model.specs.Stands.{contents_of};
+ghost use Rattle.um_model.specs.Store.{current, other, log_start, log_end, part_count};
 ghost use Rattle.um_sector.specs.Refused.{CountsDevice, IsLost};
 ghost use Rattle.um_sector.specs.Unsynced.{sync_count};
 ghost use Rattle.um_state.specs.View.{input_of};
 
 use crate::ahead::Ahead;
 use crate::receipt::Receipt;
+use crate::snapshot::NextSnapshot;
 use std::alloc::Global;
 use um_engine::{Back, Engine, Next};
 use um_log::Log;
 use um_sector::Disk;
-use um_slot::write_other;
 use um_state::Input;
 use um_wire::{Refusal, spell};
 
 /// Writes the state as the next generation. Its first sync covers the records that were written. E20 and E15, with nothing written; E16.
-fn renew<D: Disk>(
+pub(crate) fn renew<D: Disk>(
     alloc: Global,
     disk: &mut D,
     ahead: &mut Ahead,
@@ -34,13 +35,18 @@ fn renew<D: Disk>(
         → During (D.past disk.old) (D.past disk.new) (IsBegun ahead.old.log.layout s taken) }
     ensures ok { OnOk result (IsTrue (D.honest disk.old) → (s : model.State) (taken : List model.Input) → UnderwayIn s taken (D.past disk.old) ahead.old (state_in engine.now)
         → UnderwayIn s taken (D.past disk.new) ahead.new (state_in engine.now)) }
+    ensures stored { OnOk result (IsTrue (D.honest disk.old) → (s : model.State) (taken : List model.Input) → UnderwayIn s taken (D.past disk.old) ahead.old (state_in engine.now)
+        → Images (D.past disk.new) (λ image. contents_of current ahead.old.log.layout image
+        ≡ Some (record { slot = ahead.new.home.slot; generation = ahead.new.home.generation; start = state_in engine.now; inputs = [] }))) }
+    ensures home { OnOk result ((ahead.new.home.slot ≡ other ahead.old.home.slot) × (ahead.new.home.generation ≡ ahead.old.log.generation + 1)) }
     ensures next { OnOk result ((ahead.new.log.next ≡ log_start ahead.old.log.layout ahead.new.log.generation) × (ahead.new.log.generation ≡ ahead.old.log.generation + 1)) }
+    ensures number { OnOk result (ahead.new.log.number ≡ 0) }
     ensures unsynced { OnOk result (ahead.new.unsynced ≡ false) }
     ensures layout { ahead.new.log.layout ≡ ahead.old.log.layout }
     ensures kept { IfErr result (λ e. (e ≡ Refusal.Device) ⊎ (disk.new ≡ disk.old)) }
     ensures same { OnErr result (ahead.new ≡ ahead.old) }
     ensures refused { IfErr result (λ e. IsLost e ⊎ (e ≡ Refusal.GenerationsSpent)) }
-    ensures spent { result ≡ Err Refusal.GenerationsSpent → ahead.old.log.generation ≡ 2 ^ 64 - 1 }
+    ensures spent { (result ≡ Err Refusal.GenerationsSpent) ↔ (ahead.old.log.generation ≡ 2 ^ 64 - 1) }
     ensures calls { D.calls disk.new ≤ D.calls disk.old + snapshot_calls (state_in engine.now) }
     ensures device { CountsDevice result (D.failures disk.old) (D.failures disk.new) }
     ensures size { D.size disk.new ≡ D.size disk.old }
@@ -49,23 +55,18 @@ fn renew<D: Disk>(
     if ahead.log.generation == u64::MAX {
         return Err(Refusal::GenerationsSpent);
     }
-    let body = spell(alloc, engine.state())?;
-    match write_other(disk, ahead.log.layout, ahead.home, &body) {
-        Ok(Some(home)) => {
-            *ahead = Ahead {
-                home,
-                log: Log::new(ahead.log.layout, home.generation),
-                unsynced: false,
-            };
-            Ok(())
-        }
-        Ok(None) => unreachable!(),
-        Err(refusal) => Err(refusal),
-    }
+    let snapshot = NextSnapshot::begin(alloc, engine.state())?;
+    let home = snapshot.store(disk, ahead.log.layout, ahead.home)?;
+    *ahead = Ahead {
+        home,
+        log: Log::new(ahead.log.layout, home.generation),
+        unsynced: false,
+    };
+    Ok(())
 }
 
 /// Sees that a record of so many bytes fits: where it doesn't, the state is written as the next generation first.
-fn make_room<D: Disk>(
+pub(crate) fn make_room<D: Disk>(
     alloc: Global,
     disk: &mut D,
     ahead: &mut Ahead,
@@ -82,6 +83,7 @@ fn make_room<D: Disk>(
     ensures fits { OnOk result (Fits ahead.new.log.layout ahead.new.log.generation ahead.new.log.next bytes) }
     ensures free { (from : ℕ) → IsFreeAt ahead.old.log from → IsFreeAt ahead.new.log from }
     ensures untouched { Fits ahead.old.log.layout ahead.old.log.generation ahead.old.log.next bytes → (disk.new ≡ disk.old) × (ahead.new ≡ ahead.old) }
+    ensures clean { ahead.old.unsynced ≡ false → ahead.new.unsynced ≡ false }
     ensures rises { OnOk result (MayRise ahead.old.log ahead.new.log (snapshot_calls (state_in engine.now)) (D.calls disk.old) (D.calls disk.new)) }
     ensures layout { ahead.new.log.layout ≡ ahead.old.log.layout }
     ensures grows { ahead.old.log.generation ≤ ahead.new.log.generation }

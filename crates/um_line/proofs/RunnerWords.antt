@@ -5,7 +5,7 @@ use Rattle.std.proofs.lemmas.Fmt.{decimal_injective}
 use Rattle.std.proofs.lemmas.List.{take_at, drop_at}
 use Rattle.um_line.specs.Line.{IsRunLine, IsToRun}
 use Rattle.um_line.specs.declared.line.Line.{Line}
-use Rattle.um_line.specs.declared.line.Line.TheVariants.{Memory, Run, Create, Check, Serve, LongBoot, Ctl, Status, Verify, Logs, Help, Topic, Told, Wrong}
+use Rattle.um_line.specs.declared.line.Line.TheVariants.{Memory, Run, Create, Check, Serve, LongBoot, Ctl, Sync, Status, Verify, Logs, Help, Topic, Told, Wrong}
 use Rattle.um_runner.specs.Jobs.{entries_of, words_of}
 use Rattle.um_runner.specs.Runner.{runner_words}
 use Rattle.um_runner.specs.RunnerLines.{TellsRunner, handed_words}
@@ -74,6 +74,7 @@ are_run has_file folder number entries command words (Check line) small says is 
 are_run has_file folder number entries command words (Serve line) small says is = absurd is
 are_run has_file folder number entries command words LongBoot small says is = absurd is
 are_run has_file folder number entries command words (Ctl line) small says is = absurd is
+are_run has_file folder number entries command words (Sync line) small says is = absurd is
 are_run has_file folder number entries command words (Logs line) small says is = absurd is
 are_run has_file folder number entries command words (Help n) small says is = absurd is
 are_run has_file folder number entries command words (Status line) small says is = absurd is

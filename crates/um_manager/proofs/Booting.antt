@@ -16,6 +16,7 @@ use Rattle.um_model.specs.Refusals.{Refused, no_room}
 use Rattle.um_model.specs.Store.{log_start}
 use Rattle.um_model.specs.Tree.{Tree}
 use Rattle.um_model.specs.declared.layout.Layout.{Layout}
+use Rattle.um_model.specs.declared.profile.Profile.{Profile}
 use Rattle.um_model.specs.Machine.{boot_limit, Done, Refusal, reply_after}
 use Rattle.um_model.specs.Machine.{State, Input, Reply, Event, Commanded, Happened, Happening, ProcessEnded, ProcessExecuted, Tick, Booted, HasNoEffect, is_over, isnt_awaited, is_idle, is_known, Follows, ends, reports, ticks, boots, TakesEffect, obeys, meets, HasNoRoom, Step, refused, crowded_out, idle, taken}
 use Rattle.um_model.specs.Service.{Action}
@@ -47,7 +48,7 @@ followed t s u happening actions effect (reports unit process awaits met settles
 followed t s u happening actions effect (ticks timers are due) = tt
 followed t s u happening actions effect boots = (refl, inr ((λ same. effect (is_known same)), refl))
 
-takes_boot : (t : ℕ) (s u : State) (event : Event) (actions : List Action) → TakesEffect t s event actions u → IsBooted s event actions (record u { clock = t })
+takes_boot : {profile : Profile} (t : ℕ) (s u : State) (event : Event) (actions : List Action) → TakesEffect profile t s event actions u → IsBooted s event actions (record u { clock = t })
 takes_boot t s u event actions (obeys accepted does settles) = tt
 takes_boot t s u event actions (meets effect follows) = followed t s u _ actions effect follows
 

@@ -1,19 +1,19 @@
 -- A snapshot that is being written is there whole or not at all, and the store with it is the next generation.
-use Rattle.std.specs.Prelude.{◌≡◌, ◌⊎◌, ◌+◌, ◌*◌, ◌^◌, ◌<◌, ◌≤◌, ℕ, zero, suc, List, [], ◌++◌, length, take, drop, refl}
+use Rattle.std.specs.Prelude.{◌≡◌, ◌⊎◌, ◌+◌, ◌*◌, ◌^◌, ◌<◌, ◌≤◌, ℕ, zero, suc, List, [], ◌++◌, length, take, drop}
 use Rattle.std.proofs.Common.{sym, ◌∙◌, ap, subst, inl, inr, ⊎_elim, arith}
 use Rattle.std.proofs.Math.Seq.{take-append-add}
 use Rattle.std.proofs.lemmas.Bool.{cases_lt}
 use Rattle.std.proofs.lemmas.List.{take-append-drop, length-drop, length-take, nil_from_length, take_all, drop-drop}
 use Rattle.um_model.specs.Disk.{Sector, Image, Past, seen, IsImage, Images, During, IsSettled}
-use Rattle.um_laws.proofs.DiskLaws.{started, weaker}
+use Rattle.um_laws.proofs.DiskLaws.{weaker, followed, at_end}
 use Rattle.um_model.specs.declared.layout.Format.{Format}
 use Rattle.um_model.specs.declared.layout.Layout.{Layout}
 use Rattle.um_model.specs.declared.layout.Slot.{Slot}
 use Rattle.um_model.specs.declared.layout.Slot.TheVariants.{A, B}
-use Rattle.um_model.specs.Store.{current, first_log_sector, top, all_records, records_of, log_start, IsNoneAbove, IsLogEnd, IsStore, GoesOn, filled, superblock, slot_start, other, body_limit, IsHeader, sector_count, joined, body_at, IsNewest, HasNoHeader}
+use Rattle.um_model.specs.Store.{current, first_log_sector, all_records, records_of, log_start, IsNoneAbove, IsLogEnd, IsStore, GoesOn, filled, superblock, slot_start, other, body_limit, IsHeader, sector_count, joined, body_at, IsNewest, HasNoHeader}
 use Rattle.um_laws.proofs.CountedLaws.{none_counts, same_all, below_top, above_later, counts_own, top_fits, log_anew}
 use Rattle.um_laws.proofs.StoreLaws.{same_header, filled_whole, take-filled, behind_slot, before_slot, home_same, kept_newest, same_above}
-use Rattle.um_slot.specs.Snapshots.{body_sector, IsSnapshot, MaybeSnapshot, AfterSnapshot, HasStore, HasNew, EitherSnapshot, HasNewest, EitherNewest}
+use Rattle.um_slot.specs.Snapshots.{body_sector, IsBeside, IsSnapshot, MaybeSnapshot, AfterSnapshot, HasStore, EitherSnapshot, HasNewest, EitherNewest}
 
 -- ---- a body that is written
 
@@ -155,10 +155,6 @@ module _ {layout : Layout} {old image : Image} {slot : Slot} {generation : ℕ} 
 
 module _ {format : Format} {layout : Layout} (past : Past) {slot : Slot} {newest last : ℕ} {before : List ℕ} (above : newest ≤ last)
     (all : Images past (HasNewest format layout slot newest before last)) where
-  -- before the first call
-  pub before_newest : (body : List ℕ) → During past past (EitherNewest format layout past slot newest before last body)
-  before_newest body = started past _ (λ image is. inl (record { from = image; was = is; first = (all image is).first; snapshot = (all image is).snapshot; log = λ j low. refl }))
-
   -- while a snapshot is written into the other slot
   pub during_newest : {new : Past} {body : List ℕ} → last + 1 < 2 ^ 64 → length body ≤ body_limit layout
       → During past new (AfterSnapshot layout past (other slot) (last + 1) body) → During past new (EitherNewest format layout past slot newest before last body)
@@ -180,10 +176,6 @@ module _ {layout : Layout} (past : Past) {slot : Slot} {newest last : ℕ} {befo
       }
 
 module _ {layout : Layout} (past : Past) {slot : Slot} {generation : ℕ} {before : List ℕ} (stores : Images past (HasStore layout slot generation before)) where
-  -- before the first call
-  pub before_other : (body : List ℕ) → During past past (EitherSnapshot layout past slot generation before body)
-  before_other body = started past _ (λ image is. inl (record { from = image; was = is; store = stores image is }))
-
   -- a read gives no record of the next generation
   none_new : generation + 1 < 2 ^ 64 → IsImage past (seen past) → all_records current layout (generation + 1) (seen past) ≡ []
   none_new last is = none_counts current layout (generation + 1) generation (seen past) (top_fits current (generation + 1) last) (omega arith) (stores (seen past) is).none_later
@@ -201,3 +193,76 @@ module _ {layout : Layout} (past : Past) {slot : Slot} {generation : ℕ} {befor
       → MaybeSnapshot layout (seen past) (other slot) (generation + 1) body (seen new) → IsSnapshot layout (seen new) (other slot) (generation + 1) body → IsSettled new
       → GoesOn layout new (other slot) (generation + 1) body [] (generation + 1) 0 (log_start layout (generation + 1))
   goes_on_other = goes_on_newest past (omega arith) (λ image is. has_newest (stores image is))
+
+-- ---- parts of a body, and then its header
+
+module _ {layout : Layout} {past : Past} {slot : Slot} {image : Image} (b : IsBeside layout past slot image) where
+  -- where only the other slot's body differs, the log is the same
+  log_beside : (j : ℕ) → first_log_sector layout ≤ j → image j ≡ b.from j
+  log_beside j low = b.same j (inr (behind_slot layout (other slot) j low))
+
+  all_beside : (generation : ℕ) → all_records current layout generation image ≡ all_records current layout generation b.from
+  all_beside generation = same_all current layout generation b.from image (λ j low high. log_beside j low)
+
+  -- and so are sector 0 and the newest snapshot
+  beside_newest : {format : Format} {newest last : ℕ} {before : List ℕ} → HasNewest format layout slot newest before last b.from → HasNewest format layout slot newest before last image
+  beside_newest has = record {
+    first = b.same 0 (inl (omega arith)) ∙ has.first;
+    snapshot = kept_newest has.snapshot (λ j out. b.same j (⊎_elim (λ low. inl (omega (arith, low))) (λ high. inr high) out)) (b.same (slot_start layout (other slot)) (inl (omega arith)));
+    none_later = same_above layout (λ j low high. log_beside j low) has.none_later;
+  }
+
+  -- so it is the same store
+  beside_store : {newest : ℕ} {before : List ℕ} → HasStore layout slot newest before b.from → IsStore current layout image slot newest before (all_records current layout newest b.from)
+  beside_store {newest} store =
+      let has = beside_newest (has_newest store) in
+      record {
+        first = has.first;
+        newest = has.snapshot;
+        records_are = sym (all_beside newest);
+        none_later = same_above layout (λ j low high. log_beside j low) store.none_later;
+      }
+
+module _ {layout : Layout} {old mid : Past} {slot : Slot} (parts : During old mid (IsBeside layout old slot)) where
+  module _ {generation : ℕ} {before : List ℕ} (stores : Images old (HasStore layout slot generation before)) where
+    -- behind the parts each image is that of a store with its newest snapshot
+    pub stores_beside : Images mid (HasStore layout slot generation before)
+    stores_beside image is =
+        let b = at_end old mid _ parts image is in
+        subst (IsStore current layout image slot generation before) (sym (all_beside b generation)) (beside_store b (stores b.from b.was))
+
+    -- while they are written it is that of before
+    pub parts_other : (body : List ℕ) → During old mid (EitherSnapshot layout old slot generation before body)
+    parts_other body = weaker old mid _ _ (λ image b. inl (record { from = b.from; was = b.was; store = beside_store b (stores b.from b.was) })) parts
+
+    -- and then the header
+    pub then_other : {new : Past} {body : List ℕ} → ((j : ℕ) → first_log_sector layout ≤ j → seen mid j ≡ seen old j)
+        → During mid new (EitherSnapshot layout mid slot generation before body) → During old new (EitherSnapshot layout old slot generation before body)
+    then_other {new} {body} log rest = followed old mid new _ (parts_other body) (weaker mid new _ _ from_old rest)
+      where
+        from_old : (image : Image) → EitherSnapshot layout mid slot generation before body image → EitherSnapshot layout old slot generation before body image
+        from_old image (inl was) =
+            let b = at_end old mid _ parts was.from was.was in
+            inl (record { from = b.from; was = b.was; store = subst (IsStore current layout image slot generation before) (all_beside b generation) was.store })
+        from_old image (inr done) =
+            inr (subst (IsStore current layout image (other slot) (generation + 1) body) (same_all current layout (generation + 1) (seen old) (seen mid) (λ j low high. log j low)) done)
+
+  module _ {format : Format} {newest last : ℕ} {before : List ℕ} (all : Images old (HasNewest format layout slot newest before last)) where
+    -- the same of the newest snapshot and the log alone
+    pub newest_beside : Images mid (HasNewest format layout slot newest before last)
+    newest_beside image is = let b = at_end old mid _ parts image is in beside_newest b (all b.from b.was)
+
+    pub parts_newest : (body : List ℕ) → During old mid (EitherNewest format layout old slot newest before last body)
+    parts_newest body = weaker old mid _ _ (λ image b.
+        let has = beside_newest b (all b.from b.was) in
+        inl (record { from = b.from; was = b.was; first = has.first; snapshot = has.snapshot; log = λ j low. log_beside b j low })) parts
+
+    pub then_newest : {new : Past} {body : List ℕ} → During mid new (EitherNewest format layout mid slot newest before last body)
+        → During old new (EitherNewest format layout old slot newest before last body)
+    then_newest {new} {body} rest = followed old mid new _ (parts_newest body) (weaker mid new _ _ from_old rest)
+      where
+        from_old : (image : Image) → EitherNewest format layout mid slot newest before last body image → EitherNewest format layout old slot newest before last body image
+        from_old image (inl was) =
+            let b = at_end old mid _ parts was.from was.was in
+            inl (record { from = b.from; was = b.was; first = was.first; snapshot = was.snapshot; log = λ j low. was.log j low ∙ log_beside b j low })
+        from_old image (inr done) = inr done

@@ -16,4 +16,4 @@ pub use laws::{
 };
 pub use read::{Snapshot, newest};
 pub use um_model::{Format, Layout, Slot};
-pub use write::{finish, write_first, write_other, write_part};
+pub use write::{finish, write_first, write_part};

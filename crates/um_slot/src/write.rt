@@ -157,57 +157,6 @@ fn write_slot<D: Disk>(
     Ok(to)
 }
 
-/// Writes a body as the next generation into the other slot: the body, a sync, then its header, a sync. Answers where it
-/// stands; None where the body is longer than a slot holds, with nothing written.
-///
-/// Where each image is that of a store whose newest snapshot is at `home`, each image that a crash leaves meanwhile is that of
-/// the store of an image of before, or of the store with the new body and no record; after Ok it is the latter, and the log is
-/// free from its first sector on. So records that weren't synced may be there or not meanwhile, and are gone after it.
-///
-/// The generation at `home` may be above that of the newest snapshot, which stands in its slot: then no sector of the log is of a
-/// generation above it, meanwhile the newest snapshot and the log are those of an image of before, or the new body stands there, and
-/// after Ok it is the latter.
-///
-/// E20 where the generation is 2^64 - 1, whatever the body, with nothing written; E16 where a disk call fails: it takes no memory. It
-/// makes at most three disk calls more than the body has sectors.
-pub fn write_other<D: Disk>(
-    disk: &mut D,
-    layout: Layout,
-    home: Home,
-    body: &[u8],
-) -> Result<Option<Home>, Refusal>
-    ensures during { IsTrue (D.honest disk.old) → (before : List ℕ) → Images (D.past disk.old) (HasStore layout home.slot home.generation before)
-        → During (D.past disk.old) (D.past disk.new) (EitherSnapshot layout (D.past disk.old) home.slot home.generation before body.now) }
-    ensures ok { IfOk result (λ to. IfSome to (λ to. IsTrue (D.honest disk.old) → (before : List ℕ) → Images (D.past disk.old) (HasStore layout home.slot home.generation before)
-        → GoesOn layout (D.past disk.new) to.slot to.generation body.now [] to.generation 0 (log_start layout to.generation))) }
-    ensures during_newest { IsTrue (D.honest disk.old) → (format : Format) (newest : ℕ) (before : List ℕ) → newest ≤ home.generation
-        → Images (D.past disk.old) (HasNewest format layout home.slot newest before home.generation)
-        → During (D.past disk.old) (D.past disk.new) (EitherNewest format layout (D.past disk.old) home.slot newest before home.generation body.now) }
-    ensures ok_newest { IfOk result (λ to. IfSome to (λ to. IsTrue (D.honest disk.old) → (newest : ℕ) (before : List ℕ) → newest ≤ home.generation
-        → Images (D.past disk.old) (HasNewest current layout home.slot newest before home.generation)
-        → GoesOn layout (D.past disk.new) to.slot to.generation body.now [] to.generation 0 (log_start layout to.generation))) }
-    ensures settled { IfOk result (λ to. IfSome to (λ _. IsTrue (D.honest disk.old) → IsSettled (D.past disk.new))) }
-    ensures home { IfOk result (λ to. IfSome to (λ to. (to.slot ≡ other home.slot) × (to.generation ≡ home.generation + 1))) }
-    ensures spent { (result ≡ Err Refusal.GenerationsSpent) ↔ (home.generation ≡ 2 ^ 64 - 1) }
-    ensures long { (result ≡ Ok None) ↔ ((home.generation < 2 ^ 64 - 1) × (body_limit layout < length body.now)) }
-    ensures unwritten { result ≡ Ok None → disk.new ≡ disk.old }
-    ensures kept { IfErr result (λ e. (e ≡ Refusal.Device) ⊎ (disk.new ≡ disk.old)) }
-    ensures calls { D.calls disk.new ≤ D.calls disk.old + sector_count (length body.now) + 3 }
-    ensures failures { CountsDevice result (D.failures disk.old) (D.failures disk.new) }
-    ensures err { IfErr result (λ e. (e ≡ Refusal.Device) ⊎ (e ≡ Refusal.GenerationsSpent)) }
-    ensures size { D.size disk.new ≡ D.size disk.old }
-    ensures honest { D.honest disk.new ≡ D.honest disk.old }
-{
-    if home.generation == u64::MAX {
-        return Err(Refusal::GenerationsSpent);
-    }
-    if body.len() > layout.body_limit() {
-        return Ok(None);
-    }
-    let to = write_slot(disk, layout, home, body)?;
-    Ok(Some(to))
-}
-
 /// Writes a body as generation 1 into slot A, where no store stands yet: the body, a sync, then its header, a sync. Answers
 /// where it stands; None where the body is longer than a slot holds, with nothing written.
 ///

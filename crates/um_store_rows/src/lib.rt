@@ -23,9 +23,13 @@ mod listing;
 mod log;
 mod marks;
 #[cfg(test)]
+mod older;
+#[cfg(test)]
 mod opening;
 #[cfg(test)]
 mod order;
+#[cfg(test)]
+mod parts;
 #[cfg(test)]
 mod refusal;
 #[cfg(test)]

@@ -5,19 +5,21 @@ use std::process::Abort;
 use um_asserts::{is_refused, same, same_at};
 use um_sector::{Disk, Fuse, MemDisk, Sector};
 use um_slot::{
-    Format, Home, Layout, Slot, newest, read_superblock, superblock, write_first, write_other,
+    Format, Home, Layout, Slot, finish, newest, read_superblock, superblock, write_first,
+    write_part,
 };
+use um_wire::Refusal;
 
 /// Slots of 64 sectors, a log of 512.
-fn small(rt: &impl Abort) -> Layout {
+pub fn small(rt: &impl Abort) -> Layout {
     Layout::new(64, 512).expect(rt, "no layout")
 }
 
 /// A snapshot: its home, the length of its body, and the byte that its body has at each place.
-type Stored = (Home, usize, u8);
+pub type Stored = (Home, usize, u8);
 
 /// Asserts that this is the newest snapshot, in this row.
-fn stores<D: Disk, R: Debug + Drop>(
+pub fn stores<D: Disk, R: Debug + Drop>(
     rt: &(impl AllocGlobal + Abort),
     disk: &mut D,
     wanted: Stored,
@@ -41,7 +43,7 @@ fn empty(rt: &(impl AllocGlobal + Abort)) -> MemDisk {
 }
 
 /// A disk with generation 1 in slot A: a body of 37 bytes.
-fn first(rt: &(impl AllocGlobal + Abort)) -> MemDisk {
+pub fn first(rt: &(impl AllocGlobal + Abort)) -> MemDisk {
     let mut disk = empty(rt);
     let bytes = vec![in rt.alloc(); 7u8; 37].expect(rt, "no memory");
     let written = write_first(&mut disk, small(rt), &bytes).expect(rt, "refused");
@@ -49,18 +51,18 @@ fn first(rt: &(impl AllocGlobal + Abort)) -> MemDisk {
     disk
 }
 
-const A1: Home = Home {
+pub const A1: Home = Home {
     slot: Slot::A,
     generation: 1,
 };
 
-const B2: Home = Home {
+pub const B2: Home = Home {
     slot: Slot::B,
     generation: 2,
 };
 
 /// What is stored first.
-const OLD: Stored = (A1, 37, 7);
+pub const OLD: Stored = (A1, 37, 7);
 
 /// What is stored behind it: a body of two sectors.
 const NEW: Stored = (B2, 513, 8);
@@ -127,6 +129,13 @@ fn the_first_header_is_written_by_its_layout(rt: HostRuntime) {
     stores(&rt, &mut disk, OLD, "the first");
 }
 
+/// Writes a body as generation 2 behind the first, and its header.
+fn write_second<D: Disk>(rt: &impl Abort, disk: &mut D, body: &[u8]) -> Result<Home, Refusal> {
+    assert!(rt; body.len() <= 32_256, "a slot has no room for it");
+    write_part(disk, small(rt), A1, body, 0, usize::MAX)?;
+    finish(disk, small(rt), A1, body.len())
+}
+
 /// Which call of the writing of generation 2 fails, for a body of two sectors, which writes a crash leaves then, and the snapshot.
 const CRASHES: &[(u64, [usize; 2], Stored)] = &[
     // the second write of the body
@@ -153,7 +162,7 @@ const CRASHES: &[(u64, [usize; 2], Stored)] = &[
 
 /// The disk behind a writing of generation 2 that failed, with a body of two sectors.
 fn failed(rt: &(impl AllocGlobal + Abort), mut disk: Fuse<MemDisk>) -> MemDisk {
-    let written = write_other(&mut disk, small(rt), A1, &[8; 513]);
+    let written = write_second(rt, &mut disk, &[8; 513]);
     is_refused!(rt, written, "E16 Device");
     disk.into_inner()
 }
@@ -191,7 +200,7 @@ fn a_header_whose_write_failed_may_count(rt: HostRuntime) {
 const NO_HEADERS: &[(usize, u8)] = &[(24, 1), (511, 1), (21, 1), (15, 0), (7, 0)];
 
 /// A body of so many bytes, each of which is 8.
-fn body_of(rt: &(impl AllocGlobal + Abort), size: usize) -> Vec<u8> {
+pub fn body_of(rt: &(impl AllocGlobal + Abort), size: usize) -> Vec<u8> {
     vec![in rt.alloc(); 8u8; size].expect(rt, "no memory")
 }
 
@@ -219,58 +228,19 @@ fn what_is_not_as_it_is_written_is_no_header(rt: HostRuntime) {
     }
 }
 
-/// The last generation.
-const LAST: Home = Home {
-    slot: Slot::A,
-    generation: u64::MAX,
-};
-
-/// The home of a body; None where it doesn't fit; or the refusal.
-type Placed = Result<Option<Home>, &'static str>;
-
-/// Sizes of a body, the home that it is written behind, its home where it fits, or the refusal; then what is stored, and how often the
-/// disk was synced.
-const BODIES: &[(usize, Home, Placed, Stored, usize)] = &[
-    (1, LAST, Err("E20 GenerationsSpent"), OLD, 2),
-    (32_257, LAST, Err("E20 GenerationsSpent"), OLD, 2),
-    (32_257, A1, Ok(None), OLD, 2),
-    (32_256, A1, Ok(Some(B2)), (B2, 32_256, 8), 4),
-];
-
-/// Asserts that the body of so many bytes is written behind that home as it is wanted.
-fn is_placed(
-    rt: &(impl AllocGlobal + Abort),
-    disk: &mut MemDisk,
-    size: usize,
-    before: Home,
-    wanted: &Placed,
-) {
-    let written = write_other(disk, small(rt), before, &body_of(rt, size));
-    match wanted {
-        Ok(home) => same!(rt, written.expect(rt, "refused"), *home),
-        Err(why) => is_refused!(rt, written, why),
-    }
-}
-
-/// Asserts how often the disk was synced.
-fn has_syncs(rt: &impl Abort, disk: &MemDisk, count: usize) {
-    same!(rt, disk.syncs(), count);
-}
-
 #[test]
-fn a_body_has_up_to_32_256_bytes_and_none_stands_behind_the_last_generation(rt: HostRuntime) {
-    for (size, before, wanted, snapshot, syncs) in BODIES {
-        let mut disk = first(&rt);
-        is_placed(&rt, &mut disk, *size, *before, wanted);
-        has_syncs(&rt, &disk, *syncs);
-        stores(&rt, &mut disk, *snapshot, size);
-    }
+fn a_body_of_32_256_bytes_fills_a_slot(rt: HostRuntime) {
+    let mut disk = first(&rt);
+    let written = write_second(&rt, &mut disk, &body_of(&rt, 32_256));
+    same!(&rt, written.expect(&rt, "refused"), B2);
+    same!(&rt, disk.syncs(), 4);
+    stores(&rt, &mut disk, (B2, 32_256, 8), "the second");
 }
 
 /// Writes generation 2 behind the first.
 fn writes_second<D: Disk>(rt: &impl Abort, disk: &mut D) {
-    let written = write_other(disk, small(rt), A1, &[8; 513]);
-    same!(rt, written.expect(rt, "refused"), Some(B2));
+    let written = write_second(rt, disk, &[8; 513]);
+    same!(rt, written.expect(rt, "refused"), B2);
 }
 
 /// Asserts that all writes are synced.

@@ -1,4 +1,4 @@
-use Rattle.std.proofs.Common.{◌≡◌, ◌+◌, ◌∙◌, ℕ, [], sym, subst, arith}
+use Rattle.std.proofs.Common.{ℕ, [], sym, subst, arith}
 use Rattle.um_model.specs.Disk.{seen, During}
 use Rattle.um_model.specs.Store.{other, log_start, sector_count, GoesOn}
 use Rattle.um_model.specs.declared.layout.Slot.{Slot}

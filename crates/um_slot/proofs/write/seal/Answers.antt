@@ -1,6 +1,6 @@
 use Rattle.std.proofs.Common.{◌≡◌, ◌∙◌, ℕ, List, [], ◌∷◌, length, sym, ap, subst}
 use Rattle.um_laws.proofs.DiskLaws.{settled_after_sync}
-use Rattle.um_model.specs.Disk.{Sector, Past, seen, During, IsSettled, after, synced}
+use Rattle.um_model.specs.Disk.{Sector, Past, seen, During, IsSettled}
 use Rattle.um_model.specs.Store.{slot_start, header_sector, sector_count}
 use Rattle.um_sector.specs.Runs.{IsLaid, MaybeLaid}
 use Rattle.um_slot.specs.Snapshots.{IsWritten}

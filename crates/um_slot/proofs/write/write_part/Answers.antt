@@ -1,5 +1,5 @@
-use Rattle.std.proofs.Common.{◌≡◌, ◌+◌, ◌-◌, ◌≤◌, ◌∙◌, min, ℕ, length, ap, subst, arith}
-use Rattle.um_model.specs.Disk.{Image, seen, During}
+use Rattle.std.proofs.Common.{◌≡◌, ◌+◌, ◌≤◌, ◌∙◌, min, ℕ, length, ap, subst, arith}
+use Rattle.um_model.specs.Disk.{seen, During}
 use Rattle.um_model.specs.Store.{slot_start, other, sector_count}
 use Rattle.um_sector.specs.Runs.{IsLaid, AfterRun}
 use Rattle.um_slot.specs.Snapshots.{part_run, IsWritten}

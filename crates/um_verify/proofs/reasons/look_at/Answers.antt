@@ -1,12 +1,20 @@
-use Rattle.std.proofs.Common.{◌≡◌, [], ◌∷◌, map, refl, sym, ap, ◌∙◌, subst, inr, string_bytes}
+use Rattle.std.proofs.Common.{◌≡◌, [], ◌∷◌, map, refl, sym, ap, ◌∙◌, subst, inl, inr, string_bytes}
 use Rattle.std.proofs.lemmas.List.{map-append}
 use Rattle.um_model.specs.Profiles.{current, read_by}
 use Rattle.um_model.specs.Units.{BadSetting, load}
-use Rattle.um_unit.specs.View.{loading_of}
+use Rattle.um_unit.specs.View.{loading_of, unit_of}
 use Rattle.um_verify.specs.Findings.{TakesOut, Tells}
 use Rattle.um_verify.specs.View.{IsTaken, told_of}
 use Rattle.um_verify.proofs.TellsLaws.{tells_more}
 use Rattle.um_verify.proofs.reasons.look_at.Goals as goal
+
+pub returns-in-Found : goal.returns-in-Found
+returns-in-Found c =
+    let unit = c.args.unit.now in
+    let found = c.loop.findings.items in
+    let loads = ap (λ t. load t unit) (sym c.read_now.ensures) ∙ sym c.in_ok-found.ensures ∙ ap loading_of c.in-Found.is in
+    let more = c.in_ok-all-in-Found.ensures in
+    (map told_of found, c.loop.invariant, (found, more.0, more.1, refl, inl (unit_of c.in-Found.found, loads, more.2)))
 
 pub returns-in-Left : goal.returns-in-Left
 returns-in-Left c =
