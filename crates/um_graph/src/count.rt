@@ -25,7 +25,11 @@ fn known_count(alloc: Global, reading: Reading<'_>, extra: &[UnitName]) -> Resul
 }
 
 /// How many units are known by the tree without its entries under `run/`.
-fn lasting_count(alloc: Global, reading: Reading<'_>, extra: &[UnitName]) -> Result<usize, AllocError>
+fn lasting_count(
+    alloc: Global,
+    reading: Reading<'_>,
+    extra: &[UnitName],
+) -> Result<usize, AllocError>
     ensures { IfOk result (λ count. KnowsSoMany (lasting_tree (tree_read reading.entry)) (Contains extra.now) count) }
 {
     let mut lasting = reading.tree.copy()?;
@@ -39,7 +43,11 @@ fn lasting_count(alloc: Global, reading: Reading<'_>, extra: &[UnitName]) -> Res
 
 /// For how many units the tree counts, with those that are named beside it: the greater of the counts of known units now and
 /// without the entries under `run/`.
-pub fn count_of(alloc: Global, reading: Reading<'_>, extra: &[UnitName]) -> Result<usize, AllocError>
+pub fn count_of(
+    alloc: Global,
+    reading: Reading<'_>,
+    extra: &[UnitName],
+) -> Result<usize, AllocError>
     ensures { IfOk result (λ count. CountsFor (tree_read reading.entry) (Contains extra.now) count) }
 {
     let held = known_count(alloc, reading, extra)?;

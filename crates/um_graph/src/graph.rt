@@ -144,7 +144,11 @@ impl Graph {
 }
 
 /// How many units are known by the tree without its entries under `run/`, where it has any; refused are too many.
-fn lasting_count(alloc: Global, reading: Reading<'_>, extra: &[UnitName]) -> Result<Option<usize>, Refusal>
+fn lasting_count(
+    alloc: Global,
+    reading: Reading<'_>,
+    extra: &[UnitName],
+) -> Result<Option<usize>, Refusal>
     ensures counts { IfOk result (λ count. CountsLasting (tree_read reading.entry) extra.now count) }
     ensures refused { IfErr result (λ e. ¬ (e ≡ refusals.NoMemory)
         → (e ≡ refusals.TooLarge limits.Units) × KnowsTooMany (lasting_tree (tree_read reading.entry)) (Contains extra.now)) }

@@ -189,7 +189,11 @@ impl Known {
     }
 
     /// All known units, and what they tell. Refused is a tree by which more than 1,024 units are known (E13 `units`).
-    pub(crate) fn of(alloc: Global, reading: Reading<'_>, extra: &[UnitName]) -> Result<Known, Refusal>
+    pub(crate) fn of(
+        alloc: Global,
+        reading: Reading<'_>,
+        extra: &[UnitName],
+    ) -> Result<Known, Refusal>
         ensures whole { IfOk result (λ k. IsUnderWay (tree_read reading.entry) extra.now k.loaded [] k.told.items) }
         ensures count { IfOk result (λ k. KnowsSoMany (tree_read reading.entry) (Contains extra.now) (btree_map_len k.loaded)) }
         ensures few { IfOk result (λ _. ¬ KnowsTooMany (tree_read reading.entry) (Contains extra.now)) }
@@ -210,7 +214,11 @@ impl Known {
     }
 
     /// All known units, however many, and what they tell.
-    pub(crate) fn all(alloc: Global, reading: Reading<'_>, extra: &[UnitName]) -> Result<Known, AllocError>
+    pub(crate) fn all(
+        alloc: Global,
+        reading: Reading<'_>,
+        extra: &[UnitName],
+    ) -> Result<Known, AllocError>
         ensures whole { IfOk result (λ k. IsUnderWay (tree_read reading.entry) extra.now k.loaded [] k.told.items) }
         ensures count { IfOk result (λ k. KnowsSoMany (tree_read reading.entry) (Contains extra.now) (btree_map_len k.loaded)) }
     {

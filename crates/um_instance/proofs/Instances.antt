@@ -93,10 +93,10 @@ module _ (outlives : (layout : Layout) (first : State) (lives : List ManagerLife
       → (so : SoFar one made [] Sure First b) → IsLeftBy b.disk next → (then : SoFar other next b.past Sure More d) → IsInstance layout d.disk d.past Known
   instance_of {one} {other} {b} {d} {next} sure less too so left then =
       let stands = (so.found sure).1 in
-      let was : one ≡ layout = one_layout one layout (seen made) stands.first (created (seen made) read).store.stands.first in
+      let was : one ≡ layout = one_layout stands.format (created (seen made) read).store.stands.format one layout (seen made) stands.first (created (seen made) read).store.stands.first in
       let all = outlives layout empty_state (ended so.past ∷ []) b.disk (seen next) (one_premises so.past was (so.gone sure)) (left.no_other (seen next) left.read) in
       let there = (then.found sure).1 in
-      let is : other ≡ layout = one_layout other layout (seen next) there.first all.store.stands.first in
+      let is : other ≡ layout = one_layout there.format all.store.stands.format other layout (seen next) there.first all.store.stands.first in
       record {
         lives = ended so.past ∷ (ended then.past ∷ []);
         disk = record {

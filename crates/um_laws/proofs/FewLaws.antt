@@ -19,7 +19,7 @@ use Rattle.um_model.specs.Service.{Action, ByUnit, dead_unit, holds_nothing, sta
 use Rattle.um_model.specs.Settings.{ServiceSettings}
 use Rattle.um_model.specs.Timers.{Timers}
 use Rattle.um_model.specs.Transitions.{transition}
-use Rattle.um_model.specs.Tree.{Tree, Entry, Link, is_volatile, without_run}
+use Rattle.um_model.specs.Tree.{Entry, Link, is_volatile, without_run}
 use Rattle.um_model.specs.declared.dependencies.DependencyKind.{DependencyKind}
 use Rattle.um_model.specs.declared.jobs.JobKind.{JobKind}
 use Rattle.um_model.specs.declared.jobs.JobKind.TheVariants as job

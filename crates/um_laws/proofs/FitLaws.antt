@@ -1,5 +1,5 @@
 -- A start job that goes on leaves its unit in start-pre or start, and a stop job that goes on leaves it in a stop state: row by row of the table.
-use Rattle.std.proofs.Common.{ℕ, ◌≡◌, ◌≢◌, ◌∙◌, ◌+◌, ◌&&◌, Bool, true, false, true≢false, not, cond, Option, Some, None, refl, sym, ap, subst}
+use Rattle.std.proofs.Common.{ℕ, ◌≡◌, ◌≢◌, ◌∙◌, ◌+◌, ◌&&◌, Bool, true, false, true≢false, not, cond, Option, Some, None, refl, sym, ap}
 use Rattle.um_model.specs.Limit.{counted}
 use Rattle.um_model.specs.Service.{active_state_of}
 use Rattle.um_model.specs.Settings.{ServiceSettings, has_place}

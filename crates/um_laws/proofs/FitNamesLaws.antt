@@ -14,7 +14,6 @@ use Rattle.um_model.specs.Names.{is_template, is_unit_name}
 use Rattle.um_model.specs.Plan.{IsPlan}
 use Rattle.um_model.specs.Servable.{IsBlank}
 use Rattle.um_model.specs.Service.{Action, ByUnit, AreTidyUnits, dead_unit}
-use Rattle.um_model.specs.Tree.{Tree}
 use Rattle.um_model.specs.declared.dependencies.Demand.{Demand}
 use Rattle.um_model.specs.declared.jobs.JobKind.TheVariants as job
 use Rattle.um_model.specs.declared.jobs.JobState.{JobState}

@@ -18,7 +18,6 @@ use Rattle.um_model.specs.Settings.{ServiceSettings, default_settings, has_place
 use Rattle.um_model.specs.Spellings.{FitEnd}
 use Rattle.um_model.specs.Ends.{is_clean, is_restart_wanted, has_one_command}
 use Rattle.um_model.specs.Transitions.{deadline_after, has_number, is_live, just, asking, start_ends, start_fails, rests_for_good, waits_to_restart, rests, terminates, stop_command, winds_down, first_command, start_of, pre_command, prepares, starts_if, starts, starts_prepared, pre_goes_on, exits, next_command, start_goes_on, rests_unless_live, noted, without_main, without_control, timed_out, told_to_stop, is_control_done, row, is_going, transition, HasNumber, fails_start}
-use Rattle.um_model.specs.Tree.{Tree}
 use Rattle.um_model.specs.Units.{Assigned, default_timeout, last_said, unless_zero, values_of, default_timeout_start, service_settings_with, service_settings_of, LoadedUnit, Loading, Found, Masked, NotFound, BadSetting, loading_at, load}
 use Rattle.um_model.specs.Values.{number_of, span_of}
 use Rattle.um_model.specs.Commands.{Command}

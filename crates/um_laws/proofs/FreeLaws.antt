@@ -15,7 +15,6 @@ use Rattle.um_model.specs.Refusals.{Refused, at_first, at_second, ordering_cycle
 use Rattle.um_model.specs.Servable.{IsBlank, IsFree}
 use Rattle.um_model.specs.Service.{Action, ByUnit, state_of_unit}
 use Rattle.um_model.specs.Timers.{Timers}
-use Rattle.um_model.specs.Tree.{Tree}
 use Rattle.um_model.specs.declared.dependencies.Demand.{Demand}
 use Rattle.um_model.specs.declared.dependencies.Demand.TheVariants.{Start, Stop, Restart}
 use Rattle.um_model.specs.declared.jobs.JobKind.{JobKind}

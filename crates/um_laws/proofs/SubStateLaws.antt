@@ -1,11 +1,11 @@
 -- A unit is in start-pre only where the loaded profile serves ExecStartPre=: row by row of the table, and over all that an input has for its effect.
-use Rattle.std.proofs.Common.{ℕ, ◌≡◌, ◌⊎◌, inl, inr, ◌∙◌, ◌+◌, ◌||◌, Bool, true, false, true≢false, not, cond, ◌&&◌, List, [], nat_lt, Option, Some, None, unwrap_or, refl, sym, ap, subst, arith}
+use Rattle.std.proofs.Common.{ℕ, ◌≡◌, inl, inr, ◌∙◌, ◌+◌, Bool, true, false, true≢false, not, cond, ◌&&◌, List, [], nat_lt, Option, Some, None, unwrap_or, refl, sym, ap, subst, arith}
 use Rattle.std.proofs.lemmas.Bool.{ltb-true}
 use Rattle.std.specs.Cmp.Lexicographic.{slice_cmp}
 use Rattle.std.specs.FinMap as map
 use Rattle.std.specs.Option.{option_map_or}
 use Rattle.std.specs.Ordering.{nat_cmp}
-use Rattle.um_model.specs.Dependencies.{loadable_of, loadable_in}
+use Rattle.um_model.specs.Dependencies.{loadable_of}
 use Rattle.um_model.specs.Ends.{is_clean, is_failed, is_restart_wanted, has_one_command}
 use Rattle.um_model.specs.InputSpellings.{FitEvent}
 use Rattle.um_model.specs.Limit.{counted}
@@ -42,9 +42,8 @@ use Rattle.um_model.proofs.EntriesLaws.{left_true}
 use Rattle.um_model.proofs.Forms.{found_unless}
 use Rattle.um_model.proofs.TimersLaws.{same_name}
 use Rattle.um_model.proofs.UnitLaws.{state_here, state_apart}
-use Rattle.um_laws.proofs.AlongLaws.{taken_along_or_not, with_result_dependency}
+use Rattle.um_laws.proofs.AlongLaws.{taken_along_or_not}
 use Rattle.um_laws.proofs.InvariantLaws.{FitUnitEvent, kept_taking}
-use Rattle.um_laws.proofs.KeepsLaws.{becomes_keeps}
 use Rattle.um_laws.proofs.TransitionLaws.{by_cond}
 
 -- ---- settings

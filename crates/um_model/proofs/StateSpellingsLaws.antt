@@ -74,8 +74,8 @@ pub canonical_state : IsCanonical FitState state_spelling state_at
 canonical_state =
     canonical_fits
     (λ s h.
-        let f = h.0.1 in
-        record { tree = f.0; loaded = f.1.0; boot = f.1.1.0; clock = f.1.1.1.0; next = f.1.1.1.1.0; units = f.1.1.1.1.1.0; pending = f.1.1.1.1.1.1; sound = h.1 })
+    let f = h.0.1 in
+    record { tree = f.0; loaded = f.1.0; boot = f.1.1.0; clock = f.1.1.1.0; next = f.1.1.1.1.0; units = f.1.1.1.1.1.0; pending = f.1.1.1.1.1.1; sound = h.1 })
     (λ s h. ((tt, (h.tree, (h.loaded, (h.boot, (h.clock, (h.next, (h.units, h.pending))))))), h.sound))
     (canonical_only is_sound (canonical_as state_of fields (λ f. refl) (λ s. refl)
     (canonical_pair canonical_profile (canonical_pair canonical_tree (canonical_pair canonical_tree (canonical_pair canonical_boot (canonical_pair canonical_moment

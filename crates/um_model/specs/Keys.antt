@@ -24,8 +24,8 @@ keys_of section =
     (codes "Alias", Aliases) ∷ (codes "WantedBy", Units) ∷ (codes "RequiredBy", Units) ∷ (codes "Also", Units) ∷ (codes "DefaultInstance", Instance) ∷ []
     else
     (codes "Type", ServiceType) ∷ (codes "ExecStartPre", Commands) ∷ (codes "ExecStart", Commands) ∷ (codes "ExecStop", Commands)
-    ∷ (codes "Environment", Environment) ∷ (codes "RemainAfterExit", Truth) ∷ (codes "Restart", Policy) ∷ (codes "RestartSec", Span) ∷ (codes "TimeoutStartSec", Span)
-    ∷ (codes "TimeoutStopSec", Span) ∷ (codes "TimeoutSec", Span) ∷ (codes "SuccessExitStatus", Exits)
+    ∷ (codes "Environment", Environment) ∷ (codes "RemainAfterExit", Truth) ∷ (codes "Restart", Policy) ∷ (codes "RestartSec", Span)
+    ∷ (codes "TimeoutStartSec", Span) ∷ (codes "TimeoutStopSec", Span) ∷ (codes "TimeoutSec", Span) ∷ (codes "SuccessExitStatus", Exits)
     ∷ (codes "RestartPreventExitStatus", Exits) ∷ (codes "RestartForceExitStatus", Exits) ∷ (codes "StartLimitInterval", Span)
     ∷ (codes "StartLimitBurst", Number) ∷ [])
 

@@ -438,7 +438,8 @@ pub data Changes (profile : Profile) (s : State) : Command → State → Type 0 
   reloads : Changes profile s DaemonReload (record s { loaded = as_loaded profile s s.tree })
   plans : {verb : UnitVerb} {asked : List ℕ} {mode : JobMode} {demand : Demand} {after : ByUnit UnitJobs} → demand_of verb (active_asked s asked) ≡ Some demand
       → IsPlan (scene_at s (unit_asked s asked)) (demand, unit_asked s asked) after → Changes profile s (ForUnit verb asked mode) (record s { pending = after })
-  demands_nothing : {verb : UnitVerb} {asked : List ℕ} {mode : JobMode} → demand_of verb (active_asked s asked) ≡ None → Changes profile s (ForUnit verb asked mode) s
+  demands_nothing : {verb : UnitVerb} {asked : List ℕ} {mode : JobMode} → demand_of verb (active_asked s asked) ≡ None
+      → Changes profile s (ForUnit verb asked mode) s
   cancels : {asked : List ℕ} → Changes profile s (Cancel asked) (with_plan s (unit_asked s asked) (cancelled (jobs_asked s asked)))
   installs : {verb : InstallVerb} {unit : List ℕ} {tree : Tree} → Installs (read_by profile s.tree) verb unit tree
       → Changes profile s (Install verb unit) (record s { tree = tree; loaded = as_loaded profile s tree })
@@ -536,7 +537,8 @@ pub data HasNoEffect (t : ℕ) (s : State) : Happening → Type 0 where
 abbrev pub moment_of : State → ℕ → ℕ
 moment_of s moment = max s.clock moment
 
--- an event of an input of this profile has its effect at the moment t: a command that isn't refused changes the state and jobs begin; what happens has what follows
+-- an event has its effect at the moment t, by its input's profile: a command that isn't refused changes the state and jobs begin; what happens has
+-- what follows
 pub data TakesEffect (profile : Profile) (t : ℕ) (s : State) : Event → List Action → State → Type 0 where
   obeys : {command : Command} {first more : List Action} {u v : State} → ((r : Refused) → ¬ Refuses profile s command r) → Does profile t s command first u
       → Settles t u more v → TakesEffect profile t s (Commanded command) (first ++ more) v
@@ -572,7 +574,7 @@ pub data Step (size : ℕ) (s : State) : Input → Reply → List Action → Sta
   taken : {profile : Profile} {moment : ℕ} {event : Event} {actions : List Action} {u : State}
       → TakesEffect profile (moment_of s moment) s event actions u → ¬ HasNoRoom size event u
       → Step size s (record { profile = profile; moment = moment; event = event })
-        (reply_after event s.tree u.tree) actions (record u { clock = moment_of s moment })
+      (reply_after event s.tree u.tree) actions (record u { clock = moment_of s moment })
 
 -- one step after another
 pub data Run (size : ℕ) : State → List Input → State → Type 0 where

@@ -205,7 +205,8 @@ pub record IsRecord (format : Format) (layout : Layout) (generation : ℕ) (imag
 
 -- the records from a place on, each directly behind the one before, up to the first that isn't whole
 pub data AreRecords (format : Format) (layout : Layout) (generation : ℕ) (image : Image) : ℕ → ℕ → List (List ℕ) → Type 0 where
-  stops : {number at : ℕ} → ((bytes : List ℕ) → IsRecord format layout generation image number at bytes → ⊥) → AreRecords format layout generation image number at []
+  stops : {number at : ℕ} → ((bytes : List ℕ) → IsRecord format layout generation image number at bytes → ⊥)
+      → AreRecords format layout generation image number at []
   goes_on : {number at : ℕ} {bytes : List ℕ} {records : List (List ℕ)} → IsRecord format layout generation image number at bytes
       → AreRecords format layout generation image (suc number) (at + part_count (length bytes)) records
       → AreRecords format layout generation image number at (bytes ∷ records)

@@ -17,7 +17,8 @@ use Rattle.um_model.specs.declared.service.End.{End}
 use Rattle.um_model.specs.declared.service.Signal as sent
 use Rattle.um_model.specs.declared.service.Signal.TheVariants.{Term, Kill}
 use Rattle.um_model.specs.declared.service.SubState.{SubState}
-use Rattle.um_model.specs.declared.service.SubState.TheVariants.{Dead, StartPre, Start, Running, Exited, Stop, StopSigterm, StopSigkill, Failed, AutoRestart, Active}
+use Rattle.um_model.specs.declared.service.SubState.TheVariants.{Dead, StartPre, Start, Running, Exited, Stop, StopSigterm, StopSigkill, Failed}
+use Rattle.um_model.specs.declared.service.SubState.TheVariants.{AutoRestart, Active}
 use Rattle.um_model.specs.declared.service.UnitResult.TheVariants as result
 use Rattle.um_model.specs.declared.service.UnitState.{UnitState}
 use Rattle.um_model.specs.declared.transition.Around.{Around}

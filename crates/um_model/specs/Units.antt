@@ -405,7 +405,8 @@ sources_at tree resolution = each source_of (files_at tree resolution)
 abbrev pub loading_at : ReadTree → Resolution → Loading
 loading_at tree (AtFile unit path text) = loading_by_file tree.profile unit path (sources_at tree.entries (AtFile unit path text))
 loading_at tree (AtNoFile unit) =
-    let u = unit_by tree.profile unit None (sources_at tree.entries (AtNoFile unit)) in Found (record u { settings = record u.settings { install = nothing_installed } })
+    let u = unit_by tree.profile unit None (sources_at tree.entries (AtNoFile unit)) in
+    Found (record u { settings = record u.settings { install = nothing_installed } })
 loading_at tree (AtMask unit) = Masked unit
 loading_at tree Nowhere = NotFound
 

@@ -6,7 +6,7 @@ ghost use Rattle.um_output.specs.Files as model;
 ghost use Rattle.um_output.specs.declared.files.Part.{Part};
 
 use std::alloc::Global;
-use std::fs::{DirBuilder, DirEntry, Files, OpenOptions, ReadDir};
+use std::fs::{DirBuilder, Files, OpenOptions};
 use std::io::ErrorKind;
 use std::os::unix::fs::{DirBuilderExt, OpenOptionsExt};
 use std::{fs, io};
@@ -95,32 +95,18 @@ pub(crate) fn path_of(
     Ok(format!(in alloc; "{folder}/{number}{ending}")?)
 }
 
-/// Adds the name of an entry.
-fn push_entry<R: Files>(
-    names: &mut Vec<String>,
-    alloc: Global,
-    entry: io::Result<DirEntry<(&R, Global)>>,
-) -> io::Result<()> {
-    names.push(String::from_str(alloc, entry?.file_name())?)?;
-    Ok(())
-}
-
-/// Adds the names of these entries.
-fn push_entries<R: Files>(
-    names: &mut Vec<String>,
-    alloc: Global,
-    entries: ReadDir<(&R, Global)>,
-) -> io::Result<()> {
-    for entry in entries {
-        push_entry(names, alloc, entry)?;
-    }
+/// Adds a name.
+fn push_name(names: &mut Vec<String>, alloc: Global, name: &str) -> io::Result<()> {
+    names.push(String::from_str(alloc, name)?)?;
     Ok(())
 }
 
 /// The names of what stands in the folder.
 pub(crate) fn names_in<R: Files>(rt: &R, alloc: Global, folder: &str) -> io::Result<Vec<String>> {
     let mut names = Vec::new(alloc);
-    push_entries(&mut names, alloc, fs::read_dir(&(rt, alloc), folder)?)?;
+    for entry in fs::read_dir(&(rt, alloc), folder)? {
+        push_name(&mut names, alloc, entry?.file_name())?;
+    }
     Ok(names)
 }
 

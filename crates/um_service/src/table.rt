@@ -96,11 +96,7 @@ fn pre_meets(settings: &ServiceSettings, around: Around, unit: UnitState, end: E
             },
         );
     }
-    start_fails(rests(
-        settings,
-        around,
-        without_control(settings, unit, end),
-    ))
+    start_fails(rests(settings, around, without_control(settings, unit, end)))
 }
 
 /// The start doesn't come to its end in time.

@@ -53,8 +53,22 @@ fn is_sound(alloc: Global, state: &State) -> Result<bool, AllocError>
 
 /// The state of these fields.
 fn state_with(alloc: Global, fields: Fields) -> Result<State, AllocError>
-    ensures { IfOk result (λ state. state_of state ≡ of_fields (fields.0, (fields.1.0, (fields.1.1.0, (fields.1.1.1.0, (fields.1.1.1.1.0,
-        (fields.1.1.1.1.1.0, (fields.1.1.1.1.1.1.0.held, fields.1.1.1.1.1.1.1.held)))))))) }
+    ensures { IfOk result (λ state. state_of state ≡ of_fields (
+      fields.0,
+      (
+        fields.1.0,
+        (
+          fields.1.1.0,
+          (
+            fields.1.1.1.0,
+            (
+              fields.1.1.1.1.0,
+              (fields.1.1.1.1.1.0, (fields.1.1.1.1.1.1.0.held, fields.1.1.1.1.1.1.1.held)),
+            ),
+          ),
+        ),
+      ),
+    )) }
 {
     let (profile, (tree, (loaded, (boot, (clock, (next, (units, pending))))))) = fields;
     Ok(State {

@@ -74,6 +74,11 @@ fn a_new_store_has_its_layout_and_one_snapshot(rt: HostRuntime) {
         0, 0x25,
     ];
     has_layout(&rt, &mut disk, 1, &header);
+    // the state of a new store: profile 2, two empty trees, no boot, the clock 0, the next number 1
+    let body = [
+        2, 0, 0, 0, 0, 0, 0, 0, 0, 0, 0, 0, 0, 0, 0, 0, 0, 0, 0, 0, 0, 0, 0, 0, 0, 0, 0, 0, 1,
+    ];
+    has_layout(&rt, &mut disk, 2, &body);
     has_layout(&rt, &mut disk, 65, &[]);
     // a disk without room for the layout is damaged
     refuses(&rt, made_on(&rt, 640), "E18 Damaged 0");

@@ -43,5 +43,6 @@ step_of s = (string_bytes s.path, s.action)
 -- the steps are these: what is put, what is removed, in the order of their paths by bytes
 abbrev pub AreSteps : (all : Bool) → Ledger → Tree → List Step → Type 0
 AreSteps all l tree steps =
-    ((found : List Step) × (map step_of found ≡ model.puts all (mark_at l) tree ++ model.removals tree (map (λ e. e.0) (marks_in l))) × IsPermutation found steps)
+    ((found : List Step) × (map step_of found ≡ model.puts all (mark_at l) tree ++ model.removals tree (map (λ e. e.0) (marks_in l)))
+    × IsPermutation found steps)
     × IsSortedByKey (λ (s : Step). string_bytes s.path) (slice_cmp nat_cmp) steps

@@ -35,7 +35,13 @@ fn loading_by_file(
     let warnings = Rc::new(alloc, warnings)?;
     let settings = settings_of(alloc, profile, unit, assigned.as_slice())?;
     let suffix = unit.suffix();
-    match reason_of(alloc, profile, suffix, assigned.as_slice(), &settings.service)? {
+    match reason_of(
+        alloc,
+        profile,
+        suffix,
+        assigned.as_slice(),
+        &settings.service,
+    )? {
         Some(reason) => Ok(Loading::BadSetting { unit: name, reason }),
         None => Ok(Loading::Found(LoadedUnit {
             name,

@@ -3,7 +3,7 @@
 use crate::fault::VerifyFault;
 use crate::places::Collected;
 use std::alloc::Global;
-use std::fs::{DirEntry, File, Files, ReadDir};
+use std::fs::{File, Files};
 use std::io::Read;
 use std::{fs, io};
 
@@ -139,31 +139,18 @@ fn read_entry<R: Files>(
     }
 }
 
-/// Adds the name of an entry.
-fn push_entry<R: Files>(
-    names: &mut Vec<String>,
-    alloc: Global,
-    entry: io::Result<DirEntry<(&R, Global)>>,
-) -> io::Result<()> {
-    names.push(String::from_str(alloc, entry?.file_name())?)?;
+/// Adds a name.
+fn push_name(names: &mut Vec<String>, alloc: Global, name: &str) -> io::Result<()> {
+    names.push(String::from_str(alloc, name)?)?;
     Ok(())
 }
 
-/// Adds the names of these entries.
-fn push_entries<R: Files>(
-    names: &mut Vec<String>,
-    alloc: Global,
-    entries: ReadDir<(&R, Global)>,
-) -> io::Result<()> {
-    for entry in entries {
-        push_entry(names, alloc, entry)?;
-    }
-    Ok(())
-}
-
+/// The names of what stands in a folder.
 fn listed<R: Files>(rt: &R, alloc: Global, path: &str) -> io::Result<Vec<String>> {
     let mut names = Vec::new(alloc);
-    push_entries(&mut names, alloc, fs::read_dir(&(rt, alloc), path)?)?;
+    for entry in fs::read_dir(&(rt, alloc), path)? {
+        push_name(&mut names, alloc, entry?.file_name())?;
+    }
     Ok(names)
 }
 

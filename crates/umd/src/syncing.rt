@@ -154,6 +154,42 @@ fn keep<R: Files>(rt: &R, places: &Places, ledger: &Ledger) -> Result<(), Stop> 
     Ok(())
 }
 
+/// What is told of the reply to a verb with these arguments.
+fn ask_for<'w, R: Net + Clock + Input>(
+    asking: &Asking<'_, R>,
+    verb: &'w str,
+    arguments: &'w [&'w str],
+) -> Result<Told, CtlFault> {
+    asking.ask(&Words {
+        verb,
+        arguments,
+        mode: None,
+    })
+}
+
+/// What is told of the reply to `put-file` with these arguments and this text.
+fn ask_file<'w, R: Net + Clock + Input>(
+    asking: &Asking<'_, R>,
+    arguments: &'w [&'w str],
+    text: &str,
+) -> Result<Told, CtlFault> {
+    let words = Words {
+        verb: "put-file",
+        arguments,
+        mode: None,
+    };
+    asking.ask_with(&words, &mut text.as_bytes())
+}
+
+/// What is told of the reply to `put-link`.
+fn ask_link<'w, R: Net + Clock + Input>(
+    asking: &Asking<'_, R>,
+    path: &'w str,
+    target: &'w str,
+) -> Result<Told, CtlFault> {
+    ask_for(asking, "put-link", &[path, target])
+}
+
 /// Has what the folder holds put at the path.
 fn ask_put<R: Net + Clock + Input>(
     asking: &Asking<'_, R>,
@@ -161,19 +197,8 @@ fn ask_put<R: Net + Clock + Input>(
     entry: Entry<'_>,
 ) -> Result<Told, CtlFault> {
     match entry {
-        Entry::File(text) => {
-            let words = Words {
-                verb: "put-file",
-                arguments: &[path],
-                mode: None,
-            };
-            asking.ask_with(&words, &mut text.as_bytes())
-        }
-        Entry::Link(target) => asking.ask(&Words {
-            verb: "put-link",
-            arguments: &[path, target],
-            mode: None,
-        }),
+        Entry::File(text) => ask_file(asking, &[path], text),
+        Entry::Link(target) => ask_link(asking, path, target),
     }
 }
 
@@ -182,26 +207,13 @@ fn ask_removal<R: Net + Clock + Input>(
     asking: &Asking<'_, R>,
     path: &str,
 ) -> Result<Option<Told>, CtlFault> {
-    let told = asking.ask(&Words {
-        verb: "remove",
-        arguments: &[path],
-        mode: None,
-    })?;
+    let told = ask_for(asking, "remove", &[path])?;
     // a path that was put is served: E12 says that nothing stands there
     if told.status == 0 || told.error.as_str().starts_with("E12 ") {
         Ok(None)
     } else {
         Ok(Some(told))
     }
-}
-
-/// Has the tree loaded.
-fn ask_reload<R: Net + Clock + Input>(asking: &Asking<'_, R>) -> Result<Told, CtlFault> {
-    asking.ask(&Words {
-        verb: "daemon-reload",
-        arguments: &[],
-        mode: None,
-    })
 }
 
 /// What comes of putting this at the path, where what stood there was removed for it or not.
@@ -306,7 +318,7 @@ impl<'a, R: Net + Clock + Input + Files + Print> Syncing<'a, R> {
         if !self.ledger.owes_reload {
             return Ok(());
         }
-        match ask_reload(&self.asking) {
+        match ask_for(&self.asking, "daemon-reload", &[]) {
             Ok(told) if told.status == 0 => {
                 self.ledger.owes_reload = false;
                 keep(self.asking.rt(), self.places, &self.ledger)
