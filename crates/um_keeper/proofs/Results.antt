@@ -1,6 +1,6 @@
 -- Of results.
 use Rattle.std.proofs.Common.{◌≡◌, ◌⊎◌, ◌∙◌, inl, inr, sym, subst}
-use Rattle.std.specs.Prelude.{Result, Ok, Err, OnOk, OnErr, IfOk, IfErr}
+use Rattle.std.specs.Prelude.{Result, Ok, Err, OnOk, OnErr, IfOk, IfErr, Option, Some, IfSome}
 use Rattle.std.specs.Result.{IsErrAnd}
 use Rattle.std.proofs.lemmas.Result.{err_from_is_err_and}
 
@@ -77,3 +77,7 @@ of_first a (inr other) = absurd (other.0 a)
 -- a refusal is no value
 pub err_ok : {T E : Type 0} {e : E} {x : T} → ◌≡◌ {A = Result T E} (Err e) (Ok x) → ⊥
 err_ok is = cc
+
+-- what holds of the value where there is one
+pub some_from : {T : Type 0} {o : Option T} {x : T} (P : T → Type 0) → o ≡ Some x → IfSome o P → P x
+some_from P is all = subst (λ o. IfSome o P) is all

@@ -57,7 +57,9 @@ impl NextSnapshot {
     {
         let left = self.body.len().div_ceil(SECTOR_BYTES) - self.written;
         let count = if count < left { count } else { left };
-        write_part(disk, layout, home, &self.body, self.written, count)?;
+        if !write_part(disk, layout, home, &self.body, self.written, count)? {
+            return Err(Refusal::NoRoom);
+        }
         self.written += count;
         Ok(())
     }
@@ -93,6 +95,9 @@ impl NextSnapshot {
         ensures honest { D.honest disk.new ≡ D.honest disk.old }
     {
         self.write_part(disk, layout, home, usize::MAX)?;
-        finish(disk, layout, home, self.body.len())
+        let Some(stored) = finish(disk, layout, home, self.body.len())? else {
+            return Err(Refusal::NoRoom);
+        };
+        Ok(stored)
     }
 }

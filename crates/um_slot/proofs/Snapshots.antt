@@ -1,11 +1,11 @@
 -- A snapshot that is being written is there whole or not at all, and the store with it is the next generation.
 use Rattle.std.specs.Prelude.{◌≡◌, ◌⊎◌, ◌+◌, ◌*◌, ◌^◌, ◌<◌, ◌≤◌, ℕ, zero, suc, List, [], ◌++◌, length, take, drop}
-use Rattle.std.proofs.Common.{sym, ◌∙◌, ap, subst, inl, inr, ⊎_elim, arith}
+use Rattle.std.proofs.Common.{refl, sym, ◌∙◌, ap, subst, inl, inr, ⊎_elim, arith}
 use Rattle.std.proofs.Math.Seq.{take-append-add}
 use Rattle.std.proofs.lemmas.Bool.{cases_lt}
 use Rattle.std.proofs.lemmas.List.{take-append-drop, length-drop, length-take, nil_from_length, take_all, drop-drop}
 use Rattle.um_model.specs.Disk.{Sector, Image, Past, seen, IsImage, Images, During, IsSettled}
-use Rattle.um_laws.proofs.DiskLaws.{weaker, followed, at_end}
+use Rattle.um_laws.proofs.DiskLaws.{weaker, followed, at_end, started}
 use Rattle.um_model.specs.declared.layout.Format.{Format}
 use Rattle.um_model.specs.declared.layout.Layout.{Layout}
 use Rattle.um_model.specs.declared.layout.Slot.{Slot}
@@ -195,6 +195,10 @@ module _ {layout : Layout} (past : Past) {slot : Slot} {generation : ℕ} {befor
   goes_on_other = goes_on_newest past (omega arith) (λ image is. has_newest (stores image is))
 
 -- ---- parts of a body, and then its header
+
+-- where nothing is written each image is one of before
+pub none_beside : (layout : Layout) (past : Past) (slot : Slot) → During past past (IsBeside layout past slot)
+none_beside layout past slot = started past (IsBeside layout past slot) (λ image at. record { from = image; was = at; same = λ j out. refl })
 
 module _ {layout : Layout} {past : Past} {slot : Slot} {image : Image} (b : IsBeside layout past slot image) where
   -- where only the other slot's body differs, the log is the same

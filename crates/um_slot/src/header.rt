@@ -17,7 +17,7 @@ impl Home {
     ghost use Rattle.std.specs.Prelude.{◌+◌, ◌-◌, ◌^◌, ◌<◌};
 
     /// Where the next snapshot goes: into the other slot, as the next generation.
-    pub fn next(self) -> Home
+    pub(crate) fn next(self) -> Home
         requires { self.generation < 2 ^ 64 - 1 }
         ensures { (result.slot ≡ other self.slot) × (result.generation ≡ self.generation + 1) }
     {

@@ -1,4 +1,4 @@
-ghost use Rattle.std.specs.Prelude.{◌≡◌, ◌⊎◌, ◌↔◌, ◌+◌, ◌-◌, ◌<◌, ◌≤◌, ◌^◌, min, ℕ, List, [], length, Ok, Err, Some, None, IfOk, IfErr, IfSome, OnOk, IsTrue};
+ghost use Rattle.std.specs.Prelude.{◌≡◌, ◌⊎◌, ◌↔◌, ◌+◌, ◌-◌, ◌<◌, ◌≤◌, ◌^◌, min, ℕ, List, [], length, true, false, Ok, Err, Some, None, IfOk, IfErr, IfSome, OnOk, IsTrue};
 ghost use Rattle.um_model.specs.Disk.{Sector, seen, Images, During, IsSettled};
 ghost use Rattle.um_model.specs.Store.{current, other, slot_start, body_limit, log_start, sector_count, HasNoHeader, IsNewest, IsNoneAbove, GoesOn};
 ghost use Rattle.um_model.specs.declared.layout.Format.{Format};
@@ -22,12 +22,8 @@ fn lesser(a: usize, b: usize) -> usize
     if a < b { a } else { b }
 }
 
-/// Writes the next sectors of a body into the slot beside the one of the newest snapshot, from one of them on: so many, or all that are
-/// left. It syncs nothing and takes no memory.
-///
-/// Each image that a crash leaves during it is one of before, but for the body in that slot, which isn't read; after Ok a read gives these
-/// sectors too, and elsewhere what it gave. E16 where a disk call fails: it makes one a sector at most.
-pub fn write_part<D: Disk>(
+/// Writes the next sectors of a body that fits, from one of them on: so many, or all that are left.
+fn write_next<D: Disk>(
     disk: &mut D,
     layout: Layout,
     home: Home,
@@ -57,6 +53,43 @@ pub fn write_part<D: Disk>(
     Ok(())
 }
 
+/// Writes the next sectors of a body into the slot beside the one of the newest snapshot, from one of them on: so many, or all that are
+/// left, and none where it has no more. It syncs nothing and takes no memory. False where the body is longer than a slot holds, with nothing
+/// written.
+///
+/// Each image that a crash leaves during it is one of before, but for the body in that slot, which isn't read; where it answers true a read
+/// gives these sectors too, and elsewhere what it gave. E16 where a disk call fails: it makes one a sector at most.
+pub fn write_part<D: Disk>(
+    disk: &mut D,
+    layout: Layout,
+    home: Home,
+    body: &[u8],
+    from: usize,
+    count: usize,
+) -> Result<bool, Refusal>
+    ensures during { IsTrue (D.honest disk.old) → During (D.past disk.old) (D.past disk.new) (IsBeside layout (D.past disk.old) home.slot) }
+    ensures beside { OnOk result (IsTrue (D.honest disk.old) → (j : ℕ)
+        → (j ≤ slot_start layout (other home.slot)) ⊎ (slot_start layout (other home.slot) + layout.slot_sectors ≤ j) → seen (D.past disk.new) j ≡ seen (D.past disk.old) j) }
+    ensures written { result ≡ Ok true → IsTrue (D.honest disk.old) → IsWritten layout (seen (D.past disk.old)) (other home.slot) body.now from
+        → IsWritten layout (seen (D.past disk.new)) (other home.slot) body.now (min (from + count) (sector_count (length body.now))) }
+    ensures long { (result ≡ Ok false) ↔ (body_limit layout < length body.now) }
+    ensures unwritten { result ≡ Ok false → disk.new ≡ disk.old }
+    ensures syncs { IsTrue (D.honest disk.old) → sync_count (D.past disk.new) ≡ sync_count (D.past disk.old) }
+    ensures calls { D.calls disk.new ≤ D.calls disk.old + min count (sector_count (length body.now) - from) }
+    ensures all_calls { result ≡ Ok true → D.calls disk.new ≡ more (D.calls disk.old) (min count (sector_count (length body.now) - from)) }
+    ensures failures { CountsDevice result (D.failures disk.old) (D.failures disk.new) }
+    ensures err { IfErr result (λ e. e ≡ Refusal.Device) }
+    ensures size { D.size disk.new ≡ D.size disk.old }
+    ensures honest { D.honest disk.new ≡ D.honest disk.old }
+{
+    if body.len() > layout.body_limit() {
+        return Ok(false);
+    }
+    let from = lesser(from, body.len().div_ceil(SECTOR_BYTES));
+    write_next(disk, layout, home, body, from, count)?;
+    Ok(true)
+}
+
 /// Syncs, and writes the header of a body into a slot, in which a read gives the whole body, and syncs.
 fn seal<D: Disk>(disk: &mut D, layout: Layout, to: Home, size: usize) -> Result<(), Refusal>
     requires fits { size ≤ body_limit layout }
@@ -82,7 +115,7 @@ fn seal<D: Disk>(disk: &mut D, layout: Layout, to: Home, size: usize) -> Result<
 }
 
 /// Makes a body count that stands in the slot beside the one of the newest snapshot, with all of its sectors: a sync, its header as the next
-/// generation, a sync. Answers where it stands.
+/// generation, a sync. Answers where it stands; None where the body is longer than a slot holds, with nothing written.
 ///
 /// Where a read gives the whole body, and each image is that of a store whose newest snapshot is at `home`, each image that a crash leaves
 /// meanwhile is that of the store of an image of before, or of the store with this body and the records that a read gave beside it; after Ok
@@ -92,42 +125,51 @@ fn seal<D: Disk>(disk: &mut D, layout: Layout, to: Home, size: usize) -> Result<
 /// generation above it, meanwhile the newest snapshot and the log are those of an image of before, or this body stands there and no
 /// record counts, and after Ok it is the latter.
 ///
-/// E16 where a disk call fails: it takes no memory. It makes at most three disk calls.
+/// E20 where the generation is 2^64 - 1, whatever the body, with nothing written; E16 where a disk call fails: it takes no memory. It
+/// makes at most three disk calls, and just so many where it answers a home.
 pub fn finish<D: Disk>(
     disk: &mut D,
     layout: Layout,
     home: Home,
     size: usize,
-) -> Result<Home, Refusal>
-    requires early { home.generation < 2 ^ 64 - 1 }
-    requires fits { size ≤ body_limit layout }
+) -> Result<Option<Home>, Refusal>
     ensures during { IsTrue (D.honest disk.old) → (before body : List ℕ) → length body ≡ size → IsWritten layout (seen (D.past disk.old)) (other home.slot) body (sector_count size)
         → Images (D.past disk.old) (HasStore layout home.slot home.generation before)
         → During (D.past disk.old) (D.past disk.new) (EitherSnapshot layout (D.past disk.old) home.slot home.generation before body) }
-    ensures ok { IfOk result (λ to. IsTrue (D.honest disk.old) → (before body : List ℕ) → length body ≡ size
+    ensures ok { IfOk result (λ to. IfSome to (λ to. IsTrue (D.honest disk.old) → (before body : List ℕ) → length body ≡ size
         → IsWritten layout (seen (D.past disk.old)) (other home.slot) body (sector_count size)
         → Images (D.past disk.old) (HasStore layout home.slot home.generation before)
-        → GoesOn layout (D.past disk.new) to.slot to.generation body [] to.generation 0 (log_start layout to.generation)) }
+        → GoesOn layout (D.past disk.new) to.slot to.generation body [] to.generation 0 (log_start layout to.generation))) }
     ensures during_newest { IsTrue (D.honest disk.old) → (format : Format) (newest : ℕ) (before body : List ℕ) → newest ≤ home.generation → length body ≡ size
         → IsWritten layout (seen (D.past disk.old)) (other home.slot) body (sector_count size)
         → Images (D.past disk.old) (HasNewest format layout home.slot newest before home.generation)
         → During (D.past disk.old) (D.past disk.new) (EitherNewest format layout (D.past disk.old) home.slot newest before home.generation body) }
-    ensures ok_newest { IfOk result (λ to. IsTrue (D.honest disk.old) → (newest : ℕ) (before body : List ℕ) → newest ≤ home.generation → length body ≡ size
+    ensures ok_newest { IfOk result (λ to. IfSome to (λ to. IsTrue (D.honest disk.old) → (newest : ℕ) (before body : List ℕ) → newest ≤ home.generation → length body ≡ size
         → IsWritten layout (seen (D.past disk.old)) (other home.slot) body (sector_count size)
         → Images (D.past disk.old) (HasNewest current layout home.slot newest before home.generation)
-        → GoesOn layout (D.past disk.new) to.slot to.generation body [] to.generation 0 (log_start layout to.generation)) }
-    ensures settled { OnOk result (IsTrue (D.honest disk.old) → IsSettled (D.past disk.new)) }
-    ensures home { IfOk result (λ to. (to.slot ≡ other home.slot) × (to.generation ≡ home.generation + 1)) }
+        → GoesOn layout (D.past disk.new) to.slot to.generation body [] to.generation 0 (log_start layout to.generation))) }
+    ensures settled { IfOk result (λ to. IfSome to (λ _. IsTrue (D.honest disk.old) → IsSettled (D.past disk.new))) }
+    ensures home { IfOk result (λ to. IfSome to (λ to. (to.slot ≡ other home.slot) × (to.generation ≡ home.generation + 1))) }
+    ensures spent { (result ≡ Err Refusal.GenerationsSpent) ↔ (home.generation ≡ 2 ^ 64 - 1) }
+    ensures long { (result ≡ Ok None) ↔ ((home.generation < 2 ^ 64 - 1) × (body_limit layout < size)) }
+    ensures unwritten { result ≡ Ok None → disk.new ≡ disk.old }
+    ensures kept { IfErr result (λ e. (e ≡ Refusal.Device) ⊎ (disk.new ≡ disk.old)) }
     ensures calls { D.calls disk.new ≤ D.calls disk.old + 3 }
-    ensures all_calls { OnOk result (D.calls disk.new ≡ more (D.calls disk.old) 3) }
+    ensures all_calls { IfOk result (λ to. IfSome to (λ _. D.calls disk.new ≡ more (D.calls disk.old) 3)) }
     ensures failures { CountsDevice result (D.failures disk.old) (D.failures disk.new) }
-    ensures err { IfErr result (λ e. e ≡ Refusal.Device) }
+    ensures err { IfErr result (λ e. (e ≡ Refusal.Device) ⊎ (e ≡ Refusal.GenerationsSpent)) }
     ensures size { D.size disk.new ≡ D.size disk.old }
     ensures honest { D.honest disk.new ≡ D.honest disk.old }
 {
+    if home.generation == u64::MAX {
+        return Err(Refusal::GenerationsSpent);
+    }
+    if size > layout.body_limit() {
+        return Ok(None);
+    }
     let to = home.next();
     seal(disk, layout, to, size)?;
-    Ok(to)
+    Ok(Some(to))
 }
 
 /// Writes a whole body into the other slot and syncs, then its header as the next generation, and syncs.
@@ -151,7 +193,7 @@ fn write_slot<D: Disk>(
     ensures size { D.size disk.new ≡ D.size disk.old }
     ensures honest { D.honest disk.new ≡ D.honest disk.old }
 {
-    write_part(disk, layout, last, body, 0, usize::MAX)?;
+    write_next(disk, layout, last, body, 0, usize::MAX)?;
     let to = last.next();
     seal(disk, layout, to, body.len())?;
     Ok(to)

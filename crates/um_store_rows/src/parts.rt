@@ -30,14 +30,17 @@ fn write_in<D: Disk>(
     rt: &(impl AllocGlobal + Abort),
     disk: &mut D,
     parts: Parts,
-) -> Result<Home, Refusal> {
+) -> Result<Option<Home>, Refusal> {
     let body = body_of(rt, SIZE);
-    assert!(rt; body.len() == SIZE, "a body of another length");
     let (size, count) = parts;
     let mut from: usize = 0;
     for _ in 0..count {
         assert!(rt; from <= 37, "behind the body");
-        write_part(disk, small(rt), A1, &body, from, size)?;
+        same!(
+            rt,
+            write_part(disk, small(rt), A1, &body, from, size)?,
+            true
+        );
         from = from.saturating_add(size);
     }
     finish(disk, small(rt), A1, body.len())
@@ -49,7 +52,7 @@ fn fails_at<D: Disk>(rt: &(impl AllocGlobal + Abort), disk: &mut Fuse<D>, parts:
     if call <= CALLS {
         is_refused!(rt, written, "E16 Device");
     } else {
-        same!(rt, written.expect(rt, "refused"), B2);
+        same!(rt, written.expect(rt, "refused"), Some(B2));
     }
     same!(rt, disk.calls(), call.min(CALLS));
 }
@@ -154,9 +157,8 @@ fn a_fault_at_each_call_leaves_the_snapshot_before_or_the_new_one(rt: HostRuntim
 
 /// Writes a part of a snapshot behind generation 2, into slot A.
 fn begins_third(rt: &(impl AllocGlobal + Abort), disk: &mut MemDisk) {
-    let body = body_of(rt, SIZE);
-    assert!(rt; body.len() == SIZE, "a body of another length");
-    write_part(disk, small(rt), B2, &body, 0, 16).expect(rt, "not written");
+    let written = write_part(disk, small(rt), B2, &body_of(rt, SIZE), 0, 16);
+    same!(rt, written.expect(rt, "not written"), true);
     same!(rt, sector_at(rt, disk, 17), filled(&[8; 512]));
 }
 
@@ -188,4 +190,58 @@ fn parts_without_a_header_are_written_over_by_the_next_open(rt: HostRuntime) {
         (2, 1, 1)
     );
     has_in_slot_a(&rt, &mut disk_of(again), 3, &state);
+}
+
+/// The first snapshot on a disk that counts its calls.
+fn counted(rt: &(impl AllocGlobal + Abort)) -> Fuse<MemDisk> {
+    Fuse::new(first(rt), 0)
+}
+
+/// Asserts that no call was made, and that the first snapshot stands alone.
+fn is_untouched<R: Debug + Drop>(rt: &(impl AllocGlobal + Abort), disk: Fuse<MemDisk>, row: R) {
+    same!(rt, disk.calls(), 0);
+    let mut disk = disk.into_inner();
+    same!(rt, sector_at(rt, &mut disk, 65), filled(&[]));
+    same!(rt, sector_at(rt, &mut disk, 66), filled(&[]));
+    stores(rt, &mut disk, OLD, row);
+}
+
+#[test]
+fn a_body_a_byte_too_long_for_a_slot_is_not_written(rt: HostRuntime) {
+    let body = body_of(&rt, 32_257);
+    for (from, count) in &[(0, 1), (0, usize::MAX), (63, 1), (64, 1)] {
+        let mut disk = counted(&rt);
+        let written = write_part(&mut disk, small(&rt), A1, &body, *from, *count);
+        same!(&rt, written.expect(&rt, "refused"), false);
+        is_untouched(&rt, disk, (*from, *count));
+    }
+    let mut disk = counted(&rt);
+    let finished = finish(&mut disk, small(&rt), A1, 32_257);
+    same!(&rt, finished.expect(&rt, "refused"), None);
+    is_untouched(&rt, disk, "its header");
+}
+
+#[test]
+fn behind_its_last_sector_nothing_of_a_body_is_written(rt: HostRuntime) {
+    let body = body_of(&rt, SIZE);
+    for from in &[37, 38, 64, usize::MAX] {
+        let mut disk = counted(&rt);
+        let written = write_part(&mut disk, small(&rt), A1, &body, *from, usize::MAX);
+        same!(&rt, written.expect(&rt, "refused"), true);
+        is_untouched(&rt, disk, *from);
+    }
+}
+
+#[test]
+fn there_is_no_generation_behind_the_last(rt: HostRuntime) {
+    let last = Home {
+        slot: Slot::A,
+        generation: u64::MAX,
+    };
+    for size in &[0, SIZE, 32_257] {
+        let mut disk = counted(&rt);
+        let finished = finish(&mut disk, small(&rt), last, *size);
+        is_refused!(&rt, finished, "E20 GenerationsSpent");
+        is_untouched(&rt, disk, *size);
+    }
 }

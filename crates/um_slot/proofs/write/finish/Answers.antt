@@ -3,8 +3,24 @@ use Rattle.um_model.specs.Disk.{seen, During}
 use Rattle.um_model.specs.Store.{other, log_start, sector_count, GoesOn}
 use Rattle.um_model.specs.declared.layout.Slot.{Slot}
 use Rattle.um_slot.specs.Snapshots.{IsWritten, IsSnapshot, MaybeSnapshot, AfterSnapshot}
-use Rattle.um_slot.proofs.Snapshots.{during_other, goes_on_other, during_newest, goes_on_newest}
+use Rattle.um_slot.proofs.Snapshots.{none_beside, parts_other, during_other, goes_on_other, parts_newest, during_newest, goes_on_newest}
 use Rattle.um_slot.proofs.write.finish.Goals as goal
+
+pub returns-then-home-eq18446744073709551615-clause-during : goal.returns-then-home-eq18446744073709551615-clause-during
+returns-then-home-eq18446744073709551615-clause-during g c h before body long all stores =
+    parts_other (none_beside c.args.layout (g.D.Disk.past c.args.disk.now) c.args.home.slot) stores body
+
+pub returns-then-size-body_limit-clause-during : goal.returns-then-size-body_limit-clause-during
+returns-then-size-body_limit-clause-during g c h before body long all stores =
+    parts_other (none_beside c.args.layout (g.D.Disk.past c.args.disk.now) c.args.home.slot) stores body
+
+pub returns-then-home-eq18446744073709551615-clause-during_newest : goal.returns-then-home-eq18446744073709551615-clause-during_newest
+returns-then-home-eq18446744073709551615-clause-during_newest g c h format newest before body above long all have =
+    parts_newest (none_beside c.args.layout (g.D.Disk.past c.args.disk.now) c.args.home.slot) have body
+
+pub returns-then-size-body_limit-clause-during_newest : goal.returns-then-size-body_limit-clause-during_newest
+returns-then-size-body_limit-clause-during_newest g c h format newest before body above long all have =
+    parts_newest (none_beside c.args.layout (g.D.Disk.past c.args.disk.now) c.args.home.slot) have body
 
 pub returns-in_err-seal-clause-during : goal.returns-in_err-seal-clause-during
 returns-in_err-seal-clause-during g c h before body long all stores =
@@ -16,7 +32,7 @@ returns-in_err-seal-clause-during g c h before body long all stores =
     let new = g.D.Disk.past c.seal.new.disk in
     let is = g.met.D.Disk.seen_is_image c.args.disk.now h in
     let there = subst (λ (s : Slot). IsWritten layout (seen old) s body (sector_count c.args.size)) (sym turned.0) all in
-    during_other old stores (omega (arith, c.requires.early)) (omega (arith, long, c.requires.fits)) is
+    during_other old stores (omega (arith, c.if-home-eq18446744073709551615.false)) (omega (arith, long, c.if-size-body_limit.false, c.body_limit.ensures)) is
     (subst (λ (n : ℕ). During old new (AfterSnapshot layout old (other home.slot) n body)) turned.1
     (subst (λ (s : Slot). During old new (AfterSnapshot layout old s to.generation body)) turned.0 (c.seal.ensures.during h body long there)))
 
@@ -30,7 +46,7 @@ returns-clause-during g c h before body long all stores =
     let new = g.D.Disk.past c.seal.new.disk in
     let is = g.met.D.Disk.seen_is_image c.args.disk.now h in
     let there = subst (λ (s : Slot). IsWritten layout (seen old) s body (sector_count c.args.size)) (sym turned.0) all in
-    during_other old stores (omega (arith, c.requires.early)) (omega (arith, long, c.requires.fits)) is
+    during_other old stores (omega (arith, c.if-home-eq18446744073709551615.false)) (omega (arith, long, c.if-size-body_limit.false, c.body_limit.ensures)) is
     (subst (λ (n : ℕ). During old new (AfterSnapshot layout old (other home.slot) n body)) turned.1
     (subst (λ (s : Slot). During old new (AfterSnapshot layout old s to.generation body)) turned.0 (c.seal.ensures.during h body long there)))
 
@@ -44,7 +60,7 @@ returns-in_err-seal-clause-during_newest g c h format newest before body above l
     let new = g.D.Disk.past c.seal.new.disk in
     let is = g.met.D.Disk.seen_is_image c.args.disk.now h in
     let there = subst (λ (s : Slot). IsWritten layout (seen old) s body (sector_count c.args.size)) (sym turned.0) all in
-    during_newest old above have (omega (arith, c.requires.early)) (omega (arith, long, c.requires.fits))
+    during_newest old above have (omega (arith, c.if-home-eq18446744073709551615.false)) (omega (arith, long, c.if-size-body_limit.false, c.body_limit.ensures))
     (subst (λ (n : ℕ). During old new (AfterSnapshot layout old (other home.slot) n body)) turned.1
     (subst (λ (s : Slot). During old new (AfterSnapshot layout old s to.generation body)) turned.0 (c.seal.ensures.during h body long there)))
 
@@ -58,7 +74,7 @@ returns-clause-during_newest g c h format newest before body above long all have
     let new = g.D.Disk.past c.seal.new.disk in
     let is = g.met.D.Disk.seen_is_image c.args.disk.now h in
     let there = subst (λ (s : Slot). IsWritten layout (seen old) s body (sector_count c.args.size)) (sym turned.0) all in
-    during_newest old above have (omega (arith, c.requires.early)) (omega (arith, long, c.requires.fits))
+    during_newest old above have (omega (arith, c.if-home-eq18446744073709551615.false)) (omega (arith, long, c.if-size-body_limit.false, c.body_limit.ensures))
     (subst (λ (n : ℕ). During old new (AfterSnapshot layout old (other home.slot) n body)) turned.1
     (subst (λ (s : Slot). During old new (AfterSnapshot layout old s to.generation body)) turned.0 (c.seal.ensures.during h body long there)))
 
@@ -74,7 +90,7 @@ returns-clause-ok g c h before body long all stores =
     let there = subst (λ (s : Slot). IsWritten layout (seen old) s body (sector_count c.args.size)) (sym turned.0) all in
     subst (λ (s : Slot). GoesOn layout new s to.generation body [] to.generation 0 (log_start layout to.generation)) (sym turned.0)
     (subst (λ (n : ℕ). GoesOn layout new (other home.slot) n body [] n 0 (log_start layout n)) (sym turned.1)
-    (goes_on_other old stores (omega (arith, c.requires.early)) (omega (arith, long, c.requires.fits)) is
+    (goes_on_other old stores (omega (arith, c.if-home-eq18446744073709551615.false)) (omega (arith, long, c.if-size-body_limit.false, c.body_limit.ensures)) is
     (subst (λ (n : ℕ). MaybeSnapshot layout (seen old) (other home.slot) n body (seen new)) turned.1
     (subst (λ (s : Slot). MaybeSnapshot layout (seen old) s to.generation body (seen new)) turned.0 (c.in_ok-seal.ensures.beside h body long there)))
     (subst (λ (n : ℕ). IsSnapshot layout (seen new) (other home.slot) n body) turned.1
@@ -93,7 +109,7 @@ returns-clause-ok_newest g c h newest before body above long all have =
     let there = subst (λ (s : Slot). IsWritten layout (seen old) s body (sector_count c.args.size)) (sym turned.0) all in
     subst (λ (s : Slot). GoesOn layout new s to.generation body [] to.generation 0 (log_start layout to.generation)) (sym turned.0)
     (subst (λ (n : ℕ). GoesOn layout new (other home.slot) n body [] n 0 (log_start layout n)) (sym turned.1)
-    (goes_on_newest old above have (omega (arith, c.requires.early)) (omega (arith, long, c.requires.fits)) is
+    (goes_on_newest old above have (omega (arith, c.if-home-eq18446744073709551615.false)) (omega (arith, long, c.if-size-body_limit.false, c.body_limit.ensures)) is
     (subst (λ (n : ℕ). MaybeSnapshot layout (seen old) (other home.slot) n body (seen new)) turned.1
     (subst (λ (s : Slot). MaybeSnapshot layout (seen old) s to.generation body (seen new)) turned.0 (c.in_ok-seal.ensures.beside h body long there)))
     (subst (λ (n : ℕ). IsSnapshot layout (seen new) (other home.slot) n body) turned.1
