@@ -59,6 +59,7 @@ bench: umd
 	@bench/bytes crates/um_bench/out/um_bench
 	@bench/serve crates/umd/out/umd
 	@bench/sync crates/umd/out/umd
+	@bench/snapshots crates/umd/out/umd
 	@bench/steps crates/umd/out/umd
 
 runner-rows: umd

@@ -1,7 +1,7 @@
 //! The machine stops before each write, and what a crash may leave is opened.
 
 use crate::alone::{Course, ONWARD, course_onward, spent};
-use crate::disk::RESTART;
+use crate::disk::{RESTART, almost_filled, beginning};
 use crate::rows::{Coming, Row, input_of};
 use crate::scripts::{Deed, Outcome, Script};
 use crate::stores::{
@@ -58,6 +58,44 @@ pub fn with_lists(alloc: Global) -> Result<Script, Wrong> {
     script.list(SIZES)?;
     script.deed(Deed::Open)?;
     script.list(MORE)?;
+    Ok(script)
+}
+
+/// The automatic restart, and an area of the log that is filled but for a sector: what stands before the stops that are looked at.
+pub fn filling(alloc: Global) -> Result<Script, Wrong> {
+    let mut script = Script::new(alloc);
+    script.each(RESTART)?;
+    script.list(almost_filled(alloc, 3_000_000)?.as_slice())?;
+    Ok(script)
+}
+
+/// That list, steps between inputs until the snapshot is done, and a checkpoint.
+pub fn areas(alloc: Global) -> Result<Script, Wrong> {
+    let mut script = filling(alloc)?;
+    script.list(&beginning(4_000_000, 3, 450))?;
+    script.deed(Deed::Step(1))?;
+    script.each(&[(4_000_001, Coming::Reload)])?;
+    script.deed(Deed::Step(1))?;
+    script.list(&[
+        (4_000_002, Coming::Put("lib/c.service", "")),
+        (4_000_003, Coming::Ended(4, 1)),
+    ])?;
+    script.deed(Deed::Step(16))?;
+    script.each(&[(4_200_003, Coming::Tick)])?;
+    script.deed(Deed::Checkpoint)?;
+    script.each(&[(4_200_004, Coming::Put("lib/d.service", ""))])?;
+    Ok(script)
+}
+
+/// The same with a checkpoint in the middle of the snapshot, and an opening behind it.
+pub fn midway(alloc: Global) -> Result<Script, Wrong> {
+    let mut script = filling(alloc)?;
+    script.list(&beginning(4_000_000, 3, 450))?;
+    script.deed(Deed::Step(1))?;
+    script.deed(Deed::Checkpoint)?;
+    script.each(&[(4_000_001, Coming::Reload)])?;
+    script.deed(Deed::Open)?;
+    script.each(&[(4_000_002, Coming::Put("lib/c.service", ""))])?;
     Ok(script)
 }
 
@@ -254,24 +292,29 @@ fn stopped(
 }
 
 /// The number of disk calls of a creation.
-fn calls_of_create(alloc: Global) -> Result<u64, Wrong> {
+pub fn calls_of_create(alloc: Global) -> Result<u64, Wrong> {
     let mut disk = Fuse::new(blank(alloc)?, 0);
     create_on(alloc, &mut disk)?;
     Ok(disk.calls())
 }
 
-/// A script is stopped before each write behind the creation; tells how many images were opened.
+/// A script is stopped before each write behind its creation; tells how many images were opened.
 pub fn each_stop(alloc: Global, script: &Script) -> Result<u64, Wrong> {
+    each_stop_behind(alloc, script, calls_of_create(alloc)?)
+}
+
+/// A script is stopped before each write behind so many disk calls; tells how many images were opened.
+pub fn each_stop_behind(alloc: Global, script: &Script, from: u64) -> Result<u64, Wrong> {
     let course = course_onward(alloc, script.rows.as_slice())?;
-    let calls = script.calls(alloc, blank(alloc)?)?;
+    let calls = script.calls(alloc)?;
     let mut crashes = Crashes {
         alloc,
         course: &course,
         images: 0,
     };
     let mut last = (0, 0);
-    for fails in calls_of_create(alloc)?.saturating_add(1)..=calls {
-        let (disk, low, high) = stopped(alloc, script, blank(alloc)?, fails)?;
+    for fails in from.saturating_add(1)..=calls {
+        let (disk, low, high) = stopped(alloc, script, script.disk(alloc)?, fails)?;
         let now = deeds(alloc, &disk)?;
         if now != last {
             let stop = Stop {

@@ -3,7 +3,7 @@
 use crate::alone::{Course, course_of, spent};
 use crate::rows::{Coming, Row, input_of};
 use crate::scripts::{Deed, Failing, Outcome, Script, let_go};
-use crate::stores::{blank, bytes_of, create_on, newest, oldest, opened, state_on, submit};
+use crate::stores::{bytes_of, create_on, newest, oldest, opened, state_on, submit};
 use crate::wrong::{Wrong, found};
 use std::alloc::Global;
 use um_keeper::Keeper;
@@ -56,7 +56,7 @@ pub fn short(alloc: Global) -> Result<Script, Wrong> {
 
 /// The number of disk calls of a creation and the opening behind it.
 pub fn calls_before(alloc: Global) -> Result<u64, Wrong> {
-    Script::new(alloc).calls(alloc, blank(alloc)?)
+    Script::new(alloc).calls(alloc)
 }
 
 /// So many records of a file of so many bytes, from this microsecond on.
@@ -64,7 +64,7 @@ fn records(alloc: Global, from: u64, count: u64, bytes: usize) -> Result<Vec<Row
     let mut rows = Vec::new(alloc);
     for number in 0..count {
         let micros = from.saturating_add(number);
-        rows.push((micros, Coming::Long("lib/a.service", bytes)))?;
+        rows.push((micros, Coming::Long("lib/b.service", bytes)))?;
     }
     Ok(rows)
 }
@@ -81,33 +81,95 @@ fn each_record(
     script.each(rows.as_slice())
 }
 
-/// Records that fill a log of 512 sectors but for eight: 25 of 20 sectors and one of four. Few and long, so that a case is short.
-fn almost_filled(alloc: Global) -> Result<Vec<Row>, Wrong> {
-    let mut rows = records(alloc, 1, 25, LONG)?;
-    rows.extend_from_slice(records(alloc, 100, 1, SHORT)?.as_slice())?;
+/// Records that fill an area of 256 sectors but for eight: 12 of 20 sectors and two of four. Few and long, so that a case is short.
+pub fn almost_filled(alloc: Global, from: u64) -> Result<Vec<Row>, Wrong> {
+    let mut rows = records(alloc, from, 12, LONG)?;
+    let behind = from.saturating_add(100);
+    rows.extend_from_slice(records(alloc, behind, 2, SHORT)?.as_slice())?;
     Ok(rows)
 }
 
-/// A log of 512 sectors is filled to its end, and the next record begins a generation; the store is opened again behind another one.
+/// An area of 256 sectors is filled to its end, and the next record begins a generation; the store is opened again behind another one, in the
+/// middle of the snapshot.
 pub fn filled(alloc: Global) -> Result<Script, Wrong> {
     let mut script = Script::new(alloc);
-    each_record(alloc, &mut script, 1, 25, LONG)?;
-    each_record(alloc, &mut script, 100, 1, SHORT)?;
+    each_record(alloc, &mut script, 1, 12, LONG)?;
+    each_record(alloc, &mut script, 100, 2, SHORT)?;
     each_record(alloc, &mut script, 200, 1, SHORT)?;
     each_record(alloc, &mut script, 300, 6, 8)?;
     script.deed(Deed::Open)?;
     Ok(script)
 }
 
-/// A list fills the log but for eight sectors, and another one, with a refusal in it, runs into its end; the store is opened again.
+/// A list fills an area but for eight sectors, and another one, with a refusal in it, runs into its end; the store is opened again.
 pub fn lists(alloc: Global) -> Result<Script, Wrong> {
     let mut script = Script::new(alloc);
-    script.list(almost_filled(alloc)?.as_slice())?;
+    script.list(almost_filled(alloc, 1)?.as_slice())?;
     let mut rows = records(alloc, 1_000, 2, SHORT)?;
     rows.push((1_010, Coming::Put("a.service", "")))?;
     rows.extend_from_slice(records(alloc, 1_020, 2, SHORT)?.as_slice())?;
     script.list(rows.as_slice())?;
     script.deed(Deed::Open)?;
+    Ok(script)
+}
+
+/// A record of one sector, and two of files of so many bytes, which go over the end of an area that is all but full; then a restart, with the end
+/// of the process of this number: taken twice, it would be seen.
+pub fn beginning(micros: u64, number: u64, bytes: usize) -> [Row; 5] {
+    [
+        (micros, Coming::Put("lib/c.service", "")),
+        (micros, Coming::Long("lib/b.service", bytes)),
+        (micros, Coming::Long("lib/b.service", bytes)),
+        (micros, Coming::Verb(UnitVerb::Restart, "a.service")),
+        (micros, Coming::Ended(number, 0)),
+    ]
+}
+
+/// A service is started.
+const STARTED: &[Row] = &[
+    (0, Coming::Put("lib/a.service", AGAIN)),
+    (0, Coming::Reload),
+    (0, Coming::Verb(UnitVerb::Start, "a.service")),
+];
+
+/// A service runs, an area is filled, and a snapshot goes out by steps between inputs; then the other area is filled, and a checkpoint comes in the
+/// middle of the next one.
+pub fn steps(alloc: Global) -> Result<Script, Wrong> {
+    let mut script = Script::new(alloc);
+    script.each(STARTED)?;
+    // 251 of 256 sectors are written then
+    script.list(almost_filled(alloc, 1)?.as_slice())?;
+    script.deed(Deed::Step(1))?;
+    for row in &beginning(1_000, 1, SHORT) {
+        script.each(&[*row])?;
+        script.deed(Deed::Step(1))?;
+    }
+    script.list(&[
+        (1_010, Coming::Reload),
+        (1_011, Coming::Put("lib/c.service", "")),
+    ])?;
+    script.deed(Deed::Step(16))?;
+    script.deed(Deed::Step(16))?;
+    // behind eight sectors: the area is full
+    script.list(almost_filled(alloc, 2_000)?.as_slice())?;
+    script.list(&beginning(3_000, 2, SHORT))?;
+    script.deed(Deed::Step(2))?;
+    script.deed(Deed::Step(0))?;
+    script.deed(Deed::Checkpoint)?;
+    script.each(&[(3_010, Coming::Reload)])?;
+    Ok(script)
+}
+
+/// A store of layout 1 and this generation is opened, and written anew as layout 2; more is recorded, and it is opened again.
+pub fn old(alloc: Global, generation: u8) -> Result<Script, Wrong> {
+    let mut script = Script::old(alloc, generation, RESTART)?;
+    script.each(&[
+        (3_000_000, Coming::Ended(3, 0)),
+        (3_000_001, Coming::Reload),
+    ])?;
+    script.deed(Deed::Step(16))?;
+    script.deed(Deed::Open)?;
+    script.each(&[(3_000_002, Coming::Put("lib/b.service", AGAIN))])?;
     Ok(script)
 }
 
@@ -135,6 +197,10 @@ fn takes_nothing(alloc: Global, keeper: &mut Keeper<Failing>) -> Result<(), Wron
             let_go(alloc, answers);
             return Err(found("a keeper that failed takes a list"));
         }
+        Err(refusal) => is_closed(Err(refusal))?,
+    }
+    match keeper.step(0) {
+        Ok(_) => return Err(found("a keeper that failed takes a step")),
         Err(refusal) => is_closed(Err(refusal))?,
     }
     is_closed(keeper.checkpoint())
@@ -217,12 +283,12 @@ fn one_case(alloc: Global, script: &Script, course: &Course, disk: Failing) -> R
 
 /// The call of this number fails, both ways.
 fn both_ways(alloc: Global, script: &Script, course: &Course, fails: u64) -> Result<(), Wrong> {
-    let disk = Fuse::new(blank(alloc)?, fails);
+    let disk = Fuse::new(script.disk(alloc)?, fails);
     match one_case(alloc, script, course, disk) {
         Ok(()) => {}
         Err(wrong) => return Err(wrong.at(fails, ", not made")),
     }
-    let disk = Fuse::making(blank(alloc)?, fails);
+    let disk = Fuse::making(script.disk(alloc)?, fails);
     match one_case(alloc, script, course, disk) {
         Ok(()) => Ok(()),
         Err(wrong) => Err(wrong.at(fails, ", made")),
@@ -232,7 +298,7 @@ fn both_ways(alloc: Global, script: &Script, course: &Course, fails: u64) -> Res
 /// Each call of a script fails in turn, from that number on; tells how many cases were tried.
 pub fn each_call(alloc: Global, script: &Script, first: u64) -> Result<u64, Wrong> {
     let course = course_of(alloc, script.rows.as_slice())?;
-    let calls = script.calls(alloc, blank(alloc)?)?;
+    let calls = script.calls(alloc)?;
     let mut cases: u64 = 0;
     for fails in first..=calls {
         both_ways(alloc, script, &course, fails)?;

@@ -69,6 +69,24 @@ pub const ENABLED: &[Row] = &[
     (0, Coming::Install(InstallVerb::Disable, "a.service")),
 ];
 
+/// So many records of a file that takes 20 sectors.
+const LONG: usize = 12;
+
+/// A service runs, the area of its log is full, and with its restart a snapshot of three sectors begins, which isn't done at the end.
+pub fn areas(alloc: Global) -> Result<Vec<Row>, Wrong> {
+    let mut rows = Vec::new(alloc);
+    rows.extend_from_slice(SIMPLE)?;
+    for _ in 0..LONG {
+        rows.push((1, Coming::Long("lib/b.service", 9_500)))?;
+    }
+    // ten sectors, and three
+    rows.push((1, Coming::Long("lib/b.service", 4_700)))?;
+    rows.push((1, Coming::Long("lib/b.service", 1_200)))?;
+    rows.push((2, Coming::Verb(UnitVerb::Restart, "a.service")))?;
+    rows.push((3, Coming::Ended(1, 0)))?;
+    Ok(rows)
+}
+
 /// What takes the inputs of a life.
 #[derive(Drop)]
 pub struct Taker {
@@ -92,6 +110,15 @@ impl Taker {
             return Err(Refusal::NoMemory);
         }
         submit(self.keeper.as_mut(), input)
+    }
+
+    /// A sector of a snapshot under way goes out; where the disk finds no memory for it, the store is opened again.
+    pub fn stepped(mut self, alloc: Global) -> Result<Taker, Wrong> {
+        match self.keeper.step(1) {
+            Ok(_) => Ok(self),
+            Err(Refusal::Device) => self.reopened(alloc),
+            Err(refusal) => Err(Wrong::from(refusal)),
+        }
     }
 
     /// The keeper opened again over its disk.
@@ -316,7 +343,7 @@ pub fn taker_behind(
 ) -> Result<Taker, Wrong> {
     let mut taker = open_at(alloc, course, new_store(alloc)?, 0, always_wanting)?;
     for (place, row) in rows.iter().enumerate() {
-        taker = take(alloc, course, taker, place, *row)?;
+        taker = take(alloc, course, taker, place, *row)?.stepped(alloc)?;
         taker.is_at(alloc, course, place.saturating_add(1))?;
     }
     Ok(taker)

@@ -39,6 +39,9 @@ fn disk_cases(alloc: Global, number: &str) -> Result<u64, Wrong> {
         "1" => disk::each_call(alloc, &disk::restart(alloc)?, 1),
         "2" => disk::each_call(alloc, &disk::filled(alloc)?, 1),
         "3" => disk::each_call(alloc, &disk::lists(alloc)?, 1),
+        "4" => disk::each_call(alloc, &disk::steps(alloc)?, 1),
+        "5" => disk::each_call(alloc, &disk::old(alloc, 2)?, 1),
+        "6" => disk::each_call(alloc, &disk::old(alloc, 3)?, 1),
         _ => Err(found("no such script")),
     }
 }
@@ -49,6 +52,18 @@ fn crash_cases(alloc: Global, number: &str) -> Result<u64, Wrong> {
         "1" => crash::each_creation(alloc),
         "2" => crash::each_stop(alloc, &crash::script(alloc)?),
         "3" => crash::each_stop(alloc, &crash::with_lists(alloc)?),
+        "4" => crash::each_stop_behind(
+            alloc,
+            &crash::areas(alloc)?,
+            crash::filling(alloc)?.calls(alloc)?,
+        ),
+        "5" => crash::each_stop_behind(
+            alloc,
+            &crash::midway(alloc)?,
+            crash::filling(alloc)?.calls(alloc)?,
+        ),
+        "6" => crash::each_stop_behind(alloc, &disk::old(alloc, 2)?, 0),
+        "7" => crash::each_stop_behind(alloc, &disk::old(alloc, 3)?, 0),
         _ => Err(found("no such script")),
     }
 }
@@ -87,6 +102,7 @@ fn life(alloc: Global, number: &str) -> Result<u64, Wrong> {
         "3" => lives::rows_taken(alloc, lives::RESTARTS),
         "4" => lives::rows_taken(alloc, lives::ENABLED),
         "5" => clients::two_clients(alloc),
+        "6" => lives::rows_taken(alloc, lives::areas(alloc)?.as_slice()),
         _ => Err(found("no such life")),
     }
 }
@@ -100,6 +116,7 @@ fn scarce_life(alloc: Global, number: &str) -> Result<u64, Wrong> {
         "4" => scarce::rows_taken(alloc, lives::ENABLED),
         "5" => scarce::two_clients(alloc),
         "6" => scarce::lost_reads(alloc),
+        "7" => scarce::rows_taken(alloc, lives::areas(alloc)?.as_slice()),
         _ => Err(found("no such life")),
     }
 }
@@ -133,14 +150,16 @@ fn scarce_parts(rt: &HostRuntime, program: &str, numbers: &[&str]) -> Result<(),
     Ok(())
 }
 
-/// What is short: the scripts of children and gate, the lives with all their memory, and a short script each of a disk and of crashes.
+/// What is short: the scripts of children and gate, the lives with all their memory, a short script each of a disk and of crashes, and crashes of
+/// an opening that writes a store of layout 1 anew.
 fn short(alloc: Global) -> Result<(), Wrong> {
     let first = disk::calls_before(alloc)?.saturating_add(1);
     disk::each_call(alloc, &disk::short(alloc)?, first)?;
     crash::each_stop(alloc, &crash::short(alloc)?)?;
+    crash::each_stop_behind(alloc, &disk::old(alloc, 3)?, 0)?;
     parts(alloc, "children", &["1", "2"])?;
     parts(alloc, "gate", &["1", "2", "3", "4"])?;
-    parts(alloc, "memory", &["1", "2", "3", "4", "5"])?;
+    parts(alloc, "memory", &["1", "2", "3", "4", "5", "6"])?;
     lives::wanting_is_noticed(alloc)
 }
 

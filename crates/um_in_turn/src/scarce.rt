@@ -170,7 +170,7 @@ fn take_rows(
     for (place, row) in rows.iter().enumerate() {
         let (after, more) = take_row(alloc, course, taker, place, *row, first)?;
         refusals = refusals.saturating_add(more);
-        taker = after;
+        taker = after.stepped(alloc)?;
     }
     Ok((taker, refusals))
 }

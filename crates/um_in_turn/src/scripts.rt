@@ -3,7 +3,7 @@
 use crate::alone::spent;
 use crate::rows::{Row, input_of, inputs_of};
 use crate::stores;
-use crate::stores::create_on;
+use crate::stores::{blank, create_on, made, made_old, opened};
 use crate::wrong::{Wrong, found};
 use std::alloc::Global;
 use um_keeper::{Keeper, Receipt};
@@ -20,24 +20,55 @@ pub enum Deed {
     Input,
     /// So many rows are submitted as one list.
     List(usize),
+    /// So many sectors of a snapshot under way go out.
+    Step(u32),
     Checkpoint,
     /// The store is opened again.
     Open,
 }
 
-/// A store is created and opened, and then these calls are made over these rows.
+/// The store with which a script begins.
+#[derive(Clone, Copy)]
+pub enum Start {
+    /// It is created.
+    New,
+    /// One of layout 1 and this generation, which holds so many rows.
+    Old(u8, usize),
+}
+
+/// A store is there, it is opened, and then these calls are made over these rows.
 #[derive(Drop)]
 pub struct Script {
+    pub start: Start,
     pub rows: Vec<Row>,
     pub deeds: Vec<Deed>,
 }
 
 impl Script {
-    /// No call.
+    /// No call behind a creation and an opening.
     pub fn new(alloc: Global) -> Script {
         Script {
+            start: Start::New,
             rows: Vec::new(alloc),
             deeds: Vec::new(alloc),
+        }
+    }
+
+    /// No call behind the opening of a store of layout 1 and this generation that holds these rows.
+    pub fn old(alloc: Global, generation: u8, rows: &[Row]) -> Result<Script, Wrong> {
+        let mut script = Script::new(alloc);
+        script.start = Start::Old(generation, rows.len());
+        script.rows.extend_from_slice(rows)?;
+        Ok(script)
+    }
+
+    /// The disk on which it begins.
+    pub fn disk(&self, alloc: Global) -> Result<MemDisk, Wrong> {
+        match self.start {
+            Start::New => blank(alloc),
+            Start::Old(generation, count) => {
+                old_store(alloc, generation, self.rows_from(0, count)?)
+            }
         }
     }
 
@@ -176,6 +207,22 @@ fn submit_all(alloc: Global, keeper: Box<Keeper<Failing>>, rows: &[Row]) -> Resu
     }
 }
 
+fn step(keeper: Box<Keeper<Failing>>, sectors: u32) -> Result<Gone, Wrong> {
+    let mut keeper = keeper;
+    let before = keeper.left();
+    match keeper.step(sectors) {
+        Ok(told) => {
+            let left = keeper.left();
+            if left != before.saturating_sub(sectors) || told != (left == 0) {
+                return Err(found("a step that wrote something else"));
+            }
+            Ok(Gone::On(keeper, 0))
+        }
+        Err(Refusal::Device) => Ok(Gone::Refused(keeper, 0)),
+        Err(refusal) => Err(Wrong::from(refusal)),
+    }
+}
+
 fn checkpoint(keeper: Box<Keeper<Failing>>) -> Result<Gone, Wrong> {
     let mut keeper = keeper;
     match keeper.checkpoint() {
@@ -193,6 +240,19 @@ fn open(alloc: Global, disk: Failing) -> Result<Gone, Wrong> {
     }
 }
 
+/// A store of layout 1 and this generation that holds these rows.
+fn old_store(alloc: Global, generation: u8, rows: &[Row]) -> Result<MemDisk, Wrong> {
+    let mut keeper = opened(alloc, made(alloc)?)?;
+    keeper.checkpoint()?;
+    for row in rows {
+        match stores::submit(keeper.as_mut(), input_of(alloc, *row)?) {
+            Ok(receipt) => drop(spent(alloc, receipt)?),
+            Err(refusal) => drop(refusal),
+        }
+    }
+    made_old(Box::into_inner(keeper).into_disk(), generation)
+}
+
 impl Script {
     fn go(
         &self,
@@ -207,15 +267,24 @@ impl Script {
                 _ => Err(found("a script of too few rows")),
             },
             Deed::List(count) => submit_all(alloc, keeper, self.rows_from(done, count)?),
+            Deed::Step(sectors) => step(keeper, sectors),
             Deed::Checkpoint => checkpoint(keeper),
             Deed::Open => open(alloc, Box::into_inner(keeper).into_disk()),
+        }
+    }
+
+    /// How many rows its store holds as it begins.
+    fn begun(&self) -> usize {
+        match self.start {
+            Start::New => 0,
+            Start::Old(_, count) => count,
         }
     }
 
     /// The calls behind the opening.
     fn play_over(&self, alloc: Global, keeper: Box<Keeper<Failing>>) -> Result<Outcome, Wrong> {
         let mut keeper = keeper;
-        let mut done: usize = 0;
+        let mut done = self.begun();
         for deed in self.deeds.as_slice() {
             match self.go(alloc, keeper, *deed, done)? {
                 Gone::On(after, count) => {
@@ -229,24 +298,31 @@ impl Script {
         Ok(Outcome::Done(Box::into_inner(keeper).into_disk().calls()))
     }
 
-    /// The whole script over this disk.
-    pub fn play(&self, alloc: Global, disk: Failing) -> Result<Outcome, Wrong> {
-        let mut disk = disk;
-        match create_on(alloc, &mut disk) {
-            Ok(()) => {}
-            Err(Refusal::Device) => return Ok(Outcome::Creating(disk.into_inner())),
-            Err(refusal) => return Err(Wrong::from(refusal)),
-        }
+    /// The opening of its store and the calls behind it.
+    fn play_from(&self, alloc: Global, disk: Failing) -> Result<Outcome, Wrong> {
         match open(alloc, disk)? {
             Gone::On(keeper, _) => self.play_over(alloc, keeper),
             Gone::Refused(_, _) => Err(found("an opening that isn't one")),
-            Gone::NotOpened(disk) => Ok(Outcome::Opening(disk.into_inner(), 0)),
+            Gone::NotOpened(disk) => Ok(Outcome::Opening(disk.into_inner(), self.begun())),
         }
     }
 
+    /// The whole script over the disk on which it begins.
+    pub fn play(&self, alloc: Global, disk: Failing) -> Result<Outcome, Wrong> {
+        let mut disk = disk;
+        if let Start::New = self.start {
+            match create_on(alloc, &mut disk) {
+                Ok(()) => {}
+                Err(Refusal::Device) => return Ok(Outcome::Creating(disk.into_inner())),
+                Err(refusal) => return Err(Wrong::from(refusal)),
+            }
+        }
+        self.play_from(alloc, disk)
+    }
+
     /// How many calls of the disk the script makes where none fails.
-    pub fn calls(&self, alloc: Global, disk: MemDisk) -> Result<u64, Wrong> {
-        match self.play(alloc, Fuse::new(disk, 0))? {
+    pub fn calls(&self, alloc: Global) -> Result<u64, Wrong> {
+        match self.play(alloc, Fuse::new(self.disk(alloc)?, 0))? {
             Outcome::Done(calls) => Ok(calls),
             _ => Err(found("a fault where nothing fails")),
         }

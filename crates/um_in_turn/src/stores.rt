@@ -2,14 +2,21 @@
 
 use crate::wrong::{Wrong, found};
 use std::alloc::Global;
+use std::ops::Range;
 use um_keeper::{Keeper, Receipt, create};
 use um_model::Layout;
-use um_sector::{Disk, MemDisk};
+use um_sector::{Disk, MemDisk, Sector};
 use um_state::Input;
 use um_wire::{Refusal, spell};
 
 /// So many sectors a disk has: slots of 64, a log of 512.
 pub const SECTORS: usize = 641;
+
+/// The first sector of slot B.
+const SLOT_B: usize = 65;
+
+/// The sectors of the first area of the log, where that of layout 1 begins.
+const FIRST_AREA: Range<usize> = 129..385;
 
 /// The layout of each store.
 pub fn layout() -> Result<Layout, Wrong> {
@@ -102,4 +109,36 @@ pub fn state_on(alloc: Global, disk: MemDisk) -> Result<Option<Vec<u8>>, Wrong> 
             no_store(refusal)
         }
     }
+}
+
+/// A store of layout 1 that holds what this one of layout 2 does, whose newest snapshot is of generation 4 in slot A, and whose records are all
+/// of that generation: it is of this generation, and has no other snapshot.
+pub fn made_old(disk: MemDisk, generation: u8) -> Result<MemDisk, Wrong> {
+    let mut disk = disk;
+    change(&mut disk, 0, 7, b'1')?;
+    change(&mut disk, 1, 15, generation)?;
+    disk.write(SLOT_B, &[0; 512])?;
+    for k in FIRST_AREA {
+        if has_record(&mut disk, k)? {
+            change(&mut disk, k, 11, generation)?;
+        }
+    }
+    Ok(disk.settled())
+}
+
+/// Changes a byte of a sector.
+fn change(disk: &mut MemDisk, k: usize, at: usize, byte: u8) -> Result<(), Wrong> {
+    let mut sector: Sector = [0; 512];
+    disk.read(k, &mut sector)?;
+    if let Some(place) = sector.get_mut(at) {
+        *place = byte;
+    }
+    Ok(disk.write(k, &sector)?)
+}
+
+/// Whether a sector of the log holds a part of a record.
+fn has_record(disk: &mut MemDisk, k: usize) -> Result<bool, Wrong> {
+    let mut sector: Sector = [0; 512];
+    disk.read(k, &mut sector)?;
+    Ok(sector[0] == b'U')
 }

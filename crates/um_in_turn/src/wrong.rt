@@ -3,6 +3,7 @@
 use std::alloc::{AllocError, AllocFailed};
 use thiserror::Error;
 use um_children::ChildFault;
+use um_sector::Fault;
 use um_wire::Refusal;
 
 /// Why a run ends early.
@@ -75,6 +76,12 @@ impl From<Refusal> for Wrong {
 
 impl From<ChildFault> for Wrong {
     fn from(fault: ChildFault) -> Wrong {
+        Wrong::from(Refusal::from(fault))
+    }
+}
+
+impl From<Fault> for Wrong {
+    fn from(fault: Fault) -> Wrong {
         Wrong::from(Refusal::from(fault))
     }
 }

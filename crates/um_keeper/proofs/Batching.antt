@@ -7,36 +7,23 @@ use Rattle.std.proofs.lemmas.List.{take-append-drop}
 use Rattle.std.proofs.lemmas.List.Elements.{Contains-append_left, Contains-append_right, Contains-append_cases, Contains-push_cases}
 use Rattle.um_engine.specs.Engine.{state_before}
 use Rattle.um_engine.specs.declared.engine.Back.{Back}
-use Rattle.um_model.specs.Disk.{Past, Image, During}
+use Rattle.um_model.specs.Disk.{Past, During}
 use Rattle.um_model.specs.Machine.{State, Input, Reply, Done, Refusal, Run, rests, goes, Step}
 use Rattle.um_model.specs.Numbers.{AreNew, started_numbers, actions_in}
 use Rattle.um_model.specs.Refusals.{Refused}
 use Rattle.um_model.specs.Service.{Action}
 use Rattle.um_model.specs.Standing.{Standing}
-use Rattle.um_model.specs.Store.{body_limit}
 use Rattle.um_model.specs.declared.layout.Layout.{Layout}
 use Rattle.um_laws.proofs.DiskLaws.{weaker}
 use Rattle.um_laws.proofs.NumbersLaws.{run_numbers_rise}
 use Rattle.um_keeper.specs.Answering.{Answer, is_turned_away, Answered, accepted, refused, turned_away, AreAnswered, all_answered, and_next, Recorded, all_recorded, without_record, with_record, FailsAt, at_sync, at_record, FellBack, FellThere, StopsAt, HasFault, denied, where_step, taken, all_asked, IsIdle, IsRefusal, NeedNoRecord, HasNoRecord, HaveNoRecord, record_sectors, state_before_all}
 use Rattle.um_keeper.specs.Keeping.{IsBegun}
+use Rattle.um_keeper.proofs.Kept.{begun_longer}
 use Rattle.um_engine.specs.OfStore.{is_of_store}
 use Rattle.um_sector.specs.Refused.{IsLost}
 use Rattle.um_wire.specs.Refusal.{refused_of}
 use Rattle.um_wire.specs.declared.refusal.Refusal as declared
 use Rattle.um_wire.specs.declared.refusal.Refusal.TheVariants.{Device, GenerationsSpent}
-
--- ---- beginnings
-
--- a beginning of a list is one of a longer list
-pub longer : (xs ys : List Input) (count : ℕ) → (n : ℕ) × (take n (xs ++ ys) ≡ take count xs)
-longer xs ys zero = (0, refl)
-longer [] ys (suc count) = (0, refl)
-longer (x ∷ xs) ys (suc count) = let (n, is) = longer xs ys count in (suc n, ap (λ l. x ∷ l) is)
-
-pub begun_longer : {layout : Layout} {s : State} (xs ys : List Input) (image : Image) → IsBegun layout s xs image → IsBegun layout s (xs ++ ys) image
-begun_longer {layout} {s} xs ys image b =
-    let (n, is) = longer xs ys b.count in
-    record { count = n; state = b.state; run = subst (λ l. Run (body_limit layout) s l b.state) (sym is) b.run; store = b.store }
 
 -- ---- numbers
 

@@ -1,4 +1,7 @@
+mod Aside
 mod Batching
+mod Going
+mod Judged
 mod Looking
 pub mod Kept
 mod Reopening

@@ -1,6 +1,6 @@
 -- What opening makes of what it reads.
-use Rattle.std.proofs.Common.{◌≡◌, ◌⊎◌, ◌∙◌, inl, inr, ⊎_elim, ℕ, ◌+◌, ◌-◌, ◌^◌, ◌<◌, ◌≤◌, Bool, true, false, List, [], ◌∷◌, length, take, refl, sym, ap, subst, Some, None, arith}
-use Rattle.std.specs.Prelude.{Result, Ok, Err, is_some}
+use Rattle.std.proofs.Common.{◌≡◌, ◌⊎◌, ◌∙◌, inl, inr, ⊎_elim, ℕ, ◌+◌, ◌-◌, ◌^◌, ◌<◌, ◌≤◌, Bool, true, false, List, [], ◌∷◌, ◌++◌, length, take, refl, sym, ap, subst, Option, Some, None, arith}
+use Rattle.std.specs.Prelude.{Result, Ok, Err}
 use Rattle.std.proofs.lemmas.Bool.{cases_Bool, false≢true}
 use Rattle.std.proofs.lemmas.Option.{none-some, same_Some}
 use Rattle.std.proofs.lemmas.Slice.Eq.{bytes_eq-Decides}
@@ -17,20 +17,22 @@ use Rattle.um_log.specs.Greatest.{IsTold, IsGreatest}
 use Rattle.um_slot.specs.Snapshots.{HasNewest, EitherNewest}
 use Rattle.um_model.specs.Store as sectors
 use Rattle.um_model.specs.declared.layout.Format.{Format}
-use Rattle.um_model.specs.declared.layout.Format.TheVariants.{One}
+use Rattle.um_model.specs.declared.layout.Format.TheVariants.{One, Two}
 use Rattle.um_model.specs.declared.layout.Layout.{Layout}
 use Rattle.um_model.specs.declared.layout.Slot.{Slot}
 use Rattle.um_laws.proofs.DiskLaws.{started, weaker, followed, during_sync, settled_after_sync}
-use Rattle.um_laws.proofs.CountedLaws.{same_all, below_top, above_later}
+use Rattle.um_laws.proofs.CountedLaws.{same_all, none_counts, below_top, above_later, counts_own, log_anew}
 use Rattle.um_laws.proofs.ImageLaws.{newest_some, newest_none}
 use Rattle.um_laws.proofs.StandsLaws.{ComesTo, contents, one_contents, has_contents, state_back, anew, comes_anew, one_layout, bound}
-use Rattle.um_laws.proofs.StoreLaws.{superblock_name, one_format, same_newest, same_above}
+use Rattle.um_laws.proofs.SplitLaws.{inputs_split}
+use Rattle.um_laws.proofs.StoreLaws.{superblock_name, one_format, same_newest, same_above, unread_newest, read_from_one}
+use Rattle.um_sector.specs.Runs.{IsLaid, MaybeLaid, AfterRun}
 use Rattle.um_sector.specs.Refused.{IsLost}
 use Rattle.um_wire.specs.declared.refusal.Refusal.{Refusal}
 use Rattle.um_wire.specs.declared.refusal.Refusal.TheVariants.{Damaged, NotFormatted, GenerationsSpent, OtherLayout}
 use Rattle.um_keeper.specs.Keeping.{Keeps}
 use Rattle.um_keeper.proofs.Kept.{packed}
-use Rattle.um_keeper.specs.Opening.{HasLayout, all_placed, Replays, no_more, and_then, IsNoInput, here, later, IsUnread, no_sector, no_store, other_format, no_layout, no_header, no_state, no_input, IsSpent, IsUntaken, unread, spent, IsNextOf, IsTakenUp, IsFound, IsSomeStore, IsStill, IsAsBefore, StaysFor, StaysForOne, IsUnwritten}
+use Rattle.um_keeper.specs.Opening.{HasLayout, all_placed, Replays, no_more, and_then, IsNoInput, here, later, IsUnread, no_sector, no_store, other_format, no_layout, no_header, no_state, no_input, IsSpent, IsUntaken, unread, spent, IsNextOf, IsTakenUp, IsFound, IsSomeStore, IsStill, IsAsBefore, StaysFor, StaysForOne, WasOrStores, HasNewestIn, IsUnwritten}
 
 -- ---- sector 0
 
@@ -46,10 +48,14 @@ same_error r x y p q = cc
 
 -- a text that isn't no format's name is that of one
 some_format : (name : List ℕ) → ¬ ((format : Format) → ¬ (name ≡ format_name format)) → (format : Format) × (name ≡ format_name format)
-some_format name none = (One, not_other name (format_name One) (λ differs. none (by differs)))
+some_format name none = ⊎_elim {C = (format : Format) × (name ≡ format_name format)}
+    (λ one. (One, (bytes_eq-Decides name (format_name One)).0 one))
+    (λ other. (Two, not_other name (format_name Two) (λ differs. none (by (λ is. false≢true (sym other ∙ (bytes_eq-Decides name (format_name One)).1 is)) differs))))
+    (cases_Bool (bytes_eq name (format_name One)))
   where
-    by : ¬ (name ≡ format_name One) → (format : Format) → ¬ (name ≡ format_name format)
-    by differs One = differs
+    by : ¬ (name ≡ format_name One) → ¬ (name ≡ format_name Two) → (format : Format) → ¬ (name ≡ format_name format)
+    by one two One = one
+    by one two Two = two
 
 -- why sector 0 isn't read
 pub first_unread : (count : ℕ) (image : Image) (sector : Sector) (result : Result (Format × Layout) Refusal) (e : Refusal) → result ≡ Err e → sector ≡ image 0 → 0 < count
@@ -174,47 +180,110 @@ one_greatest layout image newest a b one two =
 
 -- ---- the next generation
 
--- a new snapshot without records is what a keeper holds
-pub keeps_anew : {past : Past} {count : ℕ} {layout : Layout} {slot : Slot} {generation : ℕ} {s : State} → IsImage past (seen past)
-    → GoesOn layout past slot generation (state_spelling s) [] generation 0 (log_start layout generation) → FitState s → IsServable (body_limit layout) s → store_sectors layout ≤ count
-    → Keeps past count layout slot generation generation 0 (log_start layout generation) s
-keeps_anew is on fits may room = packed is on (comes_anew (state_back _ fits) may) room
+-- of the newest snapshot, with none of a generation above an earlier one in the log, it is a store of its state
+pub anew_stores : {format : Format} {layout : Layout} {slot : Slot} {newest last : ℕ} {body : List ℕ} {image : Image} {s : State} → last < newest → HasNewest format layout slot newest body last image
+    → body ≡ state_spelling s → FitState s → IsServable (body_limit layout) s → IsStoreOf layout image s
+anew_stores {format} {layout} {slot} {newest} {last} {body} {image} {s} above has is fits may =
+    anew (subst (λ b. sectors.IsStore format layout image slot newest b []) is (record {
+      first = has.first;
+      newest = has.snapshot;
+      records_are = sym (none_counts format layout newest last image above has.none_later);
+      none_later = above_later layout (let low = below_top format newest in omega (arith, low, above)) has.none_later;
+    })) (state_back s fits) may
 
-module _ (past : Past) (count : ℕ) (layout : Layout) (slot : Slot) (generation greatest : ℕ) (s : State) (settled : IsSettled past)
-    (found : IsFound count (seen past) layout slot generation greatest s) where
+-- and what a keeper holds
+pub keeps_anew : {past : Past} {count : ℕ} {layout : Layout} {slot : Slot} {newest last : ℕ} {body : List ℕ} {s : State} → IsImage past (seen past) → last < newest
+    → Images past (HasNewest current layout slot newest body last) → body ≡ state_spelling s → FitState s → IsServable (body_limit layout) s → store_sectors layout ≤ count
+    → Keeps past count layout slot newest [] 0 newest 0 (log_start layout newest) s
+keeps_anew {past} {count} {layout} {slot} {newest} {last} {body} {s} at_once above all is fits may room =
+    packed at_once (omega arith) (record {
+      counts = counts_own current newest;
+      store = λ image at.
+          let has = all image at in
+          subst (λ b. sectors.IsStore current layout image slot newest b []) is (record {
+            first = has.first;
+            newest = has.snapshot;
+            records_are = sym (none_counts current layout newest last image above has.none_later);
+            none_later = above_later layout (let low = below_top current newest in omega (arith, low, above)) has.none_later;
+          });
+      above = λ image at. above_later layout (omega (arith, above)) (all image at).none_later;
+      end = λ image at. log_anew layout newest last image above (all image at).none_later;
+    }) (comes_anew (state_back s fits) may) room (λ sure. absurd (false≢true sure)) (λ i below. absurd (omega (arith, below)))
+
+-- ---- sector 0 is rewritten
+
+module _ {format : Format} {layout : Layout} {slot : Slot} {newest last : ℕ} {body : List ℕ} {from : Image} (has : HasNewest format layout slot newest body last from) where
+  rewritten : (by : Format) (image : Image) → image 0 ≡ superblock by layout → ((j : ℕ) → 1 ≤ j → image j ≡ from j) → HasNewest by layout slot newest body last image
+  rewritten by image first same = record {
+    first = first;
+    snapshot = unread_newest layout from image (λ j read. same j (read_from_one layout from j read)) has.snapshot;
+    none_later = same_above layout (λ j low high. same j (omega (arith, low))) has.none_later;
+  }
+
+  maybe_rewritten : (image : Image) → MaybeLaid from 0 (superblock current layout ∷ []) image → HasNewestIn layout slot newest body last image
+  maybe_rewritten image maybe = ⊎_elim {C = HasNewestIn layout slot newest body last image}
+      (λ old. record { format = format; has = rewritten format image (old ∙ has.first) (λ j above. maybe.outside j (inr above)) })
+      (λ new. record { format = current; has = rewritten current image new (λ j above. maybe.outside j (inr above)) })
+      (maybe.inside 0 (omega arith))
+
+module _ {format : Format} {layout : Layout} (past new : Past) {slot : Slot} {newest last : ℕ} {body : List ℕ} (all : Images past (HasNewest format layout slot newest body last)) where
+  pub rewrite_during : During past new (AfterRun past 0 (superblock current layout ∷ [])) → During past new (HasNewestIn layout slot newest body last)
+  rewrite_during run = weaker past new _ _ (λ image m. maybe_rewritten (all m.from m.was) image m.laid) run
+
+  pub rewrite_ok : IsImage past (seen past) → IsLaid (seen past) 0 (superblock current layout ∷ []) (seen new) → IsSettled new → Images new (HasNewest current layout slot newest body last)
+  rewrite_ok at_once laid settled image at = subst (HasNewest current layout slot newest body last) (sym (settled image at))
+      (rewritten (all (seen past) at_once) current (seen new) (laid.inside 0 (omega arith)) (λ j above. laid.outside j (inr above)))
+
+  -- where nothing is written
+  pub rewrite_still : During past past (HasNewestIn layout slot newest body last)
+  rewrite_still = started past _ (λ image at. record { format = format; has = all image at })
+
+-- ---- the state is written anew
+
+module _ {layout : Layout} {slot : Slot} {newest last : ℕ} {body : List ℕ} {s : State} (above : last < newest) (is : body ≡ state_spelling s) (fits : FitState s)
+    (may : IsServable (body_limit layout) s) where
+  -- while sector 0 is rewritten
+  pub newest_stores : {past new : Past} → During past new (HasNewestIn layout slot newest body last) → During past new (λ image. IsStoreOf layout image s)
+  newest_stores {past} {new} run = weaker past new _ _ (λ image h. anew_stores above h.has is fits may) run
+
+module _ {format : Format} {layout : Layout} {past : Past} {slot : Slot} {newest : ℕ} (last : ℕ) {before body : List ℕ} {s : State} (is : body ≡ state_spelling s) (fits : FitState s)
+    (may : IsServable (body_limit layout) s) where
+  either_stores : (image : Image) → EitherNewest format layout past slot newest before last body image → WasOrStores format layout past slot newest before s image
+  either_stores image (inl was) = inl was
+  either_stores image (inr new) = inr (anew (subst (λ b. sectors.IsStore format layout image (other slot) (last + 1) b []) is new) (state_back s fits) may)
+
+  -- while the snapshot is written
+  pub during_stores : {new : Past} → During past new (EitherNewest format layout past slot newest before last body) → During past new (WasOrStores format layout past slot newest before s)
+  during_stores {new} run = weaker past new _ _ either_stores run
+
+  -- and then sector 0
+  pub then_stores : {mid new : Past} → During past mid (EitherNewest format layout past slot newest before last body) → During mid new (λ image. IsStoreOf layout image s)
+      → During past new (WasOrStores format layout past slot newest before s)
+  then_stores {mid} {new} first second = followed past mid new _ (during_stores first) (weaker mid new _ _ (λ image store. inr store) second)
+
+module _ (past : Past) (count : ℕ) (format : Format) (layout : Layout) (slot : Slot) (generation greatest : ℕ) (s : State) (settled : IsSettled past)
+    (found : IsFound count (seen past) format layout slot generation (Some greatest) s) where
   abbrev taken : IsTakenUp count (seen past) layout slot generation s
   taken = found.taken
-
-  abbrev format : Format
-  format = found.taken.has.format
 
   -- each image has the snapshot that was taken up
   pub have_newest : Images past (HasNewest format layout slot generation taken.body greatest)
   have_newest image at = subst (HasNewest format layout slot generation taken.body greatest) (sym (settled image at))
-      (record { first = taken.has.first; snapshot = taken.newest; none_later = found.greatest_is.none_later })
+      (record { first = subst (λ (f : Format). seen past 0 ≡ superblock f layout) found.format_is taken.has.first; snapshot = taken.newest; none_later = found.greatest_is.none_later })
 
   -- the greatest generation is none below the newest
   pub least_greatest : generation ≤ greatest
   least_greatest = let low = below_top format generation in let least = found.greatest_is.least in omega (arith, low, least)
 
-  module _ (body : List ℕ) (is_body : body ≡ state_spelling s) (fits : FitState s) (may : IsServable (body_limit layout) s) where
-    still_either : (image : Image) → EitherNewest format layout past slot generation taken.body greatest body image → IsStill layout (seen past) s image
-    still_either image (inl was) =
-        let same : was.from ≡ seen past = settled was.from was.was in
-        still_was (seen past) image taken was.first was.snapshot (λ j low. was.log j low ∙ ap (λ (i : Image). i j) same)
-    still_either image (inr new) =
-        let store = anew (subst (λ b. sectors.IsStore format layout image (other slot) (greatest + 1) b []) is_body new) (state_back s fits) may in
-        record { stands = store.stands; store = λ is. store }
+  still_either : (image : Image) → WasOrStores format layout past slot generation taken.body s image → IsStill layout (seen past) s image
+  still_either image (inl was) =
+      let same : was.from ≡ seen past = settled was.from was.was in
+      still_was (seen past) image taken (subst (λ (f : Format). image 0 ≡ superblock f layout) (sym found.format_is) was.first) was.snapshot (λ j low. was.log j low ∙ ap (λ (i : Image). i j) same)
+  still_either image (inr store) = record { stands = store.stands; store = λ is. store }
 
-    -- while the snapshot of its state is written, the image stands for the state
-    pub renewed : (new : Past) → ((format : Format) (newest : ℕ) (before : List ℕ) → newest ≤ greatest → Images past (HasNewest format layout slot newest before greatest)
-        → During past new (EitherNewest format layout past slot newest before greatest body)) → During past new (IsStill layout (seen past) s)
-    renewed new run = weaker past new _ _ still_either (run format generation taken.body least_greatest have_newest)
-
--- stores are written in the format that they have
-pub have_current : (past : Past) {layout : Layout} {slot : Slot} {newest last : ℕ} {body : List ℕ} (format : Format) → Images past (HasNewest format layout slot newest body last)
-    → Images past (HasNewest current layout slot newest body last)
-have_current past One have = have
+  -- while its state is written anew, the image stands for it
+  pub renewed : (new : Past) → During past new (WasOrStores format layout past slot generation taken.body s) → During past new (IsStill layout (seen past) s)
+  renewed new run = weaker past new _ _ still_either run
 
 -- ---- what a crash leaves of an opening
 
@@ -260,13 +329,13 @@ sync_unwritten (Ok x) old new is = inr is
 sync_unwritten (Err e) old new is = inl is
 
 -- from the first sync on
-pub stays_of : (count : ℕ) (layout : Layout) (slot : Slot) (generation greatest : ℕ) (s : State) (old mid new : Past) → mid ≡ after synced old
-    → IsFound count (seen old) layout slot generation greatest s
-    → (IsSettled mid → IsFound count (seen mid) layout slot generation greatest s → During mid new (IsStill layout (seen mid) s)) → StaysFor layout s old new
-stays_of count layout slot generation greatest s old mid new sync found more = record {
+pub stays_of : (count : ℕ) (format : Format) (layout : Layout) (slot : Slot) (generation : ℕ) (greatest : Option ℕ) (s : State) (old mid new : Past) → mid ≡ after synced old
+    → IsFound count (seen old) format layout slot generation greatest s
+    → (IsSettled mid → IsFound count (seen mid) format layout slot generation greatest s → During mid new (IsStill layout (seen mid) s)) → StaysFor layout s old new
+stays_of count format layout slot generation greatest s old mid new sync found more = record {
   stands = taken_stands found.taken;
   during = subst (λ p. During p new (IsStill layout (seen p) s)) sync
-      (more (subst IsSettled (sym sync) (settled_after_sync old)) (subst (λ p. IsFound count (seen p) layout slot generation greatest s) (sym sync) found));
+      (more (subst IsSettled (sym sync) (settled_after_sync old)) (subst (λ p. IsFound count (seen p) format layout slot generation greatest s) (sym sync) found));
 }
 
 -- ---- why it isn't taken up
@@ -287,6 +356,7 @@ header_unread count old new layout e has same is none =
 name_six : (format : Format) (layout : Layout) → take 6 (superblock format layout) ≡ store_name
 unfolding superblock filled
 name_six One layout = refl
+name_six Two layout = refl
 
 -- the first of such places, and those behind it
 abbrev first_bytes : List (ℕ × List ℕ) → List ℕ
@@ -315,10 +385,21 @@ no_input_none (later {places = places} is fails) at (bytes ∷ records) inputs s
     let (others, all, last) = bound (inputs_of records) _ inputs more in
     no_input_none fails (at + part_count (length bytes)) records others rest all
 
+-- of several lists the first that has one
+no_input_parts : {e : Refusal} (a b : List (ℕ × List ℕ)) → IsNoInput (a ++ b) e → IsNoInput a e ⊎ IsNoInput b e
+no_input_parts [] b fails = inr fails
+no_input_parts (x ∷ a) b (here is) = inl (here is)
+no_input_parts (x ∷ a) b (later is fails) = ⊎_elim {C = _ ⊎ _} (λ first. inl (later is first)) (λ second. inr second) (no_input_parts a b fails)
+
 -- of all that count none spells none
 none_placed : (format : Format) (layout : Layout) (newest : ℕ) (image : Image) {e : Refusal} {inputs : List Input} → inputs_of (all_records format layout newest image) ≡ Some inputs
     → IsNoInput (all_placed format layout newest image) e → ⊥
 none_placed One layout newest image {inputs = inputs} are fails = no_input_none fails (area_start One layout newest) (records_of One layout newest image) inputs refl are
+none_placed Two layout newest image {inputs = inputs} are fails =
+    let p = inputs_split (records_of Two layout newest image) (records_of Two layout (newest + 1) image) inputs are in
+    ⊎_elim (λ first. no_input_none first (area_start Two layout newest) (records_of Two layout newest image) p.front refl p.front_are)
+    (λ second. no_input_none second (area_start Two layout (newest + 1)) (records_of Two layout (newest + 1) image) p.behind refl p.behind_are)
+    (no_input_parts (placed (area_start Two layout newest) (records_of Two layout newest image)) (placed (area_start Two layout (newest + 1)) (records_of Two layout (newest + 1) image)) fails)
 
 module _ (count : ℕ) (format : Format) (layout : Layout) (image : Image) (room : store_sectors layout ≤ count) (slot : Slot) (generation : ℕ) (body : List ℕ) (start s : State) (inputs : List Input)
     (first : image 0 ≡ superblock format layout) (newest : sectors.IsNewest layout image slot generation body)
@@ -338,14 +419,18 @@ module _ (count : ℕ) (format : Format) (layout : Layout) (image : Image) (room
   of_format by other zero = one_format by format other layout (sym zero ∙ first)
 
   -- only where its greatest generation is the last one it is refused by E20
-  store_spent : (greatest : ℕ) → IsGreatest layout image (top format generation) greatest → IsSpent count image → greatest ≡ 2 ^ 64 - 1
+  store_spent : (greatest : ℕ) → IsGreatest layout image (top format generation) greatest → IsSpent count image → 2 ^ 64 - 1 ≤ greatest
   store_spent greatest most h =
       let same = this h.taken.has.format h.layout (record { slot = h.slot; generation = h.generation; body = h.taken.body }) h.taken.has.first ((newest_some h.layout image _).1 h.taken.newest) in
       let by = of_format h.taken.has.format h.layout h.taken.has.first in
-      one_greatest layout image (top format generation) greatest (2 ^ 64 - 1) most
-      (subst (λ (f : Format). IsGreatest layout image (top f generation) (2 ^ 64 - 1)) by
-      (subst (λ g. IsGreatest layout image (top h.taken.has.format g) (2 ^ 64 - 1)) same.1
-      (subst (λ l. IsGreatest l image (top h.taken.has.format h.generation) (2 ^ 64 - 1)) same.0 h.last)))
+      let tops : top h.taken.has.format h.generation ≡ top format generation = λ k. top (by k) (same.1 k) in
+      let least = most.least in
+      ⊎_elim
+      (λ past. omega (arith, past, tops, least))
+      (λ last. let one = one_greatest layout image (top format generation) greatest (2 ^ 64 - 1) most
+      (subst (λ n. IsGreatest layout image n (2 ^ 64 - 1)) tops (subst (λ l. IsGreatest l image (top h.taken.has.format h.generation) (2 ^ 64 - 1)) same.0 last)) in
+      omega (arith, one))
+      h.last
 
   -- and never for a cause of its reading
   store_unread : {e : Refusal} → ¬ IsUnread count image e
@@ -391,24 +476,24 @@ a_taken_read count layout image slot generation greatest s e t most early (spent
     omega (arith, last, early)
 
 -- the state that was taken up, one generation behind the greatest
-pub next_of : (count : ℕ) (image : Image) (from layout : Layout) (before slot : Slot) (earlier greatest generation : ℕ) (s t : State) → t ≡ s → layout ≡ from → slot ≡ other before
-    → generation ≡ greatest + 1 → IsFound count image from before earlier greatest s → IsNextOf count image layout slot generation t
-next_of count image from layout before slot earlier greatest generation s t state one turned next found =
-    let there : IsFound count image layout before earlier greatest t =
-    subst (λ l. IsFound count image l before earlier greatest t) (sym one) (subst (IsFound count image from before earlier greatest) (sym state) found) in
+pub next_of : (count : ℕ) (image : Image) (format : Format) (from layout : Layout) (before slot : Slot) (earlier greatest generation : ℕ) (s t : State) → t ≡ s → layout ≡ from → slot ≡ other before
+    → generation ≡ greatest + 1 → IsFound count image format from before earlier (Some greatest) s → IsNextOf count image layout slot generation t
+next_of count image format from layout before slot earlier greatest generation s t state one turned next found =
+    let there : IsFound count image format layout before earlier (Some greatest) t =
+    subst (λ l. IsFound count image format l before earlier (Some greatest) t) (sym one) (subst (IsFound count image format from before earlier (Some greatest)) (sym state) found) in
     record {
       before = before;
       earlier = earlier;
       greatest = greatest;
       turned = turned;
       taken = there.taken;
-      is_greatest = there.greatest_is;
+      is_greatest = subst (λ (f : Format). IsGreatest layout image (top f earlier) greatest) (sym there.format_is) there.greatest_is;
       next = next;
     }
 
 -- of a store no sector of the log is of a generation above those that count
 pub one_up : (count : ℕ) (layout : Layout) (image : Image) (slot : Slot) (generation : ℕ) (s : State) (next : IsNextOf count image layout slot generation s) → IsStoreOf layout image s
-    → generation ≡ next.earlier + 1
+    → generation ≡ top next.taken.has.format next.earlier + 1
 one_up count layout image slot generation s next is = by next.is_greatest.stands
   where
     same : is.stands.contents.generation ≡ next.earlier
@@ -419,12 +504,8 @@ one_up count layout image slot generation s next is = by next.is_greatest.stands
         subst (λ (n : ℕ). IsNoneAbove layout image (top next.taken.has.format n)) same
         (subst (λ (f : Format). IsNoneAbove layout image (top f is.stands.contents.generation)) (one_format is.stands.format next.taken.has.format layout layout (sym is.stands.first ∙ next.taken.has.first)) is.none_later)
 
-    -- of the first format those of its own generation alone count
-    own : (format : Format) (newest : ℕ) → top format newest ≡ newest
-    own One newest = refl
-
-    by : (next.greatest ≡ top next.taken.has.format next.earlier) ⊎ IsTold layout image next.greatest → generation ≡ next.earlier + 1
-    by (inl first) = omega (arith, next.next, first, own next.taken.has.format next.earlier)
+    by : (next.greatest ≡ top next.taken.has.format next.earlier) ⊎ IsTold layout image next.greatest → generation ≡ top next.taken.has.format next.earlier + 1
+    by (inl first) = next.next ∙ ap (λ (n : ℕ). n + 1) first
     by (inr told) =
         let below = none_later next.greatest told.place told.low told.high told.is in
-        omega (arith, next.next, next.is_greatest.least, below, own next.taken.has.format next.earlier)
+        omega (arith, next.next, next.is_greatest.least, below)

@@ -14,6 +14,11 @@ pub in_both : {T E : Type 0} (result : Result T E) {P : Type 0} → OnOk result 
 in_both (Ok x) p q = p
 in_both (Err e) p q = q
 
+-- both at Ok
+pub ok_both : {T E : Type 0} (result : Result T E) (P Q : Type 0) → OnOk result P → OnOk result Q → OnOk result (P × Q)
+ok_both (Ok x) P Q p q = (p, q)
+ok_both (Err e) P Q p q = tt
+
 -- what holds anyway
 pub ok_always : {T E : Type 0} (result : Result T E) {P : Type 0} → P → OnOk result P
 ok_always (Ok x) p = p

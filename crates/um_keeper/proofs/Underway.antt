@@ -1,43 +1,31 @@
--- While a list is taken: how the disk stands behind each record that is written, each snapshot, and the sync.
-use Rattle.std.proofs.Common.{◌≡◌, ◌⊎◌, ◌∙◌, ℕ, ◌+◌, ◌-◌, ◌^◌, ◌<◌, ◌≤◌, Bool, true, false, List, [], ◌∷◌, ◌++◌, length, take, refl, sym, ap, subst, inl, inr, ⊎_elim, arith, append_assoc, append-nil, length-append}
-use Rattle.std.specs.Prelude.{Err, Some, if◌then◌else◌}
-use Rattle.std.proofs.lemmas.Bool.{cases_lt, true≢false}
+-- While a list is taken: how the disk stands behind each record that is written, each part of a snapshot, its end, and the sync.
+use Rattle.std.proofs.Common.{◌≡◌, ◌⊎◌, ◌∙◌, ℕ, ◌+◌, ◌<◌, ◌≤◌, Bool, true, false, List, [], ◌∷◌, ◌++◌, length, take, refl, sym, ap, subst, inl, inr, ⊎_elim, arith, append_assoc, append-nil, length-append}
+use Rattle.std.specs.Prelude.{Some, if◌then◌else◌}
+use Rattle.std.proofs.lemmas.Bool.{cases_lt, true≢false, false≢true}
 use Rattle.std.proofs.lemmas.List.{take_all, take-append-le}
+use Rattle.um_model.specs.Bytes.{nothing_left}
 use Rattle.um_model.specs.Disk.{Past, Image, IsImage, Images, During, seen}
 use Rattle.um_model.specs.InputSpellings.{FitInput, input_spelling}
-use Rattle.um_model.specs.Machine.{State, Input, Reply, Refusal, Run, rests, Step}
-use Rattle.um_model.specs.Refusals.{Refused}
+use Rattle.um_model.specs.Machine.{State, Input, Reply, Run, rests, Step}
 use Rattle.um_model.specs.Servable.{IsServable}
 use Rattle.um_model.specs.Service.{Action}
-use Rattle.um_model.specs.Stands.{contents_of, IsStoreOf}
-use Rattle.um_model.specs.StateSpellings.{FitState, state_spelling}
-use Rattle.um_model.specs.Store.{current, other, body_limit, store_sectors, all_records, IsStore, GoesOn}
+use Rattle.um_model.specs.Stands.{contents_of, inputs_of, IsStoreOf}
+use Rattle.um_model.specs.StateSpellings.{state_at}
+use Rattle.um_model.specs.Store.{current, other, body_limit, slot_start, log_start, log_end, store_sectors, records_of, all_records, IsNoneAbove, IsLogEnd, IsStore, GoesOn}
 use Rattle.um_model.specs.declared.layout.Layout.{Layout}
 use Rattle.um_model.specs.declared.layout.Slot.{Slot}
-use Rattle.um_laws.proofs.CountedLaws.{none_counts, top_fits}
+use Rattle.um_laws.proofs.CountedLaws.{log_anew, own_records, above_later}
 use Rattle.um_laws.proofs.DiskLaws.{started, weaker, followed}
-use Rattle.um_laws.proofs.StandsLaws.{contents, ComesTo, contents_are, records_told, store_of, comes_further, comes_anew, only_end, state_back, run_step}
-use Rattle.um_slot.specs.Snapshots.{HasStore, EitherSnapshot}
+use Rattle.um_laws.proofs.StandsLaws.{contents, contents_are, records_told, store_of, comes_further, only_end, run_step}
+use Rattle.um_laws.proofs.StoreLaws.{area_within, behind_slot}
+use Rattle.um_slot.specs.Snapshots.{IsWritten, IsBeside, HasStore, EitherSnapshot}
 use Rattle.um_log.specs.Ahead.{HasSome, GoesOnAhead}
 use Rattle.um_log.proofs.Behind.{ahead_by_nothing, nothing_ahead}
-use Rattle.um_engine.specs.OfStore.{is_of_store}
-use Rattle.um_sector.specs.Refused.{IsLost}
-use Rattle.um_wire.specs.Refusal.{refused_of}
-use Rattle.um_wire.specs.declared.refusal.Refusal as declared
-use Rattle.um_wire.specs.declared.refusal.Refusal.TheVariants.{Device, GenerationsSpent}
-use Rattle.um_keeper.specs.Answering.{is_turned_away, where_step}
-use Rattle.um_keeper.specs.Keeping.{MayHold, Keeps, IsBegun}
-use Rattle.um_keeper.specs.Underway.{Spells, Begins, IsUnderway, UnderwayIn, KeptIn, owed}
-use Rattle.um_keeper.specs.declared.ahead.Ahead.{Ahead}
-use Rattle.um_keeper.proofs.Batching.{longer, begun_longer}
-use Rattle.um_keeper.proofs.Kept.{unpacked, packed}
-
--- what is spelled is what a store comes to
-comes_of : {layout : Layout} {body : List ℕ} {records : List (List ℕ)} {s : State} (spells : Spells layout body records s) → ComesTo (body_limit layout) body records spells.start spells.inputs s
-comes_of spells = record { start_is = spells.start_is; inputs_are = spells.inputs_are; servable = spells.servable; run = spells.run }
-
-spells_of : {layout : Layout} {body : List ℕ} {records : List (List ℕ)} {start : State} {inputs : List Input} {s : State} → ComesTo (body_limit layout) body records start inputs s → Spells layout body records s
-spells_of {start = start} {inputs} comes = record { start = start; inputs = inputs; start_is = comes.start_is; inputs_are = comes.inputs_are; servable = comes.servable; run = comes.run }
+use Rattle.um_keeper.specs.Keeping.{Keeps, IsBegun, has_bytes, log_generation}
+use Rattle.um_keeper.specs.Underway.{Spells, Begins, IsAside, IsUnderway}
+use Rattle.um_keeper.proofs.Aside.{comes_of, spells_of, spells_behind, next_generation, own_generation, written_apart, before_same, aside_at}
+use Rattle.um_keeper.proofs.Going.{records_same, part_some, part_ahead}
+use Rattle.um_keeper.proofs.Kept.{longer, begun_longer, unpacked, packed}
 
 -- all of the inputs are a beginning of them
 begins_all : {layout : Layout} {s : State} {taken : List Input} {body : List ℕ} {records : List (List ℕ)} {t : State} → Run (body_limit layout) s taken t → Spells layout body records t
@@ -54,13 +42,14 @@ begins_longer {layout} {s} {taken} more begins =
     let (n, is) = longer taken more begins.count in
     record { count = n; state = begins.state; run = subst (λ (l : List Input). Run (body_limit layout) s l begins.state) (sym is) begins.run; spells = begins.spells }
 
--- ---- at the beginning, and behind a snapshot
+-- ---- where all is synced
 
 -- the log is ahead by nothing
-nothing_behind : {layout : Layout} {s : State} {taken : List Input} {past : Past} {slot : Slot} {newest generation number next : ℕ} {body : List ℕ} {records : List (List ℕ)} {state : State} (unsynced : Bool)
-    → IsImage past (seen past) → GoesOn layout past slot newest body records generation number next → Spells layout body records state → Run (body_limit layout) s taken state
-    → IsUnderway layout s taken past slot newest generation number next unsynced state
-nothing_behind {layout} {s} {taken} {body = body} {records} {state} unsynced here whole spells run =
+nothing_behind : {layout : Layout} {s : State} {taken : List Input} {past : Past} {slot : Slot} {newest : ℕ} {kept : List ℕ} {written generation number next : ℕ} {body : List ℕ}
+    {records : List (List ℕ)} {state : State} (unsynced : Bool) → IsImage past (seen past) → GoesOn layout past slot newest body records generation number next → Spells layout body records state
+    → Run (body_limit layout) s taken state → generation ≡ log_generation newest kept → (has_bytes kept ≡ true → IsAside layout (seen past) newest body kept)
+    → IsWritten layout (seen past) (other slot) kept written → IsUnderway layout s taken past slot newest kept written generation number next unsynced state
+nothing_behind {layout} {s} {taken} {body = body} {records} {state} unsynced here whole spells run same aside beside =
     let none : (n : ℕ) → records ≡ records ++ take n [] = λ n. sym (ap (λ (l : List (List ℕ)). records ++ l) (take_all n [] (omega arith)) ∙ append-nil records) in
     record {
       body = body;
@@ -71,14 +60,19 @@ nothing_behind {layout} {s} {taken} {body = body} {records} {state} unsynced her
       all = subst (λ (l : List (List ℕ)). Spells layout body l state) (sym (append-nil records)) spells;
       ends = run;
       synced = λ _. refl;
+      same = same;
+      aside = aside;
+      written_is = beside;
     }
 
-pub underway_kept : {past : Past} {sectors : ℕ} {layout : Layout} {slot : Slot} {newest generation number next : ℕ} {s : State} (unsynced : Bool) → IsImage past (seen past)
-    → Keeps past sectors layout slot newest generation number next s → IsUnderway layout s [] past slot newest generation number next unsynced s
-underway_kept unsynced here k = nothing_behind unsynced here (unpacked k).goes_on (spells_of (unpacked k).comes) rests
+pub underway_kept : {past : Past} {sectors : ℕ} {layout : Layout} {slot : Slot} {newest : ℕ} {kept : List ℕ} {written generation number next : ℕ} {s : State} (unsynced : Bool) → IsImage past (seen past)
+    → Keeps past sectors layout slot newest kept written generation number next s → IsUnderway layout s [] past slot newest kept written generation number next unsynced s
+underway_kept unsynced here k =
+    let u = unpacked here k in
+    nothing_behind unsynced here u.goes_on (spells_of u.comes) rests k.same u.aside k.written_is
 
-module _ {layout : Layout} {s : State} {taken : List Input} {past : Past} {slot : Slot} {newest generation number next : ℕ} {unsynced : Bool} {state : State}
-    (under : IsUnderway layout s taken past slot newest generation number next unsynced state) where
+module _ {layout : Layout} {s : State} {taken : List Input} {past : Past} {slot : Slot} {newest : ℕ} {kept : List ℕ} {written generation number next : ℕ} {unsynced : Bool} {state : State}
+    (under : IsUnderway layout s taken past slot newest kept written generation number next unsynced state) where
   -- ---- what a crash leaves
 
   some_begun : (image : Image) → HasSome layout slot newest under.body under.records under.more image → IsBegun layout s taken image
@@ -96,9 +90,14 @@ module _ {layout : Layout} {s : State} {taken : List Input} {past : Past} {slot 
   pub during_begun : {new : Past} → During past new (HasSome layout slot newest under.body under.records under.more) → During past new (IsBegun layout s taken)
   during_begun {new} run = weaker past new _ _ some_begun run
 
+  -- all records that count, as a read gives them
+  all_seen : all_records current layout newest (seen past) ≡ under.records ++ under.more
+  all_seen = records_told under.ahead.store
+
   -- ---- an input without a record
 
-  pub underway_longer : (more : List Input) → Run (body_limit layout) s (taken ++ more) state → IsUnderway layout s (taken ++ more) past slot newest generation number next unsynced state
+  pub underway_longer : (more : List Input) → Run (body_limit layout) s (taken ++ more) state
+      → IsUnderway layout s (taken ++ more) past slot newest kept written generation number next unsynced state
   underway_longer more run = record {
     body = under.body;
     records = under.records;
@@ -108,11 +107,14 @@ module _ {layout : Layout} {s : State} {taken : List Input} {past : Past} {slot 
     all = under.all;
     ends = run;
     synced = under.synced;
+    same = under.same;
+    aside = under.aside;
+    written_is = under.written_is;
   }
 
   -- one that is refused, or has no effect
   pub underway_stayed : {input : Input} {reply : Reply} {actions : List Action} → Step (body_limit layout) state input reply actions state
-      → IsUnderway layout s (taken ++ input ∷ []) past slot newest generation number next unsynced state
+      → IsUnderway layout s (taken ++ input ∷ []) past slot newest kept written generation number next unsynced state
   underway_stayed {input} step = underway_longer (input ∷ []) (run_step under.ends step)
 
   -- ---- an input with its record
@@ -141,22 +143,67 @@ module _ {layout : Layout} {s : State} {taken : List Input} {past : Past} {slot 
         run
 
     -- and behind it
-    pub underway_recorded : {new : Past} {l : Layout} {g later further : ℕ} → l ≡ layout → GoesOnAhead l new slot newest under.body under.records more g later further
-        → IsUnderway l s (taken ++ input ∷ []) new slot newest g later further true t
-    underway_recorded {new} {l} {g} {later} {further} same =
-        subst (λ (z : Layout). GoesOnAhead z new slot newest under.body under.records more g later further → IsUnderway z s (taken ++ input ∷ []) new slot newest g later further true t) (sym same)
-        (λ ahead. record {
+    pub underway_recorded : {new : Past} {l : Layout} {g later further : ℕ} → l ≡ layout → g ≡ generation → written < layout.slot_sectors → (parts : ℕ) → next + parts ≤ log_end layout generation
+        → ((j : ℕ) → (j < next) ⊎ (next + parts ≤ j) → seen new j ≡ seen past j) → GoesOnAhead l new slot newest under.body under.records more g later further
+        → IsUnderway l s (taken ++ input ∷ []) new slot newest kept written g later further true t
+    underway_recorded {new} {l} {g} {later} {further} on of room parts fits read ahead =
+        let low : log_start layout generation ≤ next = omega (arith, under.ahead.end.place) in
+        let within = area_within current layout generation in
+        let before : has_bytes kept ≡ true → records_of current layout newest (seen new) ≡ records_of current layout newest (seen past) =
+        λ sure. before_same layout newest generation (seen past) (seen new) (next_generation newest generation kept under.same sure)
+        (λ j from out. read j (⊎_elim {C = (j < next) ⊎ (next + parts ≤ j)} (λ b. inl (omega (arith, b, low))) (λ a. inr (omega (arith, a, fits))) out)) in
+        subst (λ (z : Layout). IsUnderway z s (taken ++ input ∷ []) new slot newest kept written g later further true t) (sym on)
+        (subst (λ n. IsUnderway layout s (taken ++ input ∷ []) new slot newest kept written n later further true t) (sym of)
+        (record {
           body = under.body;
           records = under.records;
           more = more;
-          ahead = ahead;
+          ahead = subst (λ n. GoesOnAhead layout new slot newest under.body under.records more n later further) of
+              (subst (λ (z : Layout). GoesOnAhead z new slot newest under.body under.records more g later further) on ahead);
           begins = begins_more;
           all = all_more;
           ends = run_step under.ends step;
           synced = λ e. absurd (true≢false e);
-        })
+          same = under.same;
+          aside = λ sure. aside_at (before sure) (under.aside sure);
+          written_is = written_apart layout (seen past) (seen new) (other slot) kept written room (λ j below. read j (inl (omega (arith, below, low, within.0)))) under.written_is;
+        }))
 
-  -- ---- a snapshot
+  -- ---- behind a sync
+
+  pub underway_settled : {new : Past} → IsImage new (seen new) → GoesOn layout new slot newest under.body (under.records ++ under.more) generation number next → seen new ≡ seen past
+      → IsUnderway layout s taken new slot newest kept written generation number next false state
+  underway_settled {new} here whole read = nothing_behind false here whole under.all under.ends under.same
+      (λ sure. subst (λ (i : Image). IsAside layout i newest under.body kept) (sym read) (under.aside sure))
+      (subst (λ (i : Image). IsWritten layout i (other slot) kept written) (sym read) under.written_is)
+
+  -- where nothing was to be synced
+  pub underway_clean : unsynced ≡ false → IsUnderway layout s taken past slot newest kept written generation number next false state
+  underway_clean is = subst (λ u. IsUnderway layout s taken past slot newest kept written generation number next u state) is under
+
+  -- ---- a part of a snapshot
+
+  pub part_begun : {new : Past} → IsImage past (seen past) → During past new (IsBeside layout past slot) → During past new (IsBegun layout s taken)
+  part_begun here run = during_begun (part_some here under.ahead run)
+
+  pub underway_beside : {new : Past} (end : ℕ) → IsImage past (seen past) → During past new (IsBeside layout past slot)
+      → ((j : ℕ) → (j ≤ slot_start layout (other slot)) ⊎ (slot_start layout (other slot) + layout.slot_sectors ≤ j) → seen new j ≡ seen past j)
+      → IsWritten layout (seen new) (other slot) kept end → IsUnderway layout s taken new slot newest kept end generation number next unsynced state
+  underway_beside {new} end here run same beside = record {
+    body = under.body;
+    records = under.records;
+    more = under.more;
+    ahead = part_ahead here under.ahead run same;
+    begins = under.begins;
+    all = under.all;
+    ends = under.ends;
+    synced = under.synced;
+    same = under.same;
+    aside = λ sure. aside_at (records_same layout newest (seen past) (seen new) (λ j low. same j (inr (behind_slot layout (other slot) j low)))) (under.aside sure);
+    written_is = beside;
+  }
+
+  -- ---- the end of a snapshot
 
   -- each image is that of a store with the newest snapshot, as the slots need it
   pub each_has : Images past (HasStore layout slot newest under.body)
@@ -164,56 +211,94 @@ module _ {layout : Layout} {s : State} {taken : List Input} {past : Past} {slot 
       let has = (under.ahead.images image is).some in
       subst (IsStore current layout image slot newest under.body) (sym (records_told has.store)) has.store
 
-  module _ (fits : FitState state) (may : IsServable (body_limit layout) state) where
-    renewed : Spells layout (state_spelling state) [] state
-    renewed = spells_of (comes_anew (state_back state fits) may)
+  module _ (sure : has_bytes kept ≡ true) where
+    on_next : generation ≡ newest + 1
+    on_next = next_generation newest generation kept under.same sure
 
-    -- while it is written
-    either_begun : newest + 1 < 2 ^ 64 → (image : Image) → EitherSnapshot layout past slot newest under.body (state_spelling state) image → IsBegun layout s taken image
-    either_begun early image (inl was) =
+    -- the snapshot and the records of its generation come to the state
+    behind_it : Spells layout kept (all_records current layout (newest + 1) (seen past)) state
+    behind_it =
+        let all : Spells layout under.body (all_records current layout newest (seen past)) state = subst (λ (l : List (List ℕ)). Spells layout under.body l state) (sym all_seen) under.all in
+        subst (λ (l : List (List ℕ)). Spells layout kept l state)
+        (sym (own_records current layout (newest + 1) (seen past) (subst (λ n. IsNoneAbove layout (seen past) n) on_next under.ahead.above)))
+        (spells_behind (records_of current layout (newest + 1) (seen past)) all (under.aside sure))
+
+    -- while it is brought to count
+    either_begun : (image : Image) → EitherSnapshot layout past slot newest under.body kept image → IsBegun layout s taken image
+    either_begun image (inl was) =
         let has = (under.ahead.images was.from was.was).some in
         some_begun image (record { count = has.count; within = has.within; store = subst (IsStore current layout image slot newest under.body) (records_told has.store) was.store })
-    either_begun early image (inr new) =
-        let b = begins_all under.ends renewed in
-        record { count = b.count; state = b.state; run = b.run; store = store_of (subst (IsStore current layout image (other slot) (newest + 1) (state_spelling state)) none_new new) (comes_of b.spells) }
-      where
-        none_new : all_records current layout (newest + 1) (seen past) ≡ []
-        none_new = none_counts current layout (newest + 1) newest (seen past) (top_fits current (newest + 1) early) (omega arith) under.ahead.store.none_later
+    either_begun image (inr new) =
+        let b = begins_all under.ends behind_it in
+        record { count = b.count; state = b.state; run = b.run; store = store_of new (comes_of b.spells) }
 
-    pub snapshot_begun : {new : Past} {body : List ℕ} → newest + 1 < 2 ^ 64 → body ≡ state_spelling state
-        → During past new (EitherSnapshot layout past slot newest under.body body) → During past new (IsBegun layout s taken)
-    snapshot_begun {new} {body} early is run = weaker past new _ _ (either_begun early) (subst (λ b. During past new (EitherSnapshot layout past slot newest under.body b)) is run)
+    pub snapshot_begun : {new : Past} → During past new (EitherSnapshot layout past slot newest under.body kept) → During past new (IsBegun layout s taken)
+    snapshot_begun {new} run = weaker past new _ _ either_begun run
+
+    -- where the log goes on behind it
+    pub next_end : {after : ℕ} → after ≡ newest + 1 → IsLogEnd layout after (seen past) (records_of current layout after (seen past)) number next
+    next_end is = subst (λ n. IsLogEnd layout n (seen past) (records_of current layout n (seen past)) number next) (on_next ∙ sym is) under.ahead.end
 
     -- and behind it
-    pub underway_renewed : {new : Past} {to : Slot} {l : Layout} {after of g number' next' : ℕ} {body : List ℕ} {start : ℕ} → IsImage new (seen new) → l ≡ layout → g ≡ of → number' ≡ 0 → next' ≡ start
-        → body ≡ state_spelling state → GoesOn layout new to after body [] of 0 start → IsUnderway l s taken new to after g number' next' false state
-    underway_renewed {new} {to} {l} {after} {of} {g} {number'} {next'} {body} {start} here on_layout on none first is whole =
-        subst (λ (z : Layout). IsUnderway z s taken new to after g number' next' false state) (sym on_layout)
-        (subst (λ n. IsUnderway layout s taken new to after n number' next' false state) (sym on)
-        (subst (λ n. IsUnderway layout s taken new to after of n next' false state) (sym none)
-        (subst (λ n. IsUnderway layout s taken new to after of 0 n false state) (sym first)
-        (nothing_behind false here (subst (λ b. GoesOn layout new to after b [] of 0 start) is whole) renewed under.ends))))
+    pub underway_finished : {new : Past} {to : Slot} {after : ℕ} {cleared : List ℕ} {nothing : ℕ} → IsImage new (seen new) → to ≡ other slot → after ≡ newest + 1 → cleared ≡ [] → nothing ≡ 0
+        → GoesOn layout new to after kept (all_records current layout after (seen past)) after number next
+        → IsUnderway layout s taken new to after cleared nothing generation number next unsynced state
+    underway_finished {new} {to} {after} {cleared} {nothing} here at is none zero_is whole =
+        subst (λ (c : List ℕ). IsUnderway layout s taken new to after c nothing generation number next unsynced state) (sym none)
+        (subst (λ n. IsUnderway layout s taken new to after [] nothing n number next unsynced state) (is ∙ sym on_next)
+        (nothing_behind unsynced here whole (subst (λ n. Spells layout kept (all_records current layout n (seen past)) state) (sym is) behind_it) under.ends (omega arith)
+        (λ e. absurd (false≢true e)) (λ i below. absurd (omega (arith, below, zero_is)))))
 
-    -- with what is told then of what stands there
-    pub told_renewed : {new : Past} {to : Slot} {after of start : ℕ} {body : List ℕ} → body ≡ state_spelling state → GoesOn layout new to after body [] of 0 start
-        → Images new (λ image. contents_of current layout image ≡ Some (contents to after state []))
-    told_renewed {new} {to} {after} {of} {start} is whole image at =
-        contents_are ((subst (λ b. GoesOn layout new to after b [] of 0 start) is whole).store image at) (state_back state fits) refl
+  -- ---- a snapshot begins
 
-  -- ---- at the end
+  module _ (clean : unsynced ≡ false) where
+    none_more : under.more ≡ []
+    none_more = under.synced clean
 
-  -- behind the sync each image is a store of the state
-  pub kept_synced : {new : Past} {sectors : ℕ} → IsImage new (seen new) → store_sectors layout ≤ sectors
-      → GoesOn layout new slot newest under.body (under.records ++ under.more) generation number next → Keeps new sectors layout slot newest generation number next state
-  kept_synced here on_disk whole = packed here whole (comes_of under.all) on_disk
+    whole_again : GoesOn layout past slot newest under.body (under.records ++ []) generation number next
+    whole_again = subst (λ (l : List (List ℕ)). GoesOn layout past slot newest under.body l generation number next) (sym (append-nil under.records))
+        (nothing_ahead (subst (λ (l : List (List ℕ)). GoesOnAhead layout past slot newest under.body under.records l generation number next) none_more under.ahead))
 
-  -- and so it is where nothing was to be synced
-  pub kept_unsynced : {sectors : ℕ} → IsImage past (seen past) → store_sectors layout ≤ sectors → unsynced ≡ false → Keeps past sectors layout slot newest generation number next state
-  kept_unsynced here on_disk clean =
-      let none = under.synced clean in
-      let all : under.records ≡ under.records ++ under.more = sym (ap (λ (l : List (List ℕ)). under.records ++ l) none ∙ append-nil under.records) in
-      kept_synced here on_disk (subst (λ (l : List (List ℕ)). GoesOn layout past slot newest under.body l generation number next) all
-      (nothing_ahead (subst (λ (l : List (List ℕ)). GoesOnAhead layout past slot newest under.body under.records l generation number next) none under.ahead)))
+    all_again : Spells layout under.body (under.records ++ []) state
+    all_again = subst (λ (l : List (List ℕ)). Spells layout under.body (under.records ++ l) state) none_more under.all
+
+    -- nothing is written, and records go on as the next generation
+    pub underway_anew : {l : Layout} {bytes : List ℕ} {nothing g later further : ℕ} → IsImage past (seen past) → l ≡ layout → nothing ≡ 0 → has_bytes kept ≡ false → has_bytes bytes ≡ true → nothing_left (state_at bytes) ≡ Some state
+        → IsServable (body_limit layout) state → g ≡ generation + 1 → later ≡ 0 → further ≡ log_start layout (generation + 1)
+        → IsUnderway l s taken past slot newest bytes nothing g later further unsynced state
+    underway_anew {l} {bytes} {nothing} {g} {later} {further} here on at_first idle some spelled may is zero_is from =
+        let start : further ≡ log_start layout g = from ∙ ap (log_start layout) (sym is) in
+        let own = own_generation newest generation kept under.same idle in
+        let last : (image : Image) → IsNoneAbove layout image generation → IsLogEnd layout g image (records_of current layout g image) later further =
+        λ image none. subst (λ n. IsLogEnd layout g image (records_of current layout g image) n further) (sym zero_is)
+        (subst (λ n. IsLogEnd layout g image (records_of current layout g image) 0 n) (sym start) (log_anew layout g generation image (omega (arith, is)) none)) in
+        let whole : GoesOn layout past slot newest under.body (under.records ++ []) g later further = record {
+          counts = inr (omega (arith, is, own));
+          store = whole_again.store;
+          above = λ image at. above_later layout (omega (arith, is)) (whole_again.above image at);
+          end = λ image at. last image (whole_again.above image at);
+        } in
+        let of_own : all_records current layout newest (seen past) ≡ records_of current layout newest (seen past) =
+        own_records current layout newest (seen past) (subst (λ n. IsNoneAbove layout (seen past) n) own under.ahead.above) in
+        subst (λ (z : Layout). IsUnderway z s taken past slot newest bytes nothing g later further unsynced state) (sym on)
+        (nothing_behind unsynced here whole all_again under.ends (is ∙ ap (λ (n : ℕ). n + 1) own ∙ sym (one_more some))
+        (λ _. record {
+          state = state;
+          spells = subst (λ (l : List (List ℕ)). Spells layout under.body l state) (sym all_seen ∙ of_own) under.all;
+          kept_is = spelled;
+          may = may;
+        })
+        (λ i below. absurd (omega (arith, below, at_first))))
+      where
+        one_more : has_bytes bytes ≡ true → log_generation newest bytes ≡ newest + 1
+        one_more e = ap (λ (b : Bool). newest + (if b then 1 else 0)) e
+
+    -- ---- at the end
+
+    -- each image is a store of the state
+    pub kept_clean : {sectors : ℕ} → IsImage past (seen past) → store_sectors layout ≤ sectors
+        → Keeps past sectors layout slot newest kept written generation number next state
+    kept_clean here on_disk = packed here under.same whole_again (comes_of all_again) on_disk under.aside under.written_is
 
 -- ---- of no input
 
@@ -226,24 +311,6 @@ none_taken {layout} {s} image b =
 pub taken_none : {old new : Past} {layout : Layout} {s : State} → During old new (IsBegun layout s []) → During old new (λ image. IsStoreOf layout image s)
 taken_none {old} {new} run = weaker old new _ _ none_taken run
 
--- and behind calls that sync all a keeper holds its state
-pub kept_on : {old new : Past} {sectors more : ℕ} {layout : Layout} {slot : Slot} {newest generation number next : ℕ} {s : State} (a : Ahead) → IsImage new (seen new)
-    → Keeps old sectors layout slot newest generation number next s → more ≡ sectors → a.log.layout ≡ layout → UnderwayIn s [] new a s → a.unsynced ≡ false → KeptIn new more a s
-kept_on {new = new} {sectors = sectors} {more} {s = s} a is k same on_layout under clean =
-    kept_unsynced under is (subst (λ n. store_sectors a.log.layout ≤ n) (sym same) (subst (λ (l : Layout). store_sectors l ≤ sectors) (sym on_layout) k.on_disk)) clean
-
--- ---- what the calls need
-
--- a state that may be held may be held by a store of the layout
-pub may_hold : {layout : Layout} {size : ℕ} {s : State} → MayHold layout size s → IsServable (body_limit layout) s
-may_hold {s = s} held = subst (λ n. IsServable n s) held.size_is held.servable
-
--- a step over a store of the layout
-pub step_on : {layout : Layout} {size : ℕ} {s t u : State} {input : Input} {reply : Reply} {actions : List Action} → MayHold layout size s → Step size s input reply actions u → u ≡ t
-    → Step (body_limit layout) s input reply actions t
-step_on {layout} {size} {s} {u = u} {input = input} {reply} {actions} held step is =
-    subst (λ (z : State). Step (body_limit layout) s input reply actions z) is (subst (λ n. Step n s input reply actions u) held.size_is step)
-
 -- one of two, of the same layout
 pub then_begun : {old mid new : Past} {layout l : Layout} {s : State} {taken : List Input} (more : List Input) → l ≡ layout → During old mid (IsBegun layout s taken) → During mid new (IsBegun l s (taken ++ more))
     → During old new (IsBegun layout s (taken ++ more))
@@ -254,30 +321,31 @@ pub then_settled : {old mid new : Past} {layout l : Layout} {s : State} {taken :
     → During old new (IsBegun layout s taken)
 then_settled {old} {mid} {new} {layout} {l} {s} {taken} same first second = followed old mid new _ first (subst (λ (z : Layout). During mid new (IsBegun z s taken)) same second)
 
--- a refusal that is a step's, or turns the input away
-pub underway_refused : {layout : Layout} {s : State} {taken : List Input} {past : Past} {slot : Slot} {newest generation number next : ℕ} {unsynced : Bool} {state : State} {input : Input} (e : declared.Refusal)
-    → IsUnderway layout s taken past slot newest generation number next unsynced state → ((is_turned_away e ≡ true) ⊎ ((r : Refused) × Step (body_limit layout) state input (Refusal r) [] state))
-    → IsUnderway layout s (taken ++ where_step (Err e) input) past slot newest generation number next unsynced state
-underway_refused {layout} {s} {taken} {past} {slot} {newest} {generation} {number} {next} {unsynced} {state} {input} e under told = by (is_turned_away e) refl told
+-- ---- a keeper whose log has no record, and no snapshot under way
+
+pub told_anew : {past : Past} {sectors : ℕ} {layout l : Layout} {slot : Slot} {newest : ℕ} {kept : List ℕ} {written generation number next : ℕ} {s : State} → IsImage past (seen past)
+    → Keeps past sectors l slot newest kept written generation number next s → l ≡ layout → has_bytes kept ≡ false → number ≡ 0
+    → Images past (λ image. contents_of current layout image ≡ Some (contents slot newest s []))
+told_anew {past} {sectors} {layout} {l} {slot} {newest} {kept} {written} {generation} {number} {next} {s} here k on idle zero_is image at =
+    subst (λ (z : Layout). contents_of current z image ≡ Some (contents slot newest s [])) on
+    (contents_are ((unpacked here k).goes_on.store image at) ((unpacked here k).comes.start_is ∙ ap (λ (x : State). Some x) (sym started_at)) (ap (λ (l : List (List ℕ)). inputs_of l) none))
   where
-    turned : is_turned_away e ≡ true → IsUnderway layout s (taken ++ where_step (Err e) input) past slot newest generation number next unsynced state
-    turned is = subst (λ away. IsUnderway layout s (taken ++ (if away then [] else input ∷ [])) past slot newest generation number next unsynced state) (sym is) (subst (λ l. IsUnderway layout s l past slot newest generation number next unsynced state) (sym (append-nil taken)) under)
+    own : generation ≡ newest
+    own = own_generation newest generation kept k.same idle
 
-    by : (away : Bool) → is_turned_away e ≡ away → ((is_turned_away e ≡ true) ⊎ ((r : Refused) × Step (body_limit layout) state input (Refusal r) [] state)) → IsUnderway layout s (taken ++ where_step (Err e) input) past slot newest generation number next unsynced state
-    by true is cause = turned is
-    by false is (inl other) = turned other
-    by false is (inr step) = subst (λ away. IsUnderway layout s (taken ++ (if away then [] else input ∷ [])) past slot newest generation number next unsynced state) (sym is) (underway_stayed under step.1)
+    none : all_records current l newest (seen past) ≡ []
+    none = own_records current l newest (seen past) (subst (λ n. IsNoneAbove l (seen past) n) own (k.above (seen past) here))
+        ∙ ap (λ n. records_of current l n (seen past)) (sym own) ∙ empty (records_of current l generation (seen past)) (sym k.count ∙ zero_is)
+      where
+        empty : (xs : List (List ℕ)) → length xs ≡ 0 → xs ≡ []
+        empty [] e = refl
+        empty (x ∷ xs) e = absurd (omega (arith, e))
 
--- the cause of a refusal that isn't the disk's
-pub cause_of : (layout : Layout) {size : ℕ} {state : State} {input : Input} {e : declared.Refusal} → size ≡ body_limit layout → ¬ (e ≡ Device)
-    → IsLost e ⊎ (e ≡ GenerationsSpent) ⊎ ((is_of_store e ≡ false) × Step size state input (Refusal (refused_of e)) [] state)
-    → (is_turned_away e ≡ true) ⊎ ((r : Refused) × Step (body_limit layout) state input (Refusal r) [] state)
-cause_of layout same other (inl (inl memory)) = inl (ap is_turned_away memory)
-cause_of layout same other (inl (inr device)) = absurd (other device)
-cause_of layout same other (inr (inl spent)) = inl (ap is_turned_away spent)
-cause_of layout {state = state} {input = input} {e = e} same other (inr (inr told)) = inr (refused_of e, subst (λ n. Step n state input (Refusal (refused_of e)) [] state) same told.1)
+    no_inputs : (unpacked here k).inputs ≡ []
+    no_inputs = same (sym (unpacked here k).comes.inputs_are ∙ ap (λ (l : List (List ℕ)). inputs_of l) none)
+      where
+        same : {xs : List Input} → Some xs ≡ Some [] → xs ≡ []
+        same e = cc
 
--- a count of calls with what is owed
-pub owed_most : (b : Bool) → owed b ≤ 1
-owed_most true = omega arith
-owed_most false = omega arith
+    started_at : s ≡ (unpacked here k).start
+    started_at = only_end rests s (subst (λ (xs : List Input). Run (body_limit l) (unpacked here k).start xs s) no_inputs (unpacked here k).comes.run)

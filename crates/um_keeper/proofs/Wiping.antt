@@ -116,7 +116,7 @@ empty_room layout = spelled_room (body_limit layout) empty_state (empty_fit prof
 module _ (layout : Layout) (mid : Image) (newest : IsNewest layout mid A 1 (state_spelling empty_state)) (none : IsNoneAbove layout mid 0) where
   makes : (image : Image) → image 0 ≡ superblock current layout → ((j : ℕ) → 1 ≤ j → image j ≡ mid j) → IsEmptyStore layout image
   makes image first same =
-      let store = made_store newest (omega arith) (omega arith) none same first in
+      let store = made_store newest (omega arith) none same first in
       record { store = empty_store store; holds = contents_are store empty_back refl }
 
   pub made : (image : Image) → IsLaid mid 0 (superblock current layout ∷ []) image → IsEmptyStore layout image

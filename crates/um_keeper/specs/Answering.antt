@@ -124,7 +124,7 @@ pub record NeedsRecord (size : ℕ) (s : State) (input : Input) : Type 0 where
   pub effect : ¬ IsIdle s input
 
 -- Where a call on the disk failed, behind inputs that were judged, for those that are left: none is, and it failed at the sync of what was recorded; or it
--- failed at the first of them, at its record or the checkpoint before that.
+-- failed at the first of them, at its record or at what comes before that where it has no room.
 pub data FailsAt (size : ℕ) (s : State) (judged : List Input) (meant : List Answer) (u : State) : List Input → Type 0 where
   at_sync : ¬ HaveNoRecord s judged meant → FailsAt size s judged meant u []
   at_record : {input : Input} {behind : List Input} → NeedsRecord size u input → FailsAt size s judged meant u (input ∷ behind)
@@ -199,8 +199,8 @@ pub data AreSpentAsMeant (layout : Layout) (generation size from : ℕ) (s : Sta
 abbrev pub most_snapshot_calls : Layout → ℕ
 most_snapshot_calls layout = sector_count (body_limit layout) + 3
 
--- What a list takes of the disk that was answered without a fault: the sectors of its records, a sync, and a snapshot for each generation by which the log
--- rose, from a generation to another one. It doesn't rise where the records have room in it from this sector on.
+-- What a list takes of the disk that was answered without a fault: the sectors of its records, a sync, and a snapshot and a sync for each generation by which
+-- the log rose, from a generation to another one. It doesn't rise where the records have room in it from this sector on.
 pub record TakesCalls (layout : Layout) (next generation risen before now : ℕ) (size : ℕ) (s : State) (inputs : List Input) (answers : List Answer) (t : State)
     : Type 0 where
   pub sectors : ℕ
@@ -208,7 +208,14 @@ pub record TakesCalls (layout : Layout) (next generation risen before now : ℕ)
   pub rises : ℕ
   pub risen_by : risen ≡ generation + rises
   pub stays : next + sectors ≤ log_end layout generation → rises ≡ 0
-  pub few : now ≤ before + sectors + 1 + rises * most_snapshot_calls layout
+  pub few : now ≤ before + sectors + 1 + rises * (most_snapshot_calls layout + 1)
+
+-- What a list takes of the disk that was answered without a fault, and begins one snapshot at most where none was under way: the sectors of its records, a
+-- sync before the snapshot, and one behind them all. It writes none of the snapshot.
+pub record BeginsOne (before now : ℕ) (size : ℕ) (s : State) (inputs : List Input) (answers : List Answer) (t : State) : Type 0 where
+  pub sectors : ℕ
+  pub recorded : Recorded size s inputs answers sectors t
+  pub few : now ≤ before + sectors + 2
 
 -- the standing before the steps that these ways lead back from, the last one first
 abbrev pub state_before_all : List Back → Standing → Standing

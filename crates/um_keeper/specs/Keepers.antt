@@ -1,11 +1,11 @@
 -- What clauses say of a keeper: its disk, the layout of its store, where it stands on the disk, and its state.
 -- No manual page has it: it is the project's own.
 -- The keeper's calls stand on this file.
-use Rattle.std.specs.Prelude.{◌≡◌, ◌≢◌, ◌≤◌, ◌-◌, ◌^◌, ℕ, Bool}
+use Rattle.std.specs.Prelude.{◌≡◌, ◌≢◌, ◌≤◌, ◌-◌, ◌^◌, ℕ, Bool, if◌then◌else◌}
 use Rattle.um_model.specs.Machine.{State, Refusal, Step}
 use Rattle.um_model.specs.Refusals.{Refused}
 use Rattle.um_model.specs.Standing.{Standing}
-use Rattle.um_model.specs.Store.{log_start}
+use Rattle.um_model.specs.Store.{other, log_start}
 use Rattle.um_model.specs.declared.layout.Layout.{Layout}
 use Rattle.um_model.specs.declared.layout.Slot.{Slot}
 use Rattle.um_engine.specs.Engine as engine
@@ -13,6 +13,7 @@ use Rattle.um_engine.specs.declared.engine.Next.{Next}
 use Rattle.um_log.specs.Reading.{Fits}
 use Rattle.um_state.specs.View.{input_of}
 use Rattle.um_state.specs.declared.input.Input.{Input}
+use Rattle.um_keeper.specs.Keeping.{has_bytes, left_of, finish_calls}
 use Rattle.um_keeper.specs.declared.keeper.Keeper.{Keeper}
 use Rattle.um_keeper.specs.declared.keeper.OpenedStore.{OpenedStore}
 
@@ -31,25 +32,37 @@ abbrev pub size_in : {D : Type 0} {g : _} → Keeper D g → ℕ
 size_in k = engine.size_in k.engine
 
 abbrev pub layout_in : {D : Type 0} {g : _} → Keeper D g → Layout
-layout_in k = k.log.layout
+layout_in k = k.ahead.log.layout
 
 -- where the newest snapshot stands
 abbrev pub slot_in : {D : Type 0} {g : _} → Keeper D g → Slot
-slot_in k = k.home.slot
+slot_in k = k.ahead.home.slot
 
 abbrev pub generation_in : {D : Type 0} {g : _} → Keeper D g → ℕ
-generation_in k = k.home.generation
+generation_in k = k.ahead.home.generation
 
 -- the generation of which its log takes records
 abbrev pub log_generation_in : {D : Type 0} {g : _} → Keeper D g → ℕ
-log_generation_in k = k.log.generation
+log_generation_in k = k.ahead.log.generation
 
 -- the number and the first sector of the next record
 abbrev pub number_in : {D : Type 0} {g : _} → Keeper D g → ℕ
-number_in k = k.log.number
+number_in k = k.ahead.log.number
 
 abbrev pub next_in : {D : Type 0} {g : _} → Keeper D g → ℕ
-next_in k = k.log.next
+next_in k = k.ahead.log.next
+
+-- so many sectors of the body of the snapshot under way are left, 0 exactly without one
+abbrev pub left_in : {D : Type 0} {g : _} → Keeper D g → ℕ
+left_in k = left_of k.ahead.aside.body.items k.ahead.aside.written
+
+-- so many calls finish it
+abbrev pub finish_calls_in : {D : Type 0} {g : _} → Keeper D g → ℕ
+finish_calls_in k = finish_calls k.ahead.aside.body.items k.ahead.aside.written
+
+-- the slot that a checkpoint's snapshot goes into: the one beside the newest, or with one under way the newest's own
+abbrev pub slot_behind : {D : Type 0} {g : _} → Keeper D g → Slot
+slot_behind k = if has_bytes k.ahead.aside.body.items then k.ahead.home.slot else other k.ahead.home.slot
 
 -- an earlier call failed on its disk
 abbrev pub has_failed : {D : Type 0} {g : _} → Keeper D g → Bool

@@ -1,16 +1,39 @@
 -- What a keeper holds of its disk: whichever image a crash leaves, it is a store of the engine's state, and the log goes on at its place.
 -- No manual page has it: it is the project's own format (docs/FORMATS.md, "The store on its disk").
 -- The keeper and its opening stand on this file.
-use Rattle.std.specs.Prelude.{◌≡◌, ◌+◌, ◌≤◌, ℕ, length, true, List, take, Some, is_some}
+use Rattle.std.specs.Prelude.{◌≡◌, ◌+◌, ◌-◌, ◌≤◌, ℕ, length, Bool, true, false, if◌then◌else◌, List, [], ◌∷◌, take, Some, is_some}
+use Rattle.um_model.specs.Bytes.{nothing_left}
 use Rattle.um_model.specs.Disk.{Past, Image, Images, seen}
 use Rattle.um_model.specs.InputSpellings.{input_spelling}
 use Rattle.um_model.specs.Machine.{State, Input, Run}
 use Rattle.um_model.specs.Servable.{IsServable}
-use Rattle.um_model.specs.StateSpellings.{FitState, state_spelling}
-use Rattle.um_model.specs.Stands.{Contents, contents_of, IsStoreOf}
-use Rattle.um_model.specs.Store.{current, superblock, body_limit, log_start, log_end, store_sectors, newest_of, records_of, sectors_of, sector_count, part_count, IsNoneAbove, IsFree}
+use Rattle.um_model.specs.StateSpellings.{FitState, state_spelling, state_at}
+use Rattle.um_model.specs.Stands.{Contents, contents_of, inputs_of, IsStoreOf}
+use Rattle.um_model.specs.Store.{current, other, superblock, body_limit, log_start, log_end, store_sectors, Newest, newest_of, records_of, sectors_of, sector_count, part_count, IsNoneAbove, IsFree}
 use Rattle.um_model.specs.declared.layout.Layout.{Layout}
 use Rattle.um_model.specs.declared.layout.Slot.{Slot}
+use Rattle.um_slot.specs.Snapshots.{IsWritten}
+
+-- ---- a snapshot under way
+
+-- there is one where its bytes are kept: no state has none
+abbrev pub has_bytes : List ℕ → Bool
+has_bytes [] = false
+has_bytes (x ∷ kept) = true
+
+-- so many sectors of its body are left, where some were written
+abbrev pub left_of : List ℕ → ℕ → ℕ
+left_of kept written = sector_count (length kept) - written
+
+-- and so many calls finish it: one a sector that is left, a sync, its header, a sync
+abbrev pub finish_calls : List ℕ → ℕ → ℕ
+finish_calls kept written = if has_bytes kept then left_of kept written + 3 else 0
+
+-- records go on as the newest snapshot's generation, with one under way as the next
+abbrev pub log_generation : ℕ → List ℕ → ℕ
+log_generation newest kept = newest + (if has_bytes kept then 1 else 0)
+
+-- ---- what always holds
 
 -- What always holds of a keeper's state: a store of this layout may hold it, and it has bytes, from which it is read again.
 pub record MayHold (layout : Layout) (size : ℕ) (s : State) : Type 0 where
@@ -20,9 +43,10 @@ pub record MayHold (layout : Layout) (size : ℕ) (s : State) : Type 0 where
 
 -- What always holds of the disk of a keeper that hasn't failed, where it does what it answers. It is told by what is read alone, without
 -- saying of any state or input that there is one, so that it is the same fact however it came to hold.
-pub record Keeps (past : Past) (sectors : ℕ) (layout : Layout) (slot : Slot) (newest generation number next : ℕ) (s : State) : Type 0 where
-  -- the log takes records of the newest snapshot's generation
-  pub same : generation ≡ newest
+pub record Keeps (past : Past) (sectors : ℕ) (layout : Layout) (slot : Slot) (newest : ℕ) (kept : List ℕ) (written generation number next : ℕ) (s : State)
+    : Type 0 where
+  -- the log takes records of the newest snapshot's generation, or of the next, with a snapshot under way
+  pub same : generation ≡ log_generation newest kept
   -- each image that a crash may leave is a store of this layout, with what a read gives as its newest snapshot and as the records of both generations
   pub first : Images past (λ image. image 0 ≡ superblock current layout)
   pub newest_is : Images past (λ image. newest_of layout image ≡ newest_of layout (seen past))
@@ -41,6 +65,12 @@ pub record Keeps (past : Past) (sectors : ℕ) (layout : Layout) (slot : Slot) (
   pub place : next ≡ log_start layout generation + sectors_of (records_of current layout generation (seen past))
   pub within : next ≤ log_end layout generation
   pub on_disk : store_sectors layout ≤ sectors
+  -- a snapshot under way is of the state behind the records of the newest one's generation, whatever state that is
+  pub aside : has_bytes kept ≡ true → (n : Newest) → newest_of layout (seen past) ≡ Some n → (start : State) (inputs : List Input)
+      → nothing_left (state_at n.body) ≡ Some start → inputs_of (records_of current layout newest (seen past)) ≡ Some inputs
+      → (t : State) → Run (body_limit layout) start inputs t → (nothing_left (state_at kept) ≡ Some t) × IsServable (body_limit layout) t
+  -- and a read gives so many of its sectors in the other slot
+  pub written_is : IsWritten layout (seen past) (other slot) kept written
 
 -- a store of the state after a beginning of these inputs
 pub record IsBegun (layout : Layout) (s : State) (inputs : List Input) (image : Image) : Type 0 where

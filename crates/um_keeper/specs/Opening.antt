@@ -1,7 +1,7 @@
 -- What opening reads of a disk, and why it isn't taken up.
 -- No manual page has it: it is the project's own format (docs/FORMATS.md, "The store on its disk").
 -- `Keeper::open` stands on this file.
-use Rattle.std.specs.Prelude.{◌≡◌, ◌⊎◌, ◌+◌, ◌-◌, ◌^◌, ◌<◌, ◌≤◌, ℕ, List, [], ◌∷◌, length, take, Option, Some, None}
+use Rattle.std.specs.Prelude.{◌≡◌, ◌⊎◌, ◌+◌, ◌-◌, ◌^◌, ◌<◌, ◌≤◌, ℕ, List, [], ◌∷◌, ◌++◌, length, take, Option, Some, None}
 use Rattle.um_model.specs.Bytes.{nothing_left}
 use Rattle.um_model.specs.Disk.{Image, Past, IsImage, During, seen, after, synced}
 use Rattle.um_model.specs.InputSpellings.{input_at}
@@ -13,15 +13,16 @@ use Rattle.um_model.specs.StateSpellings.{state_at}
 use Rattle.um_model.specs.Store.{store_name, format_name, superblock, slot_start, body_limit, area_start, area_end, store_sectors, top, Newest, newest_of, records_of, all_records, sectors_of, placed}
 use Rattle.um_model.specs.Store as sectors
 use Rattle.um_model.specs.declared.layout.Format.{Format}
-use Rattle.um_model.specs.declared.layout.Format.TheVariants.{One}
+use Rattle.um_model.specs.declared.layout.Format.TheVariants.{One, Two}
 use Rattle.um_model.specs.declared.layout.Layout.{Layout}
 use Rattle.um_model.specs.declared.layout.Slot.{Slot}
 use Rattle.um_wire.specs.declared.refusal.Refusal.{Refusal}
 use Rattle.um_wire.specs.declared.refusal.Refusal.TheVariants.{Damaged, NotFormatted, GenerationsSpent, OtherLayout}
-use Rattle.um_log.specs.Greatest.{IsGreatest}
+use Rattle.um_log.specs.Greatest.{IsGreatestIn, IsGreatest}
 use Rattle.um_log.specs.Uncounted.{Counts, EndsUncounted, EndsLater, StopsAt}
 use Rattle.um_log.specs.declared.remains.Remains.{Remains}
 use Rattle.um_slot.specs.Reading.{IsDamaged}
+use Rattle.um_slot.specs.Snapshots.{HasNewest, WasNewest}
 use Rattle.um_keeper.specs.declared.keeper.OpenedStore.{OpenedStore}
 use Rattle.um_keeper.specs.declared.keeper.Uncounted.{Uncounted}
 
@@ -34,6 +35,9 @@ pub record HasLayout (count : ℕ) (image : Image) (layout : Layout) : Type 0 wh
 -- the records that count beside the newest snapshot, each with its first sector
 abbrev pub all_placed : Format → Layout → ℕ → Image → List (ℕ × List ℕ)
 all_placed One layout newest image = placed (area_start One layout newest) (records_of One layout newest image)
+all_placed Two layout newest image =
+    placed (area_start Two layout newest) (records_of Two layout newest image)
+    ++ placed (area_start Two layout (newest + 1)) (records_of Two layout (newest + 1) image)
 
 -- a body spells a state that a store of this layout may hold
 pub record IsStart (layout : Layout) (body : List ℕ) (s : State) : Type 0 where
@@ -85,19 +89,27 @@ pub record IsTakenUp (count : ℕ) (image : Image) (layout : Layout) (slot : Slo
   pub starts : IsStart layout body start
   pub replays : Replays (body_limit layout) (all_records has.format layout generation image) start s
 
--- What a read gives would be taken up, but the greatest generation that stands there is the last one, so that no next one can be written.
+-- the greatest generation that stands there, or None: those whose records count don't all have eight bytes
+abbrev pub IsLast : Layout → Image → ℕ → Option ℕ → Type 0
+IsLast layout image newest None = 2 ^ 64 - 1 < newest
+IsLast layout image newest (Some greatest) = IsGreatest layout image newest greatest
+
+-- What a read gives would be taken up, but the greatest generation that stands there is the last one, or the next whose records would count is behind that:
+-- so that no next snapshot can be written.
 pub record IsSpent (count : ℕ) (image : Image) : Type 0 where
   pub layout : Layout
   pub slot : Slot
   pub generation : ℕ
   pub state : State
   pub taken : IsTakenUp count image layout slot generation state
-  pub last : IsGreatest layout image (top taken.has.format generation) (2 ^ 64 - 1)
+  pub last : (2 ^ 64 - 1 < top taken.has.format generation) ⊎ IsGreatest layout image (top taken.has.format generation) (2 ^ 64 - 1)
 
--- What a read gives is taken up, and the greatest generation that stands there is that one.
-pub record IsFound (count : ℕ) (image : Image) (layout : Layout) (slot : Slot) (generation greatest : ℕ) (s : State) : Type 0 where
+-- What a read gives is taken up, in that format, and the greatest generation that stands there is that one.
+pub record IsFound (count : ℕ) (image : Image) (format : Format) (layout : Layout) (slot : Slot) (generation : ℕ) (greatest : Option ℕ) (s : State)
+    : Type 0 where
   pub taken : IsTakenUp count image layout slot generation s
-  pub greatest_is : IsGreatest layout image (top taken.has.format generation) greatest
+  pub format_is : taken.has.format ≡ format
+  pub greatest_is : IsLast layout image (top format generation) greatest
 
 -- Why a disk isn't taken up: for a cause of its reading, or by E20.
 pub data IsUntaken (count : ℕ) (image : Image) : Refusal → Type 0 where
@@ -138,11 +150,30 @@ abbrev pub EndsAt : Format → Layout → ℕ → Image → ℕ → Type 0
 EndsAt format layout generation image =
     StopsAt format layout generation image (count_in format layout generation image) (end_in format layout generation image)
 
--- what is told of whole records of the generation that don't count: how many there are, and the sector with which the reading ends; or there are none
+-- Of the two generations whose records count in format 2 so many whole ones don't, with the sector at which the reading ends of the first that leaves some.
+pub record IsCutOff (layout : Layout) (newest : ℕ) (image : Image) (cut : Uncounted) : Type 0 where
+  pub here : ℕ
+  pub behind : ℕ
+  pub some : 0 < cut.records
+  pub records_are : cut.records ≡ here + behind
+  pub here_is : HasUncounted Two layout newest image here
+  pub behind_is : HasUncounted Two layout (newest + 1) image behind
+  pub ends_here : 0 < here → EndsAt Two layout newest image cut.sector
+  pub ends_behind : here ≡ 0 → EndsAt Two layout (newest + 1) image cut.sector
+
+-- what is told of whole records of the generations that count which don't: how many there are, and the sector with which the reading ends; or there are none
 abbrev pub TellsCutOff : Format → Layout → ℕ → Image → Option Uncounted → Type 0
-TellsCutOff format layout generation image None = HasUncounted format layout generation image 0
-TellsCutOff format layout generation image (Some cut) =
-    (0 < cut.records) × HasUncounted format layout generation image cut.records × EndsAt format layout generation image cut.sector
+TellsCutOff One layout generation image None = HasUncounted One layout generation image 0
+TellsCutOff Two layout generation image None = HasUncounted Two layout generation image 0 × HasUncounted Two layout (generation + 1) image 0
+TellsCutOff One layout generation image (Some cut) =
+    (0 < cut.records) × HasUncounted One layout generation image cut.records × EndsAt One layout generation image cut.sector
+TellsCutOff Two layout generation image (Some cut) = IsCutOff layout generation image cut
+
+-- so many whole records stand in the log of generations later than those whose records stand in their place and count
+abbrev pub HaveLater : Format → Layout → ℕ → Image → ℕ → Type 0
+HaveLater One layout generation image count = HasLater One layout generation image count
+HaveLater Two layout generation image count =
+    (here behind : ℕ) × (count ≡ here + behind) × HasLater Two layout generation image here × HasLater Two layout (generation + 1) image behind
 
 -- what is told of the other slot, beside the newest one: its first sector is damaged, and so many whole records of later generations stand in the log;
 -- or it isn't damaged
@@ -150,7 +181,7 @@ abbrev pub TellsDamaged : Format → Layout → Slot → ℕ → Image → Optio
 TellsDamaged format layout slot generation image None = ¬ IsDamaged layout (image (slot_start layout (sectors.other slot)))
 TellsDamaged format layout slot generation image (Some damaged) =
     IsDamaged layout (image (slot_start layout (sectors.other slot))) × (damaged.sector ≡ slot_start layout (sectors.other slot))
-    × HasLater format layout generation image damaged.records
+    × HaveLater format layout generation image damaged.records
 
 -- What was read of an image: the generation of its newest header, the count of the records that count beside it, which are replayed, and what
 -- doesn't count.
@@ -164,12 +195,25 @@ pub record IsRead (layout : Layout) (image : Image) (opened : OpenedStore) : Typ
   pub cut_off_is : TellsCutOff format layout newest.generation image opened.cut_off
   pub damaged_is : TellsDamaged format layout newest.slot newest.generation image opened.damaged
 
--- what remains in the log behind the records of a generation
+-- what remains in a generation's place in the log behind its records
 pub record Remain (format : Format) (layout : Layout) (generation : ℕ) (image : Image) (remains : Remains) : Type 0 where
-  pub greatest : IsGreatest layout image generation remains.greatest
+  pub greatest : IsGreatestIn format layout generation image remains.greatest
   pub uncounted : HasUncounted format layout generation image remains.uncounted
   pub later : HasLater format layout generation image remains.later
   pub stop : end_in format layout generation image < area_end format layout generation → EndsAt format layout generation image remains.stop
+
+-- and behind those of the next generation, where they count too, and there is one
+abbrev pub RemainBehind : Format → Layout → ℕ → Image → Option Remains → Type 0
+RemainBehind One layout newest image None = Unit {0}
+RemainBehind One layout newest image (Some remains) = ⊥
+RemainBehind Two layout newest image None = 2 ^ 64 - 1 < newest + 1
+RemainBehind Two layout newest image (Some remains) = Remain Two layout (newest + 1) image remains
+
+-- All records that count were read, so many, with what remains behind them.
+pub record AreRead (format : Format) (layout : Layout) (newest : ℕ) (image : Image) (records : ℕ) (here : Remains) (behind : Option Remains) : Type 0 where
+  pub count : records ≡ length (all_records format layout newest image)
+  pub here_is : Remain format layout newest image here
+  pub behind_is : RemainBehind format layout newest image behind
 
 -- what a store of this layout may hold
 pub record IsKept (layout : Layout) (size : ℕ) (s : State) : Type 0 where
@@ -204,6 +248,15 @@ pub record StaysForOne (old new : Past) : Type 0 where
   pub layout : Layout
   pub state : State
   pub stays : StaysFor layout state old new
+
+-- the newest snapshot and the log of an image of before, or a store of the state
+abbrev pub WasOrStores : Format → Layout → Past → Slot → ℕ → List ℕ → State → Image → Type 0
+WasOrStores format layout past slot newest before s image = WasNewest format layout past slot newest before image ⊎ IsStoreOf layout image s
+
+-- a store with this newest snapshot, in one format or another
+pub record HasNewestIn (layout : Layout) (slot : Slot) (newest : ℕ) (body : List ℕ) (last : ℕ) (image : Image) : Type 0 where
+  pub format : Format
+  pub has : HasNewest format layout slot newest body last image
 
 -- nothing was written: the disk was synced, or not even that
 abbrev pub IsUnwritten : Past → Past → Type 0

@@ -2,10 +2,10 @@
 ghost use Rattle.std.specs.Prelude.{◌≡◌, ◌≢◌, ◌⊎◌, ◌↔◌, ◌+◌, ◌-◌, ◌<◌, ◌≤◌, ◌∷◌, ◌++◌, [], ℕ, false, true, List, length, map, replicate, vec_len, vec_capacity, Ok, Err, IfOk, IfErr, OnOk, OnErr, IsTrue};
 ghost use Rattle.std.specs.List.{AllByRecursion};
 ghost use Rattle.um_engine.specs.Engine as machine;
-ghost use Rattle.um_keeper.specs.Answering.{Answered, AreAnswered, Recorded, NeedsRecord, FellBack, FellThere, StopsAt, HasFault, CountsFault, denied, all_asked, IsIdle, NeedNoRecord, HasNoRecord, HaveNoRecord, record_sectors, where_step, taken, AreSpentAt, AreSpentAsMeant, TakesCalls, most_calls, most_snapshot_calls, state_before_all};
-ghost use Rattle.um_keeper.specs.Keepers.{disk_in, state_in, size_in, layout_in, log_generation_in, next_in, has_failed, IsSamePlace, IsFreeFrom};
+ghost use Rattle.um_keeper.specs.Answering.{Answered, AreAnswered, Recorded, NeedsRecord, FellBack, FellThere, StopsAt, HasFault, CountsFault, denied, all_asked, IsIdle, NeedNoRecord, HasNoRecord, HaveNoRecord, record_sectors, where_step, taken, AreSpentAt, AreSpentAsMeant, TakesCalls, BeginsOne, most_calls, most_snapshot_calls, state_before_all};
+ghost use Rattle.um_keeper.specs.Keepers.{disk_in, state_in, size_in, layout_in, log_generation_in, next_in, left_in, has_failed, IsSamePlace, IsFreeFrom};
 ghost use Rattle.um_keeper.specs.Keeping.{MayHold, IsBegun, record_calls};
-ghost use Rattle.um_keeper.specs.Underway.{UnderwayIn, KeptIn, owed, LacksRoom, HasRoomFor, IsFreeAt, MayRise, TakesUnsynced};
+ghost use Rattle.um_keeper.specs.Underway.{UnderwayIn, KeptIn, is_renewing, finish_ahead, owed, LacksRoom, HasRoomFor, IsFreeAt, MayRise, TakesUnsynced};
 ghost use Rattle.um_keeper.specs.Answering.{Answer};
 ghost use Rattle.um_keeper.specs.Keeping.{snapshot_calls};
 ghost use Rattle.um_engine.specs.OfStore.{is_of_store};
@@ -27,7 +27,7 @@ ghost use Rattle.um_state.specs.View.{input_of};
 use crate::ahead::Ahead;
 use crate::keeper::Keeper;
 use crate::receipt::Receipt;
-use crate::recording::record;
+use crate::recording::{record, settle};
 use std::alloc::Global;
 use std::mem;
 use um_engine::{Back, Engine};
@@ -149,10 +149,10 @@ fn take_step<D: Disk>(
         × (ahead.new.log.next ≤ ahead.old.log.next + part_count (length (input_spelling (input_of input.now))))
         × (D.calls disk.new ≤ D.calls disk.old + part_count (length (input_spelling (input_of input.now))))
         × (ahead.new.log.generation ≡ ahead.old.log.generation)) }
-    ensures rises { OnOk result (MayRise ahead.old.log ahead.new.log (snapshot_calls (machine.state_in engine.old))
+    ensures rises { OnOk result (MayRise ahead.old ahead.new (finish_ahead ahead.old)
         (D.calls disk.old + part_count (length (input_spelling (input_of input.now)))) (D.calls disk.new)) }
     ensures few { HasRoomFor ahead.old.log (input_of input.now) → D.calls disk.new ≤ D.calls disk.old + part_count (length (input_spelling (input_of input.now))) }
-    ensures calls { D.calls disk.new + owed ahead.new.unsynced ≤ D.calls disk.old + owed ahead.old.unsynced + snapshot_calls (machine.state_in engine.old) + record_calls (input_of input.now) }
+    ensures calls { D.calls disk.new + owed ahead.new.unsynced ≤ D.calls disk.old + owed ahead.old.unsynced + finish_ahead ahead.old + record_calls (input_of input.now) }
     ensures device { CountsDevice result (D.failures disk.old) (D.failures disk.new) }
     ensures size { D.size disk.new ≡ D.size disk.old }
     ensures honest { D.honest disk.new ≡ D.honest disk.old }
@@ -203,7 +203,7 @@ fn take_one<D: Disk>(
         × (ahead.new.log.next ≤ ahead.old.log.next + record_sectors (input_of input.now))
         × (D.calls disk.new ≤ D.calls disk.old + record_sectors (input_of input.now))
         × (ahead.new.log.generation ≡ ahead.old.log.generation)) }
-    ensures rises { OnOk result (MayRise ahead.old.log ahead.new.log (most_snapshot_calls ahead.old.log.layout)
+    ensures rises { OnOk result (MayRise ahead.old ahead.new (most_snapshot_calls ahead.old.log.layout)
         (D.calls disk.old + record_sectors (input_of input.now)) (D.calls disk.new)) }
     ensures few { OnErr result (HasRoomFor ahead.old.log (input_of input.now) → D.calls disk.new ≤ D.calls disk.old + part_count (length (input_spelling (input_of input.now)))) }
     ensures spent { IfOk result (λ answer. answer ≡ Err Refusal.GenerationsSpent → LacksRoom ahead.old.log (length (input_spelling (input_of input.now)))) }
@@ -266,7 +266,7 @@ fn take_all<D: Disk>(
         → disk.new ≡ disk.old) }
     ensures left { OnErr result (length answers.new.items < length inputs.now) }
     ensures clean { OnOk result (ahead.new.unsynced ≡ false → HaveNoRecord (machine.state_in engine.old) (map input_of inputs.now) answers.new.items) }
-    ensures takes { OnOk result (TakesUnsynced (D.honest disk.old) (sync_count (D.past disk.old)) (sync_count (D.past disk.new)) (machine.size_in engine.old) ahead.old.log ahead.new.log
+    ensures takes { OnOk result (TakesUnsynced (D.honest disk.old) (sync_count (D.past disk.old)) (sync_count (D.past disk.new)) (machine.size_in engine.old) ahead.old ahead.new
         (D.calls disk.old) (D.calls disk.new) (machine.state_in engine.old) (map input_of inputs.now) answers.new.items (machine.state_in engine.new)) }
     ensures capacity { length inputs.now ≤ vec_capacity answers.new }
     ensures spent { OnErr result ((from : ℕ) → IsFreeAt ahead.old.log from
@@ -280,27 +280,6 @@ fn take_all<D: Disk>(
     for input in inputs {
         let answer = take_one(alloc, disk, ahead, engine, input, backs)?;
         note(answers, answer);
-    }
-    Ok(())
-}
-
-/// Syncs what was written, if anything was. E16.
-fn settle<D: Disk>(disk: &mut D, ahead: Ahead) -> Result<(), Refusal>
-    ensures during { IsTrue (D.honest disk.old) → (s : State) (before : List model.Input) (state : State) → UnderwayIn s before (D.past disk.old) ahead state
-        → During (D.past disk.old) (D.past disk.new) (IsBegun ahead.log.layout s before) }
-    ensures ok { OnOk result (IsTrue (D.honest disk.old) → (sectors : ℕ) (s : State) (before : List model.Input) (state : State) → store_sectors ahead.log.layout ≤ sectors
-        → UnderwayIn s before (D.past disk.old) ahead state → KeptIn (D.past disk.new) sectors ahead state) }
-    ensures untouched { ahead.unsynced ≡ false → disk.new ≡ disk.old }
-    ensures needed { OnErr result (ahead.unsynced ≡ true) }
-    ensures syncs { OnOk result (IsTrue (D.honest disk.old) → sync_count (D.past disk.new) ≡ sync_count (D.past disk.old) + owed ahead.unsynced) }
-    ensures calls { D.calls disk.new ≤ D.calls disk.old + owed ahead.unsynced }
-    ensures refused { IfErr result (λ e. e ≡ Refusal.Device) }
-    ensures device { CountsDevice result (D.failures disk.old) (D.failures disk.new) }
-    ensures size { D.size disk.new ≡ D.size disk.old }
-    ensures honest { D.honest disk.new ≡ D.honest disk.old }
-{
-    if ahead.unsynced {
-        return ahead.log.flush(disk);
     }
     Ok(())
 }
@@ -345,6 +324,9 @@ fn record_all<D: Disk>(
         → ¬ HaveNoRecord (machine.state_in engine.old) (map input_of inputs.now) answers.new.items → sync_count (D.past disk.new) ≡ sync_count (D.past disk.old) + 1)) }
     ensures few_calls { OnOk result (TakesCalls ahead.old.log.layout ahead.old.log.next ahead.old.log.generation ahead.new.log.generation (D.calls disk.old) (D.calls disk.new)
         (machine.size_in engine.old) (machine.state_in engine.old) (map input_of inputs.now) answers.new.items (machine.state_in engine.new)) }
+    ensures begins { OnOk result (is_renewing ahead.old ≡ false → ahead.new.log.generation ≤ ahead.old.log.generation + 1
+        → BeginsOne (D.calls disk.old) (D.calls disk.new) (machine.size_in engine.old) (machine.state_in engine.old) (map input_of inputs.now) answers.new.items (machine.state_in engine.new)) }
+    ensures synced { OnOk result (ahead.new.unsynced ≡ false) }
     ensures capacity { length inputs.now ≤ vec_capacity answers.new }
     ensures spent { OnOk result ((from : ℕ) → IsFreeAt ahead.old.log from
         → AreSpentAt ahead.old.log.layout ahead.new.log.generation (machine.size_in engine.old) from (machine.state_in engine.old) (map input_of inputs.now)
@@ -358,7 +340,9 @@ fn record_all<D: Disk>(
     ensures honest { D.honest disk.new ≡ D.honest disk.old }
 {
     take_all(alloc, disk, ahead, engine, inputs, answers, backs)?;
-    settle(disk, *ahead)
+    settle(disk, ahead)?;
+    ahead.unsynced = false;
+    Ok(())
 }
 
 impl<D: Disk> Keeper<D> {
@@ -366,8 +350,8 @@ impl<D: Disk> Keeper<D> {
     /// its receipt, by its step's refusal (E4 to E14, E21), or, with none of the others touched, by E15, or by E20 where its record has no
     /// room and the generation is the last.
     ///
-    /// A record that has no room makes a checkpoint first, whose first sync covers those that were written. Where nothing is to be
-    /// recorded there is no disk call.
+    /// A record that has no room begins a snapshot first: those that were written are synced, the snapshot under way is finished, and the
+    /// records go on as the next generation. Where nothing is to be recorded there is no disk call.
     ///
     /// Where a disk call fails the state is that from before, no receipt is given, and each input that wasn't refused for another cause
     /// is answered E16; behind the one at which it failed none is judged.
@@ -423,6 +407,8 @@ impl<D: Disk> Keeper<D> {
         ensures few_calls { IfOk result (λ answers. has_failed self.new ≡ false
             → TakesCalls (layout_in self.old) (next_in self.old) (log_generation_in self.old) (log_generation_in self.new) (D.calls (disk_in self.old)) (D.calls (disk_in self.new))
             (size_in self.old) (state_in self.old) (map input_of inputs.items) answers.items (state_in self.new)) }
+        ensures begins { IfOk result (λ answers. has_failed self.new ≡ false → left_in self.old ≡ 0 → log_generation_in self.new ≤ log_generation_in self.old + 1
+            → BeginsOne (D.calls (disk_in self.old)) (D.calls (disk_in self.new)) (size_in self.old) (state_in self.old) (map input_of inputs.items) answers.items (state_in self.new)) }
         ensures size { D.size (disk_in self.new) ≡ D.size (disk_in self.old) }
         ensures honest { D.honest (disk_in self.new) ≡ D.honest (disk_in self.old) }
     {
@@ -432,29 +418,18 @@ impl<D: Disk> Keeper<D> {
         let count = inputs.len();
         let mut backs = Vec::with_capacity(self.alloc, count)?;
         let mut answers = Vec::with_capacity(self.alloc, count)?;
-        let mut ahead = Ahead {
-            home: self.home,
-            log: self.log,
-            unsynced: false,
-        };
         match record_all(
             self.alloc,
             &mut self.disk,
-            &mut ahead,
+            &mut self.ahead,
             &mut self.engine,
             &inputs,
             &mut answers,
             &mut backs,
         ) {
-            Ok(()) => {
-                self.home = ahead.home;
-                self.log = ahead.log;
-                Ok(answers)
-            }
+            Ok(()) => Ok(answers),
             Err(refusal) => {
                 drop(refusal);
-                self.home = ahead.home;
-                self.log = ahead.log;
                 self.failed = true;
                 go_back(&mut self.engine, backs);
                 deny(&mut answers, count);

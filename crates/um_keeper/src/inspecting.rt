@@ -21,14 +21,14 @@ use um_wire::Refusal;
 pub struct Summary {
     /// The generation of its newest header.
     pub generation: u64,
-    /// So many records of that generation count.
+    /// So many records of that generation and the next one count.
     pub records: usize,
     /// The moment of the last step.
     pub clock: Moment,
     /// The number of the next process.
     pub next: NextNumber,
-    /// Where whole records of that generation don't count: the sector with which the reading of the records ends, which is damaged, or a crash
-    /// cut it off.
+    /// Where whole records of these generations don't count: the sector with which the reading ends of the first that has some, which is damaged,
+    /// or a crash cut it off.
     pub cut_off: Option<Uncounted>,
     /// Where the first sector of the other slot is neither a header nor all zeros: that sector, and the whole records of later generations.
     pub damaged: Option<Uncounted>,

@@ -25,12 +25,10 @@ ghost use Rattle.um_wire.specs.Refusal.{refused_of};
 
 use crate::ahead::Ahead;
 use crate::receipt::Receipt;
-use crate::recording::{make_room, renew};
+use crate::recording::{make_room, write_anew};
 use std::alloc::{AllocError, Global};
 use um_engine::{Engine, Next};
-use um_log::Log;
 use um_sector::Disk;
-use um_slot::Home;
 use um_state::{Input, Query, Reply, State};
 use um_wire::{Refusal, spell};
 
@@ -46,10 +44,10 @@ pub struct Uncounted {
 pub struct OpenedStore {
     /// The generation of its newest header.
     pub generation: u64,
-    /// So many records of that generation were replayed.
+    /// So many records of that generation and the next one were replayed.
     pub records: usize,
-    /// Where whole records of that generation don't count: the sector with which the reading of the records ends, which is damaged, or a crash
-    /// cut it off.
+    /// Where whole records of these generations don't count: the sector with which the reading ends of the first that has some, which is damaged,
+    /// or a crash cut it off.
     pub cut_off: Option<Uncounted>,
     /// Where the first sector of the other slot is neither a header nor all zeros: that sector, and the whole records of later generations.
     pub damaged: Option<Uncounted>,
@@ -61,15 +59,15 @@ pub struct Keeper<D: Disk> {
     pub(crate) alloc: Global,
     pub(crate) disk: D,
     pub(crate) engine: Engine,
-    pub(crate) home: Home,
-    pub(crate) log: Log,
+    pub(crate) ahead: Ahead,
     /// A call on the disk failed, so that it isn't known what stands there.
     pub(crate) failed: bool,
     pub(crate) opened: OpenedStore,
-    ghost same: { log.generation ≡ home.generation },
-    ghost holds: { MayHold log.layout (machine.size_in engine) (machine.state_in engine) },
+    ghost holds: { MayHold ahead.log.layout (machine.size_in engine) (machine.state_in engine) },
+    ghost synced: { failed ≡ false → ahead.unsynced ≡ false },
     ghost kept: { failed ≡ false → IsTrue (D.honest disk)
-        → Keeps (D.past disk) (D.size disk) log.layout home.slot home.generation log.generation log.number log.next (machine.state_in engine) } by { Prim.hlevel (props, codes, maps.code, tree_code) },
+        → Keeps (D.past disk) (D.size disk) ahead.log.layout ahead.home.slot ahead.home.generation ahead.aside.body.items ahead.aside.written
+        ahead.log.generation ahead.log.number ahead.log.next (machine.state_in engine) } by { Prim.hlevel (props, codes, maps.code, tree_code) },
 }
 
 // One call, where a derived one is taken apart at each exit.
@@ -79,8 +77,7 @@ impl<D: Disk + Drop> Drop for Keeper<D> {
             alloc: _,
             disk: _disk,
             engine: _engine,
-            home: _,
-            log: _,
+            ahead: _ahead,
             failed: _,
             opened: _,
         } = self;
@@ -88,7 +85,7 @@ impl<D: Disk + Drop> Drop for Keeper<D> {
 }
 
 /// The refusal of a call on the disk, noted where the disk failed.
-fn noted(failed: &mut bool, refusal: Refusal) -> Refusal
+pub(crate) fn noted(failed: &mut bool, refusal: Refusal) -> Refusal
     ensures same { result ≡ refusal }
     ensures failed { (failed.new ≡ true) ↔ ((failed.old ≡ true) ⊎ (refusal ≡ Refusal.Device)) }
 {
@@ -99,7 +96,7 @@ fn noted(failed: &mut bool, refusal: Refusal) -> Refusal
 }
 
 impl<D: Disk> Keeper<D> {
-    ghost use Rattle.um_keeper.specs.Keepers.{disk_in, standing_in, state_in, size_in, layout_in, slot_in, generation_in, log_generation_in, number_in, next_in, has_failed, opened_in, IsSamePlace, HasNoRoom, IsFreeFrom, IsPlanned};
+    ghost use Rattle.um_keeper.specs.Keepers.{disk_in, standing_in, state_in, size_in, layout_in, slot_in, generation_in, log_generation_in, number_in, next_in, left_in, finish_calls_in, slot_behind, has_failed, opened_in, IsSamePlace, HasNoRoom, IsFreeFrom, IsPlanned};
 
     /// What was read of the store when it was opened.
     pub fn opened(&self) -> OpenedStore
@@ -145,37 +142,38 @@ impl<D: Disk> Keeper<D> {
             alloc: _,
             disk,
             engine: _engine,
-            home: _,
-            log: _,
+            ahead: _ahead,
             failed: _,
             opened: _,
         } = self;
         disk
     }
 
-    /// Writes the state as the next generation, so that no record is read.
+    /// Finishes the snapshot under way, and writes the state as the next generation, so that no record is read.
     ///
     /// Each image of each moment meanwhile is a store of the state. E17 where an earlier call answered E16; E20 where the log's generation is
     /// the last; E15, with nothing written; E16 where a disk call fails.
     pub fn checkpoint(&mut self) -> Result<(), Refusal>
         ensures during { has_failed self.old ≡ false → IsTrue (D.honest (disk_in self.old))
             → During (D.past (disk_in self.old)) (D.past (disk_in self.new)) (λ image. IsStoreOf (layout_in self.old) image (state_in self.old)) }
-        ensures ok { OnOk result ((slot_in self.new ≡ other (slot_in self.old)) × (generation_in self.new ≡ log_generation_in self.old + 1)
-            × (log_generation_in self.new ≡ generation_in self.new) × (number_in self.new ≡ 0) × (next_in self.new ≡ log_start (layout_in self.old) (log_generation_in self.new))) }
+        ensures ok { OnOk result ((slot_in self.new ≡ slot_behind self.old) × (generation_in self.new ≡ log_generation_in self.old + 1)
+            × (log_generation_in self.new ≡ generation_in self.new) × (number_in self.new ≡ 0) × (next_in self.new ≡ log_start (layout_in self.old) (log_generation_in self.new))
+            × (left_in self.new ≡ 0)) }
         ensures stored { OnOk result (IsTrue (D.honest (disk_in self.old)) → Images (D.past (disk_in self.new)) (λ image. contents_of current (layout_in self.old) image
             ≡ Some (record { slot = slot_in self.new; generation = generation_in self.new; start = state_in self.old; inputs = [] }))) }
         ensures state { state_in self.new ≡ state_in self.old }
         ensures stands { standing_in self.new ≡ standing_in self.old }
         ensures place { IsSamePlace self.old self.new }
-        ensures same { OnErr result ((slot_in self.new ≡ slot_in self.old) × (generation_in self.new ≡ generation_in self.old)
-            × (log_generation_in self.new ≡ log_generation_in self.old) × (number_in self.new ≡ number_in self.old) × (next_in self.new ≡ next_in self.old)) }
+        ensures same { IfErr result (λ e. (e ≡ Refusal.Device) ⊎ ((slot_in self.new ≡ slot_in self.old) × (generation_in self.new ≡ generation_in self.old)
+            × (log_generation_in self.new ≡ log_generation_in self.old) × (number_in self.new ≡ number_in self.old) × (next_in self.new ≡ next_in self.old)
+            × (left_in self.new ≡ left_in self.old))) }
         ensures refused { IfErr result (λ e. IsLost e ⊎ (e ≡ Refusal.Reopen) ⊎ (e ≡ Refusal.GenerationsSpent)) }
         ensures unwritten { IfErr result (λ e. (e ≡ Refusal.Device) ⊎ (disk_in self.new ≡ disk_in self.old)) }
         ensures device { CountsDevice result (D.failures (disk_in self.old)) (D.failures (disk_in self.new)) }
         ensures failed { (has_failed self.new ≡ true) ↔ ((has_failed self.old ≡ true) ⊎ (result ≡ Err Refusal.Device)) }
         ensures reopen { (result ≡ Err Refusal.Reopen) ↔ (has_failed self.old ≡ true) }
         ensures spent { (result ≡ Err Refusal.GenerationsSpent) ↔ ((has_failed self.old ≡ false) × (log_generation_in self.old ≡ 2 ^ 64 - 1)) }
-        ensures calls { D.calls (disk_in self.new) ≤ D.calls (disk_in self.old) + snapshot_calls (state_in self.old) }
+        ensures calls { D.calls (disk_in self.new) ≤ D.calls (disk_in self.old) + finish_calls_in self.old + snapshot_calls (state_in self.old) }
         ensures life { (s : model.State) (before : List Offer) → has_failed self.old ≡ false → IsTrue (D.honest (disk_in self.old))
             → HasCome (layout_in self.old) s before (state_in self.old)
             → During (D.past (disk_in self.old)) (D.past (disk_in self.new)) (MayLeave (layout_in self.old) s before) }
@@ -185,22 +183,13 @@ impl<D: Disk> Keeper<D> {
         if self.failed {
             return Err(Refusal::Reopen);
         }
-        let mut ahead = Ahead {
-            home: self.home,
-            log: self.log,
-            unsynced: false,
-        };
-        match renew(self.alloc, &mut self.disk, &mut ahead, &self.engine) {
-            Ok(()) => {
-                self.home = ahead.home;
-                self.log = ahead.log;
-                Ok(())
-            }
+        match write_anew(self.alloc, &mut self.disk, &mut self.ahead, &self.engine) {
+            Ok(()) => Ok(()),
             Err(refusal) => Err(noted(&mut self.failed, refusal)),
         }
     }
 
-    /// Sees that a record of so many bytes fits: where it doesn't, the state is written as the next generation first.
+    /// Sees that a record of so many bytes fits: where it doesn't, a snapshot begins first.
     fn make_room(&mut self, bytes: usize) -> Result<(), Refusal>
         requires working { self.old.failed ≡ false }
         requires some { 0 < bytes }
@@ -219,21 +208,19 @@ impl<D: Disk> Keeper<D> {
         ensures failed { (has_failed self.new ≡ true) ↔ (result ≡ Err Refusal.Device) }
         ensures spent { result ≡ Err Refusal.GenerationsSpent → HasNoRoom self.old bytes }
         ensures untouched { Fits (layout_in self.old) (log_generation_in self.old) (next_in self.old) bytes → disk_in self.new ≡ disk_in self.old }
-        ensures calls { D.calls (disk_in self.new) ≤ D.calls (disk_in self.old) + snapshot_calls (state_in self.old) }
+        ensures none { left_in self.old ≡ 0 → D.calls (disk_in self.new) ≤ D.calls (disk_in self.old) }
+        ensures calls { D.calls (disk_in self.new) ≤ D.calls (disk_in self.old) + finish_calls_in self.old }
         ensures size { D.size (disk_in self.new) ≡ D.size (disk_in self.old) }
         ensures honest { D.honest (disk_in self.new) ≡ D.honest (disk_in self.old) }
     {
-        let mut ahead = Ahead {
-            home: self.home,
-            log: self.log,
-            unsynced: false,
-        };
-        match make_room(self.alloc, &mut self.disk, &mut ahead, &self.engine, bytes) {
-            Ok(()) => {
-                self.home = ahead.home;
-                self.log = ahead.log;
-                Ok(())
-            }
+        match make_room(
+            self.alloc,
+            &mut self.disk,
+            &mut self.ahead,
+            &self.engine,
+            bytes,
+        ) {
+            Ok(()) => Ok(()),
             Err(refusal) => Err(noted(&mut self.failed, refusal)),
         }
     }
@@ -262,7 +249,7 @@ impl<D: Disk> Keeper<D> {
         ensures size { D.size (disk_in self.new) ≡ D.size (disk_in self.old) }
         ensures honest { D.honest (disk_in self.new) ≡ D.honest (disk_in self.old) }
     {
-        match self.log.append(&mut self.disk, bytes) {
+        match self.ahead.log.append(&mut self.disk, bytes) {
             Ok(true) => {
                 let (reply, actions, back) = self.engine.commit(next);
                 drop(back);
@@ -276,7 +263,7 @@ impl<D: Disk> Keeper<D> {
         }
     }
 
-    /// Records a planned input and takes its step, behind a checkpoint where the log has no room for it.
+    /// Records a planned input and takes its step, behind the beginning of a snapshot where the log has no room for it.
     fn record(&mut self, input: &Input, next: Next) -> Result<Receipt, Refusal>
         requires working { self.old.failed ≡ false }
         requires step { IsPlanned self.old input.now next }
@@ -299,7 +286,8 @@ impl<D: Disk> Keeper<D> {
         ensures spent { result ≡ Err Refusal.GenerationsSpent → HasNoRoom self.old (length (input_spelling (input_of input.now))) }
         ensures calls { Fits (layout_in self.old) (log_generation_in self.old) (next_in self.old) (length (input_spelling (input_of input.now)))
             → D.calls (disk_in self.new) ≤ D.calls (disk_in self.old) + record_calls (input_of input.now) }
-        ensures most_calls { D.calls (disk_in self.new) ≤ D.calls (disk_in self.old) + snapshot_calls (state_in self.old) + record_calls (input_of input.now) }
+        ensures begins { left_in self.old ≡ 0 → D.calls (disk_in self.new) ≤ D.calls (disk_in self.old) + record_calls (input_of input.now) + 1 }
+        ensures most_calls { D.calls (disk_in self.new) ≤ D.calls (disk_in self.old) + finish_calls_in self.old + record_calls (input_of input.now) }
         ensures size { D.size (disk_in self.new) ≡ D.size (disk_in self.old) }
         ensures honest { D.honest (disk_in self.new) ≡ D.honest (disk_in self.old) }
     {
@@ -350,7 +338,8 @@ impl<D: Disk> Keeper<D> {
         ensures spent { result ≡ Err Refusal.GenerationsSpent → HasNoRoom self.old (length (input_spelling (input_of input.now))) }
         ensures calls { Fits (layout_in self.old) (log_generation_in self.old) (next_in self.old) (length (input_spelling (input_of input.now)))
             → D.calls (disk_in self.new) ≤ D.calls (disk_in self.old) + record_calls (input_of input.now) }
-        ensures most_calls { D.calls (disk_in self.new) ≤ D.calls (disk_in self.old) + snapshot_calls (state_in self.old) + record_calls (input_of input.now) }
+        ensures begins { left_in self.old ≡ 0 → D.calls (disk_in self.new) ≤ D.calls (disk_in self.old) + record_calls (input_of input.now) + 1 }
+        ensures most_calls { D.calls (disk_in self.new) ≤ D.calls (disk_in self.old) + finish_calls_in self.old + record_calls (input_of input.now) }
         ensures size { D.size (disk_in self.new) ≡ D.size (disk_in self.old) }
         ensures honest { D.honest (disk_in self.new) ≡ D.honest (disk_in self.old) }
     {
@@ -393,7 +382,8 @@ impl<D: Disk> Keeper<D> {
         ensures spent { result ≡ Err Refusal.GenerationsSpent → HasNoRoom self.old (length (input_spelling (input_of input))) }
         ensures calls { Fits (layout_in self.old) (log_generation_in self.old) (next_in self.old) (length (input_spelling (input_of input)))
             → D.calls (disk_in self.new) ≤ D.calls (disk_in self.old) + record_calls (input_of input) }
-        ensures most_calls { D.calls (disk_in self.new) ≤ D.calls (disk_in self.old) + snapshot_calls (state_in self.old) + record_calls (input_of input) }
+        ensures begins { left_in self.old ≡ 0 → D.calls (disk_in self.new) ≤ D.calls (disk_in self.old) + record_calls (input_of input) + 1 }
+        ensures most_calls { D.calls (disk_in self.new) ≤ D.calls (disk_in self.old) + finish_calls_in self.old + record_calls (input_of input) }
         ensures life { (s : model.State) (before : List Offer) → has_failed self.old ≡ false → IsTrue (D.honest (disk_in self.old))
             → HasCome (layout_in self.old) s before (state_in self.old)
             → GoesOn (layout_in self.old) s before (input_of input ∷ []) (result ∷ []) (D.past (disk_in self.old)) (D.past (disk_in self.new))

@@ -75,9 +75,9 @@ pub fn what_is_taken_up_is_not_refused()
         (taken : IsTakenUp count image layout slot generation s) → IsGreatest layout image (top taken.has.format generation) greatest → greatest < 2 ^ 64 - 1 → ¬ IsUntaken count image e }
 {}
 
-/// A store that was left by calls that answered goes up by one generation when it is opened: no sector of its log is of a later one than
-/// its newest header.
-pub fn a_store_goes_up_by_one_generation()
+/// A store that was left by calls that answered goes up to the generation behind those whose records count when it is opened: no sector of
+/// its log is of a later one than these.
+pub fn a_store_goes_up_behind_the_generations_that_count()
     ensures { (count : ℕ) (layout : Layout) (image : Image) (slot : Slot) (generation : ℕ) (s : State) (next : IsNextOf count image layout slot generation s)
-        → IsStoreOf layout image s → generation ≡ next.earlier + 1 }
+        → IsStoreOf layout image s → generation ≡ top next.taken.has.format next.earlier + 1 }
 {}

@@ -14,6 +14,7 @@ mod opening;
 mod receipt;
 mod recording;
 mod snapshot;
+mod step;
 
 pub use creating::create;
 pub use inspecting::{Summary, inspect, look};

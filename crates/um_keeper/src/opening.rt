@@ -1,41 +1,55 @@
-ghost use Rattle.std.specs.Prelude.{◌≡◌, ◌⊎◌, ◌↔◌, ◌+◌, ◌-◌, ◌^◌, ◌<◌, ◌≤◌, Ok, None, false, List, IfOk, IfErr, IfSome, OnOk, IsTrue};
+ghost use Rattle.std.specs.Prelude.{◌≡◌, ◌⊎◌, ◌↔◌, ◌+◌, ◌-◌, ◌^◌, ◌<◌, ◌≤◌, ℕ, [], Ok, Some, None, false, List, length, IfOk, IfErr, IfSome, OnOk, IsTrue};
 ghost use Rattle.um_engine.specs.Engine.{state_in, size_in};
 ghost use Rattle.um_keeper.specs.Keeping.{Keeps, MayHold};
 ghost use Rattle.um_keeper.specs.Opening.{IsStart, Leads, Replays, IsNoInput, IsUnread, IsUntaken, IsFound, IsNextOf, IsRead, Remain, IsKept, IsSomeStore, IsAsBefore};
-ghost use Rattle.um_keeper.specs.Opening.{IsBehind, IsStill, StaysFor, StaysForOne, IsUnwritten};
-ghost use Rattle.um_model.specs.Disk.{seen, Images, IsSettled, During};
+ghost use Rattle.um_keeper.specs.Opening.{all_placed, IsBehind, IsLast, RemainBehind, AreRead, HaveLater, TellsCutOff, IsStill, StaysFor, StaysForOne, WasOrStores, HasNewestIn, IsUnwritten};
+ghost use Rattle.um_model.specs.Disk.{Image, seen, Images, IsSettled, During};
 ghost use Rattle.um_model.specs.Disk.{one_more};
 ghost use Rattle.um_model.specs.Lives.{Offer, MayLeave};
 ghost use Rattle.um_model.specs.Machine as model;
 ghost use Rattle.um_model.specs.Servable.{IsServable};
-ghost use Rattle.um_model.specs.Store.{body_limit, store_sectors, slot_start, other, superblock, area_start, placed, records_of};
+ghost use Rattle.um_model.specs.Store.{current, body_limit, store_sectors, slot_start, other, superblock, area_sectors, area_start, log_start, placed, records_of, all_records, top};
 ghost use Rattle.um_model.specs.Stands.{StandsFor, IsStoreOf};
+ghost use Rattle.um_model.specs.StateSpellings.{FitState, state_spelling};
 ghost use Rattle.um_model.specs.declared.layout.Layout as declared;
+ghost use Rattle.um_model.specs.declared.layout.Slot as declared_slot;
+ghost use Rattle.um_slot.specs.Snapshots.{HasNewest};
 ghost use Rattle.um_sector.specs.Refused.{CountsDevice, IsLost};
 ghost use Rattle.um_state.specs.View.{input_of};
 
+use crate::ahead::Ahead;
 use crate::keeper::{Keeper, OpenedStore, Uncounted};
 use crate::receipt::Receipt;
 use crate::snapshot::NextSnapshot;
 use std::alloc::{AllocError, Global};
 use um_engine::Engine;
-use um_log::{Log, Reader, Remains};
-use um_model::{Format, Layout, Slot};
-use um_sector::{Disk, SECTOR_BYTES, Sector};
-use um_slot::{Home, newest, read_superblock};
+use um_log::{Log, Reader, Remains, greatest};
+use um_model::{CURRENT, Format, Layout, Slot};
+use um_sector::{Disk, SECTOR_BYTES, Sector, write_run_synced};
+use um_slot::{Home, newest, read_superblock, superblock};
 use um_state::Input;
 use um_wire::{Refusal, read_whole};
 
-/// What was taken up of a disk: the layout of its store, where the newest snapshot stands, the engine in the state that the store stands for,
-/// and what was read.
+/// What was taken up of a disk: the format and the layout of its store, where the newest snapshot stands, the engine in the state that the
+/// store stands for, and what was read.
 #[derive(Drop)]
 pub(crate) struct Found {
+    format: Format,
     layout: Layout,
     pub(crate) home: Home,
     pub(crate) engine: Engine,
-    /// The greatest generation that stands on the disk.
-    greatest: u64,
+    /// The greatest generation that stands on the disk, or whose records count; None where that is above 2^64 - 1.
+    greatest: Option<u64>,
     pub(crate) opened: OpenedStore,
+}
+
+/// All records that count were read, so many; and what remains behind them, in the place of the newest snapshot's generation, and in that of
+/// the next one.
+#[derive(Clone, Copy, Debug)]
+struct Replayed {
+    records: usize,
+    here: Remains,
+    behind: Option<Remains>,
 }
 
 /// What a keeper needs beside its disk.
@@ -163,6 +177,7 @@ fn replay_all<D: Disk>(
         (state_in engine.old) (state_in engine.new)) }
     ensures all { OnOk result (IsTrue (D.honest disk.old) → IsBehind reader.old.format reader.old.layout reader.old.generation (seen (D.past disk.old)) reader.new.number reader.new.next) }
     ensures kept { OnOk result (IsServable (size_in engine.new) (state_in engine.new)) }
+    ensures most { IfOk result (λ remains. (remains.uncounted ≤ area_sectors reader.old.format reader.old.layout) × (remains.later ≤ area_sectors reader.old.format reader.old.layout)) }
     ensures remains { IfOk result (λ remains. IsTrue (D.honest disk.old) → Remain reader.old.format reader.old.layout reader.old.generation (seen (D.past disk.old)) remains) }
     ensures err { IfErr result (λ e. IsLost e ⊎ (IsTrue (D.honest disk.old)
         → IsNoInput (placed (area_start reader.old.format reader.old.layout reader.old.generation) (records_of reader.old.format reader.old.layout reader.old.generation (seen (D.past disk.old)))) e)) }
@@ -177,8 +192,61 @@ fn replay_all<D: Disk>(
     reader.remains(disk)
 }
 
-/// The sector with which the reading of the records ends, where whole records of their generation don't count.
-fn cut_off_of(remains: Remains) -> Option<Uncounted>
+/// Takes the steps of the inputs that all records which count spell: those of the newest snapshot's generation, and behind them, where they
+/// count too, those of the next.
+///
+/// E18 with the first sector of the first record that spells none; E15; E16 where a read fails.
+fn replay_both<D: Disk>(
+    alloc: Global,
+    disk: &mut D,
+    engine: &mut Engine,
+    format: Format,
+    layout: Layout,
+    generation: u64,
+) -> Result<Replayed, Refusal>
+    requires kept { IsServable (size_in engine.old) (state_in engine.old) }
+    ensures ok { OnOk result (IsTrue (D.honest disk.old) → Replays (size_in engine.old) (all_records format layout generation (seen (D.past disk.old))) (state_in engine.old) (state_in engine.new)) }
+    ensures read { IfOk result (λ read. IsTrue (D.honest disk.old) → AreRead format layout generation (seen (D.past disk.old)) read.records read.here read.behind) }
+    ensures most { IfOk result (λ read. (read.here.uncounted ≤ layout.log_sectors) × (read.here.later ≤ layout.log_sectors)
+        × IfSome read.behind (λ remains. (remains.uncounted ≤ layout.log_sectors) × (remains.later ≤ layout.log_sectors))) }
+    ensures kept { OnOk result (IsServable (size_in engine.new) (state_in engine.new)) }
+    ensures err { IfErr result (λ e. IsLost e ⊎ (IsTrue (D.honest disk.old) → IsNoInput (all_placed format layout generation (seen (D.past disk.old))) e)) }
+    ensures size { size_in engine.new ≡ size_in engine.old }
+    ensures past { IsTrue (D.honest disk.old) → D.past disk.new ≡ D.past disk.old }
+    ensures failures { CountsDevice result (D.failures disk.old) (D.failures disk.new) }
+    ensures disk_size { D.size disk.new ≡ D.size disk.old }
+    ensures honest { D.honest disk.new ≡ D.honest disk.old }
+{
+    let mut reader = Reader::new(format, layout, generation);
+    let here = replay_all(alloc, disk, engine, &mut reader)?;
+    let Some(mut next) = reader.following() else {
+        return Ok(Replayed {
+            records: reader.number as usize,
+            here,
+            behind: None,
+        });
+    };
+    let behind = replay_all(alloc, disk, engine, &mut next)?;
+    Ok(Replayed {
+        records: (reader.number + next.number) as usize,
+        here,
+        behind: Some(behind),
+    })
+}
+
+/// The greatest generation that stands in the place of the next one, where there is one.
+fn greatest_in(behind: Option<Remains>) -> Option<u64>
+    ensures some { IfSome result (λ greatest. IfSome behind (λ remains. greatest ≡ remains.greatest)) }
+    ensures none { (result ≡ None) ↔ (behind ≡ None) }
+{
+    match behind {
+        Some(remains) => Some(remains.greatest),
+        None => None,
+    }
+}
+
+/// How many whole records don't count of the generation that is read, behind those that do, and with which sector its reading ends.
+fn cut_off_in(remains: Remains) -> Option<Uncounted>
     ensures some { IfSome result (λ cut. (0 < remains.uncounted) × (cut.sector ≡ remains.stop) × (cut.records ≡ remains.uncounted)) }
     ensures none { result ≡ None → remains.uncounted ≡ 0 }
 {
@@ -191,9 +259,40 @@ fn cut_off_of(remains: Remains) -> Option<Uncounted>
     })
 }
 
+/// The same of both generations that are read, with the sector of the first of them that has some.
+fn cut_off_of(read: Replayed, layout: Layout) -> Option<Uncounted>
+    requires most { (read.here.uncounted ≤ layout.log_sectors) × IfSome read.behind (λ remains. remains.uncounted ≤ layout.log_sectors) }
+    ensures { (format : Format) (newest : ℕ) (image : Image) → AreRead format layout newest image read.records read.here read.behind → TellsCutOff format layout newest image result }
+{
+    let here = cut_off_in(read.here);
+    let Some(remains) = read.behind else {
+        return here;
+    };
+    let behind = cut_off_in(remains);
+    match (here, behind) {
+        (Some(first), Some(second)) => Some(Uncounted {
+            sector: first.sector,
+            records: first.records + second.records,
+        }),
+        (Some(first), None) => Some(first),
+        (None, second) => second,
+    }
+}
+
+/// How many whole records of later generations stand in the log.
+fn later_of(read: Replayed, layout: Layout) -> usize
+    requires most { (read.here.later ≤ layout.log_sectors) × IfSome read.behind (λ remains. remains.later ≤ layout.log_sectors) }
+    ensures { (format : Format) (newest : ℕ) (image : Image) → AreRead format layout newest image read.records read.here read.behind → HaveLater format layout newest image result }
+{
+    match read.behind {
+        Some(remains) => read.here.later + remains.later,
+        None => read.here.later,
+    }
+}
+
 /// The first sector of the slot beside this one, where it is damaged.
-fn damaged_of(layout: Layout, slot: Slot, is_damaged: bool, remains: Remains) -> Option<Uncounted>
-    ensures some { IfSome result (λ damaged. IsTrue is_damaged × (damaged.sector ≡ slot_start layout (other slot)) × (damaged.records ≡ remains.later)) }
+fn damaged_of(layout: Layout, slot: Slot, is_damaged: bool, later: usize) -> Option<Uncounted>
+    ensures some { IfSome result (λ damaged. IsTrue is_damaged × (damaged.sector ≡ slot_start layout (other slot)) × (damaged.records ≡ later)) }
     ensures none { result ≡ None → ¬ IsTrue is_damaged }
 {
     if !is_damaged {
@@ -201,14 +300,43 @@ fn damaged_of(layout: Layout, slot: Slot, is_damaged: bool, remains: Remains) ->
     }
     Some(Uncounted {
         sector: layout.slot_start(slot.other()) as u64,
-        records: remains.later,
+        records: later,
     })
+}
+
+/// Takes the steps of all records that count, as `replay_both` does, and tells the greatest generation that stands on the disk.
+fn read_records<D: Disk>(
+    alloc: Global,
+    disk: &mut D,
+    engine: &mut Engine,
+    format: Format,
+    layout: Layout,
+    generation: u64,
+) -> Result<(Replayed, Option<u64>), Refusal>
+    requires kept { IsServable (size_in engine.old) (state_in engine.old) }
+    ensures ok { OnOk result (IsTrue (D.honest disk.old) → Replays (size_in engine.old) (all_records format layout generation (seen (D.past disk.old))) (state_in engine.old) (state_in engine.new)) }
+    ensures read { IfOk result (λ read. IsTrue (D.honest disk.old) → AreRead format layout generation (seen (D.past disk.old)) read.0.records read.0.here read.0.behind) }
+    ensures most { IfOk result (λ read. (read.0.here.uncounted ≤ layout.log_sectors) × (read.0.here.later ≤ layout.log_sectors)
+        × IfSome read.0.behind (λ remains. (remains.uncounted ≤ layout.log_sectors) × (remains.later ≤ layout.log_sectors))) }
+    ensures greatest { IfOk result (λ read. IsTrue (D.honest disk.old) → IsLast layout (seen (D.past disk.old)) (top format generation) read.1) }
+    ensures kept { OnOk result (IsServable (size_in engine.new) (state_in engine.new)) }
+    ensures err { IfErr result (λ e. IsLost e ⊎ (IsTrue (D.honest disk.old) → IsNoInput (all_placed format layout generation (seen (D.past disk.old))) e)) }
+    ensures size { size_in engine.new ≡ size_in engine.old }
+    ensures past { IsTrue (D.honest disk.old) → D.past disk.new ≡ D.past disk.old }
+    ensures failures { CountsDevice result (D.failures disk.old) (D.failures disk.new) }
+    ensures disk_size { D.size disk.new ≡ D.size disk.old }
+    ensures honest { D.honest disk.new ≡ D.honest disk.old }
+{
+    let read = replay_both(alloc, disk, engine, format, layout, generation)?;
+    let behind = greatest_in(read.behind);
+    let last = greatest(disk, format, layout, read.here.greatest, behind)?;
+    Ok((read, last))
 }
 
 /// Takes up the store that a disk holds, and writes nothing.
 pub(crate) fn take_up<D: Disk>(alloc: Global, disk: &mut D) -> Result<Found, Refusal>
     ensures found { IfOk result (λ f. IsTrue (D.honest disk.old)
-        → IsFound (D.size disk.old) (seen (D.past disk.old)) f.layout f.home.slot f.home.generation f.greatest (state_in f.engine)) }
+        → IsFound (D.size disk.old) (seen (D.past disk.old)) f.format f.layout f.home.slot f.home.generation f.greatest (state_in f.engine)) }
     ensures read { IfOk result (λ f. IsTrue (D.honest disk.old)
         → IsRead f.layout (seen (D.past disk.old)) f.opened) }
     ensures kept { IfOk result (λ f. IsKept f.layout (size_in f.engine) (state_in f.engine)) }
@@ -226,18 +354,23 @@ pub(crate) fn take_up<D: Disk>(alloc: Global, disk: &mut D) -> Result<Found, Ref
         let sector = layout.slot_start(home.slot) as u64 + 1;
         return Err(Refusal::Damaged { sector });
     };
-    let mut reader = Reader::new(format, layout, home.generation);
-    match replay_all(alloc, disk, &mut engine, &mut reader) {
-        Ok(remains) => Ok(Found {
+    match read_records(alloc, disk, &mut engine, format, layout, home.generation) {
+        Ok((read, greatest)) => Ok(Found {
+            format,
             layout,
             home,
             engine,
-            greatest: remains.greatest,
+            greatest,
             opened: OpenedStore {
                 generation: home.generation,
-                records: reader.number as usize,
-                cut_off: cut_off_of(remains),
-                damaged: damaged_of(layout, home.slot, snapshot.is_other_damaged, remains),
+                records: read.records,
+                cut_off: cut_off_of(read, layout),
+                damaged: damaged_of(
+                    layout,
+                    home.slot,
+                    snapshot.is_other_damaged,
+                    later_of(read, layout),
+                ),
             },
         }),
         Err(refusal) => {
@@ -247,19 +380,69 @@ pub(crate) fn take_up<D: Disk>(alloc: Global, disk: &mut D) -> Result<Found, Ref
     }
 }
 
-/// Writes the state into the other slot, as the generation behind the greatest that stands on the disk.
-fn renew<D: Disk>(alloc: Global, disk: &mut D, found: Found) -> Result<Held, Refusal>
+/// Makes sector 0 that of the current format, and syncs, where the store is in another one. E16.
+fn rewrite<D: Disk>(disk: &mut D, format: Format, layout: Layout) -> Result<(), Refusal>
+    ensures during { IsTrue (D.honest disk.old) → (slot : declared_slot.Slot) (newest last : ℕ) (body : List ℕ) → Images (D.past disk.old) (HasNewest format layout slot newest body last)
+        → During (D.past disk.old) (D.past disk.new) (HasNewestIn layout slot newest body last) }
+    ensures ok { OnOk result (IsTrue (D.honest disk.old) → (slot : declared_slot.Slot) (newest last : ℕ) (body : List ℕ) → Images (D.past disk.old) (HasNewest format layout slot newest body last)
+        → Images (D.past disk.new) (HasNewest current layout slot newest body last)) }
+    ensures failures { CountsDevice result (D.failures disk.old) (D.failures disk.new) }
+    ensures err { IfErr result (λ e. e ≡ Refusal.Device) }
+    ensures size { D.size disk.new ≡ D.size disk.old }
+    ensures honest { D.honest disk.new ≡ D.honest disk.old }
+{
+    match format {
+        Format::Two => Ok(()),
+        Format::One => {
+            let first: [Sector; 1] = [superblock(CURRENT, layout)];
+            write_run_synced(disk, 0, &first)?;
+            Ok(())
+        }
+    }
+}
+
+/// Writes a snapshot into the other slot, as the generation behind the last one, and makes the store one of the current format. Answers
+/// where it stands. E16.
+fn store_anew<D: Disk>(
+    disk: &mut D,
+    format: Format,
+    layout: Layout,
+    last: Home,
+    snapshot: NextSnapshot,
+) -> Result<Home, Refusal>
+    requires early { last.generation < 2 ^ 64 - 1 }
+    requires fits { length snapshot.body.items ≤ body_limit layout }
+    requires anew { snapshot.written ≡ 0 }
+    ensures during { IsTrue (D.honest disk.old) → (newest : ℕ) (before : List ℕ) (s : model.State) → newest ≤ last.generation
+        → Images (D.past disk.old) (HasNewest format layout last.slot newest before last.generation) → snapshot.body.items ≡ state_spelling s → FitState s → IsServable (body_limit layout) s
+        → During (D.past disk.old) (D.past disk.new) (WasOrStores format layout (D.past disk.old) last.slot newest before s) }
+    ensures ok { IfOk result (λ to. IsTrue (D.honest disk.old) → (newest : ℕ) (before : List ℕ) (s : model.State) → newest ≤ last.generation
+        → Images (D.past disk.old) (HasNewest format layout last.slot newest before last.generation) → snapshot.body.items ≡ state_spelling s → FitState s → IsServable (body_limit layout) s
+        → store_sectors layout ≤ D.size disk.old → Keeps (D.past disk.new) (D.size disk.new) layout to.slot to.generation [] 0 to.generation 0 (log_start layout to.generation) s) }
+    ensures home { IfOk result (λ to. (to.slot ≡ other last.slot) × (to.generation ≡ last.generation + 1)) }
+    ensures failures { CountsDevice result (D.failures disk.old) (D.failures disk.new) }
+    ensures err { IfErr result (λ e. e ≡ Refusal.Device) }
+    ensures size { D.size disk.new ≡ D.size disk.old }
+    ensures honest { D.honest disk.new ≡ D.honest disk.old }
+{
+    let home = snapshot.store(disk, layout, last)?;
+    rewrite(disk, format, layout)?;
+    Ok(home)
+}
+
+/// Writes the state into the other slot, as the generation behind the greatest that stands on the disk, in the current format.
+fn renew<D: Disk>(alloc: Global, disk: &mut D, found: Found, greatest: u64) -> Result<Held, Refusal>
     requires kept { IsKept found.layout (size_in found.engine) (state_in found.engine) }
-    requires early { found.greatest < 2 ^ 64 - 1 }
+    requires early { greatest < 2 ^ 64 - 1 }
     requires room { store_sectors found.layout ≤ D.size disk.old }
     ensures during { IsTrue (D.honest disk.old) → IsSettled (D.past disk.old)
-        → IsFound (D.size disk.old) (seen (D.past disk.old)) found.layout found.home.slot found.home.generation found.greatest (state_in found.engine)
+        → IsFound (D.size disk.old) (seen (D.past disk.old)) found.format found.layout found.home.slot found.home.generation (Some greatest) (state_in found.engine)
         → During (D.past disk.old) (D.past disk.new) (IsStill found.layout (seen (D.past disk.old)) (state_in found.engine)) }
     ensures ok { IfOk result (λ held. IsTrue (D.honest disk.old) → IsSettled (D.past disk.old)
-        → IsFound (D.size disk.old) (seen (D.past disk.old)) found.layout found.home.slot found.home.generation found.greatest (state_in found.engine)
-        → Keeps (D.past disk.new) (D.size disk.new) held.log.layout held.home.slot held.home.generation held.log.generation held.log.number held.log.next (state_in held.engine)) }
+        → IsFound (D.size disk.old) (seen (D.past disk.old)) found.format found.layout found.home.slot found.home.generation (Some greatest) (state_in found.engine)
+        → Keeps (D.past disk.new) (D.size disk.new) held.log.layout held.home.slot held.home.generation [] 0 held.log.generation held.log.number held.log.next (state_in held.engine)) }
     ensures held { IfOk result (λ held. (state_in held.engine ≡ state_in found.engine) × (size_in held.engine ≡ size_in found.engine)
-        × (held.log.layout ≡ found.layout) × (held.home.slot ≡ other found.home.slot) × (held.home.generation ≡ found.greatest + 1) × (held.log.generation ≡ held.home.generation) × (held.log.number ≡ 0)
+        × (held.log.layout ≡ found.layout) × (held.home.slot ≡ other found.home.slot) × (held.home.generation ≡ greatest + 1) × (held.log.generation ≡ held.home.generation) × (held.log.number ≡ 0)
         × (held.opened ≡ found.opened)) }
     ensures kept { IfOk result (λ held. MayHold held.log.layout (size_in held.engine) (state_in held.engine)) }
     ensures failures { CountsDevice result (D.failures disk.old) (D.failures disk.new) }
@@ -276,9 +459,9 @@ fn renew<D: Disk>(alloc: Global, disk: &mut D, found: Found) -> Result<Held, Ref
     };
     let last = Home {
         slot: found.home.slot,
-        generation: found.greatest,
+        generation: greatest,
     };
-    match snapshot.store(disk, found.layout, last) {
+    match store_anew(disk, found.format, found.layout, last, snapshot) {
         Ok(home) => Ok(Held {
             engine: found.engine,
             home,
@@ -292,13 +475,25 @@ fn renew<D: Disk>(alloc: Global, disk: &mut D, found: Found) -> Result<Held, Ref
     }
 }
 
+/// The greatest generation, where there is one behind it.
+fn before_last(greatest: Option<u64>) -> Option<u64>
+    ensures some { IfSome result (λ last. (greatest ≡ Some last) × (last < 2 ^ 64 - 1)) }
+    ensures none { result ≡ None → (greatest ≡ None) ⊎ (greatest ≡ Some (2 ^ 64 - 1)) }
+{
+    let last = greatest?;
+    if last == u64::MAX {
+        return None;
+    }
+    Some(last)
+}
+
 /// Syncs, takes up the store that the disk holds, and writes its state as the next generation.
 pub(crate) fn recover<D: Disk>(alloc: Global, disk: &mut D) -> Result<Held, Refusal>
     ensures stays { IfOk result (λ held. IsTrue (D.honest disk.old) → StaysFor held.log.layout (state_in held.engine) (D.past disk.old) (D.past disk.new)) }
     ensures unwritten { IfErr result (λ e. IsTrue (D.honest disk.old)
         → IsUnwritten (D.past disk.old) (D.past disk.new) ⊎ (IsLost e × StaysForOne (D.past disk.old) (D.past disk.new))) }
     ensures ok { IfOk result (λ held. IsTrue (D.honest disk.old)
-        → Keeps (D.past disk.new) (D.size disk.new) held.log.layout held.home.slot held.home.generation held.log.generation held.log.number held.log.next (state_in held.engine)) }
+        → Keeps (D.past disk.new) (D.size disk.new) held.log.layout held.home.slot held.home.generation [] 0 held.log.generation held.log.number held.log.next (state_in held.engine)) }
     ensures taken { IfOk result (λ held. IsTrue (D.honest disk.old)
         → IsNextOf (D.size disk.old) (seen (D.past disk.old)) held.log.layout held.home.slot held.home.generation (state_in held.engine)) }
     ensures opened { IfOk result (λ held. IsTrue (D.honest disk.old) → IsRead held.log.layout (seen (D.past disk.old)) held.opened) }
@@ -311,17 +506,17 @@ pub(crate) fn recover<D: Disk>(alloc: Global, disk: &mut D) -> Result<Held, Refu
 {
     disk.sync()?;
     let found = take_up(alloc, disk)?;
-    if found.greatest == u64::MAX {
+    let Some(greatest) = before_last(found.greatest) else {
         drop(found.engine);
         return Err(Refusal::GenerationsSpent);
-    }
-    renew(alloc, disk, found)
+    };
+    renew(alloc, disk, found, greatest)
 }
 
 impl<D: Disk> Keeper<D> {
     /// Opens the store that a disk holds: it syncs, takes up the state that what it reads stands for, and writes that state into the other
-    /// slot, as the generation behind the greatest that a header or a sector of the log tells, before anything is accepted. A refusal
-    /// hands the disk back.
+    /// slot, as the generation behind the greatest whose records count, or that a sector of the log tells, before anything is accepted. A
+    /// store of format 1 is one of format 2 then: sector 0 is written last, and synced. A refusal hands the disk back.
     ///
     /// E19 where there is no sector 0, or it doesn't begin as that of a store; E22 where it is of another format. E18 with sector 0
     /// where it tells no layout for which the disk has room; with sector 1 where no slot has a header; with the newest body's first
@@ -337,16 +532,16 @@ impl<D: Disk> Keeper<D> {
             → Images (D.past disk) (MayLeave layout s before) → During (D.past disk) (D.past k.disk) (MayLeave layout s before)) }
         ensures life_err { IfErr result (λ e. IsTrue (D.honest disk) → (layout : declared.Layout) (s : model.State) (before : List Offer)
             → Images (D.past disk) (MayLeave layout s before) → During (D.past disk) (D.past e.1) (MayLeave layout s before)) }
-        ensures stands { IfOk result (λ k. IsTrue (D.honest disk) → StandsFor k.log.layout (seen (D.past disk)) (state_in k.engine)) }
-        ensures stays { IfOk result (λ k. IsTrue (D.honest disk) → StaysFor k.log.layout (state_in k.engine) (D.past disk) (D.past k.disk)) }
-        ensures stored { IfOk result (λ k. IsTrue (D.honest disk) → Images (D.past k.disk) (λ image. IsStoreOf k.log.layout image (state_in k.engine))) }
-        ensures sized { IfOk result (λ k. size_in k.engine ≡ body_limit k.log.layout) }
+        ensures stands { IfOk result (λ k. IsTrue (D.honest disk) → StandsFor k.ahead.log.layout (seen (D.past disk)) (state_in k.engine)) }
+        ensures stays { IfOk result (λ k. IsTrue (D.honest disk) → StaysFor k.ahead.log.layout (state_in k.engine) (D.past disk) (D.past k.disk)) }
+        ensures stored { IfOk result (λ k. IsTrue (D.honest disk) → Images (D.past k.disk) (λ image. IsStoreOf k.ahead.log.layout image (state_in k.engine))) }
+        ensures sized { IfOk result (λ k. size_in k.engine ≡ body_limit k.ahead.log.layout) }
         ensures unwritten { IfErr result (λ e. IsTrue (D.honest disk)
             → IsUnwritten (D.past disk) (D.past e.1) ⊎ (IsLost e.0 × StaysForOne (D.past disk) (D.past e.1))) }
-        ensures ok { IfOk result (λ k. (k.failed ≡ false) × (k.log.number ≡ 0) × (D.honest k.disk ≡ D.honest disk) × (D.size k.disk ≡ D.size disk)) }
+        ensures ok { IfOk result (λ k. (k.failed ≡ false) × (k.ahead.log.number ≡ 0) × (D.honest k.disk ≡ D.honest disk) × (D.size k.disk ≡ D.size disk)) }
         ensures taken { IfOk result (λ k. IsTrue (D.honest disk)
-            → IsNextOf (D.size disk) (seen (D.past disk)) k.log.layout k.home.slot k.home.generation (state_in k.engine)) }
-        ensures opened { IfOk result (λ k. IsTrue (D.honest disk) → IsRead k.log.layout (seen (D.past disk)) k.opened) }
+            → IsNextOf (D.size disk) (seen (D.past disk)) k.ahead.log.layout k.ahead.home.slot k.ahead.home.generation (state_in k.engine)) }
+        ensures opened { IfOk result (λ k. IsTrue (D.honest disk) → IsRead k.ahead.log.layout (seen (D.past disk)) k.opened) }
         ensures err { IfErr result (λ e. IsLost e.0 ⊎ (IsTrue (D.honest disk) → IsUntaken (D.size disk) (seen (D.past disk)) e.0)) }
         ensures device { IfErr result (λ e. ((e.0 ≡ Refusal.Device) × (D.failures e.1 ≡ one_more (D.failures disk))) ⊎ ((¬ (e.0 ≡ Refusal.Device)) × (D.failures e.1 ≡ D.failures disk))) }
         ensures quiet { IfOk result (λ k. D.failures k.disk ≡ D.failures disk) }
@@ -357,8 +552,12 @@ impl<D: Disk> Keeper<D> {
                 alloc,
                 disk,
                 engine: held.engine,
-                home: held.home,
-                log: held.log,
+                ahead: Ahead {
+                    home: held.home,
+                    log: held.log,
+                    unsynced: false,
+                    aside: NextSnapshot::none(alloc),
+                },
                 failed: false,
                 opened: held.opened,
             }),

@@ -143,19 +143,21 @@ record_told format layout generation image number at bytes is =
     let one = and_parts _ _ is in
     let two = and_parts _ _ one.1 in
     let three = and_parts _ _ two.1 in
+    let four = and_parts _ _ three.1 in
     record {
-      some = ltb-true 0 (length bytes) one.0;
-      short = leb-true (length bytes) (longest format) two.0;
-      within = leb-true (at + part_count (length bytes)) (area_end format layout generation) three.0;
-      parts = parts_told generation image number at bytes (part_count (length bytes)) three.1;
+      last = ltb-true generation (2 ^ 64) one.0;
+      some = ltb-true 0 (length bytes) two.0;
+      short = leb-true (length bytes) (longest format) three.0;
+      within = leb-true (at + part_count (length bytes)) (area_end format layout generation) four.0;
+      parts = parts_told generation image number at bytes (part_count (length bytes)) four.1;
     }
 
 record_tested : (format : Format) (layout : Layout) (generation : ℕ) (image : Image) (number at : ℕ) (bytes : List ℕ) → IsRecord format layout generation image number at bytes
     → is_record format layout generation image number at bytes ≡ true
 record_tested format layout generation image number at bytes is =
-    and_from _ _ (lt-ltb 0 (length bytes) is.some) (and_from _ _ (le-leb (length bytes) (longest format) is.short)
+    and_from _ _ (lt-ltb generation (2 ^ 64) is.last) (and_from _ _ (lt-ltb 0 (length bytes) is.some) (and_from _ _ (le-leb (length bytes) (longest format) is.short)
     (and_from _ _ (le-leb (at + part_count (length bytes)) (area_end format layout generation) is.within)
-    (parts_tested generation image number at bytes (part_count (length bytes)) is.parts)))
+    (parts_tested generation image number at bytes (part_count (length bytes)) is.parts))))
 
 -- a part's bytes, and then the rest
 part_step : (bytes behind rest : List ℕ) → take (length (take 480 bytes)) behind ≡ take 480 bytes → take (length (drop 480 bytes)) rest ≡ drop 480 bytes

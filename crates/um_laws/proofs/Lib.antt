@@ -38,6 +38,7 @@ pub mod CountedLaws
 pub mod StandsLaws
 pub mod LivesLaws
 pub mod UnreadLaws
+pub mod SplitLaws
 pub mod SessionsLaws
 pub mod WaitingLaws
 pub mod SettleLaws

@@ -1,13 +1,13 @@
 -- What the sectors of a store say: each header, body and record has one reading, and what isn't read doesn't count.
-use Rattle.std.specs.Prelude.{◌≡◌, ◌⊎◌, ◌+◌, ◌-◌, ◌^◌, ◌<◌, ◌≤◌, ℕ, zero, suc, List, [], ◌∷◌, ◌++◌, length, take, drop, replicate, codes, refl}
-use Rattle.std.proofs.Common.{sym, ◌∙◌, ap, subst, inl, inr, arith, append_assoc}
+use Rattle.std.specs.Prelude.{◌≡◌, ◌⊎◌, ◌+◌, ◌-◌, ◌*◌, ◌%◌, ◌^◌, ◌<◌, ◌≤◌, ℕ, zero, suc, List, [], ◌∷◌, ◌++◌, length, take, drop, replicate, slice_index_or, codes, refl}
+use Rattle.std.proofs.Common.{sym, ◌∙◌, ap, subst, inl, inr, ⊎_elim, arith, append_assoc}
 use Rattle.std.proofs.Math.Seq.{take-append_seam}
 use Rattle.std.proofs.lemmas.List.{append-nil}
 use Rattle.byteorder.specs.Endian.{big_number, big_bytes}
 use Rattle.byteorder.specs.Numbers.{big_number-reads_back}
 use Rattle.um_model.specs.Disk.{Sector, Image}
 use Rattle.um_model.specs.declared.layout.Format.{Format}
-use Rattle.um_model.specs.declared.layout.Format.TheVariants.{One}
+use Rattle.um_model.specs.declared.layout.Format.TheVariants.{One, Two}
 use Rattle.um_model.specs.declared.layout.Layout.{Layout}
 use Rattle.um_model.specs.declared.layout.Slot.{Slot}
 use Rattle.um_model.specs.declared.layout.Slot.TheVariants.{A, B}
@@ -15,16 +15,47 @@ use Rattle.um_model.specs.Store.{current, first_log_sector, area_sectors, area_s
 
 -- ---- the places of a format
 
+-- of two generations one behind the other one is even
+sides : (generation : ℕ) → ((generation % 2 ≡ 0) × ((generation + 1) % 2 ≡ 1)) ⊎ ((generation % 2 ≡ 1) × ((generation + 1) % 2 ≡ 0))
+sides zero = inl (refl, refl)
+sides (suc generation) = ⊎_elim (λ even. inr (subst (λ n. n % 2 ≡ 1) next even.1, omega (arith, even.0))) (λ odd. inl (subst (λ n. n % 2 ≡ 0) next odd.1, omega (arith, odd.0))) (sides generation)
+  where
+    next : generation + 1 ≡ suc generation
+    next = omega arith
+
+even_start : (layout : Layout) (generation : ℕ) → generation % 2 ≡ 0 → area_start Two layout generation ≡ first_log_sector layout
+even_start layout generation even =
+    let none : first_log_sector layout + 0 * area_sectors Two layout ≡ first_log_sector layout = omega arith in
+    ap (λ (n : ℕ). first_log_sector layout + n * area_sectors Two layout) even ∙ none
+
+odd_start : (layout : Layout) (generation : ℕ) → generation % 2 ≡ 1 → area_start Two layout generation ≡ first_log_sector layout + area_sectors Two layout
+odd_start layout generation odd =
+    let one : first_log_sector layout + 1 * area_sectors Two layout ≡ first_log_sector layout + area_sectors Two layout = omega arith in
+    ap (λ (n : ℕ). first_log_sector layout + n * area_sectors Two layout) odd ∙ one
+
+-- two generations one behind the other have the two areas
+pub areas : (layout : Layout) (generation : ℕ)
+    → ((area_start Two layout generation ≡ first_log_sector layout) × (area_start Two layout (generation + 1) ≡ first_log_sector layout + area_sectors Two layout))
+    ⊎ ((area_start Two layout generation ≡ first_log_sector layout + area_sectors Two layout) × (area_start Two layout (generation + 1) ≡ first_log_sector layout))
+areas layout generation = ⊎_elim
+    (λ even. inl (even_start layout generation even.0, odd_start layout (generation + 1) even.1))
+    (λ odd. inr (odd_start layout generation odd.0, even_start layout (generation + 1) odd.1))
+    (sides generation)
+
 -- each area lies in the log
 pub area_within : (format : Format) (layout : Layout) (generation : ℕ) → (first_log_sector layout ≤ area_start format layout generation) × (area_end format layout generation ≤ store_sectors layout)
 area_within One layout generation = (omega arith, omega arith)
+area_within Two layout generation = ⊎_elim {C = (first_log_sector layout ≤ area_start Two layout generation) × (area_end Two layout generation ≤ store_sectors layout)}
+    (λ one. (omega (arith, one.0), omega (arith, one.0))) (λ two. (omega (arith, two.0), omega (arith, two.0))) (areas layout generation)
 
 pub area_few : (format : Format) (layout : Layout) → area_sectors format layout ≤ layout.log_sectors
 area_few One layout = omega arith
+area_few Two layout = omega arith
 
 -- the longest record is far below the last value of its field
 pub longest_few : (format : Format) → longest format ≤ 131072
 longest_few One = omega arith
+longest_few Two = omega arith
 
 -- ---- headers
 
@@ -188,32 +219,33 @@ pub is_of : (generation number part size : ℕ) (payload : List ℕ) → generat
 is_of generation number part size payload last = record { name = log_name generation number part size payload; generation_is = log_generation generation number part size payload last }
 
 -- where no sector is of a generation, no record of it begins
-none_from : {format : Format} {layout : Layout} {generation : ℕ} {image : Image} {next : ℕ} → generation < 2 ^ 64
+none_from : {format : Format} {layout : Layout} {generation : ℕ} {image : Image} {next : ℕ}
     → ((j : ℕ) → next ≤ j → j < area_end format layout generation → IsOf generation (image j) → ⊥)
     → (number at : ℕ) (bytes : List ℕ) → next ≤ at → IsRecord format layout generation image number at bytes → ⊥
-none_from {generation} {image} last none number at bytes low is =
+none_from {generation} {image} none number at bytes low is =
     let some = is.some in
+    let last = is.last in
     let within = is.within in
     let first = is.parts 0 (omega (arith, some)) in
     none (at + 0) (omega (arith, low)) (omega (arith, some, within)) (subst (IsOf generation) (sym first) (is_of generation number 0 (length bytes) (part_of bytes 0) last))
 
-pub none_of : {layout : Layout} {generation : ℕ} {image : Image} {next : ℕ} → generation < 2 ^ 64 → IsFree layout generation image next
+pub none_of : {layout : Layout} {generation : ℕ} {image : Image} {next : ℕ} → IsFree layout generation image next
     → (number at : ℕ) (bytes : List ℕ) → next ≤ at → IsRecord current layout generation image number at bytes → ⊥
-none_of {generation} last free = none_from last (λ j low high is. let below : generation < generation = free generation j low high is in omega (arith, below))
+none_of {generation} free = none_from (λ j low high is. let below : generation < generation = free generation j low high is in omega (arith, below))
 
 -- and a generation above all that stand in the log has no record
-pub none_above : (format : Format) (layout : Layout) (generation last : ℕ) (image : Image) → generation < 2 ^ 64 → last < generation → IsNoneAbove layout image last
+pub none_above : (format : Format) (layout : Layout) (generation last : ℕ) (image : Image) → last < generation → IsNoneAbove layout image last
     → HasRecords format layout generation image []
-none_above format layout generation last image fits above none =
+none_above format layout generation last image above none =
     let within = area_within format layout generation in
-    stops (λ bytes. none_from {next = area_start format layout generation} fits
+    stops (λ bytes. none_from {next = area_start format layout generation}
     (λ j low high is. let below : generation ≤ last = none generation j (omega (arith, low, within.0)) (omega (arith, high, within.1)) is in omega (arith, below, above))
     0 (area_start format layout generation) bytes (omega arith))
 
 -- what agrees on a record's sectors has the record
 pub same_record : {format : Format} {layout : Layout} {generation number at : ℕ} {bytes : List ℕ} {a b : Image} → IsRecord format layout generation a number at bytes
     → ((i : ℕ) → i < part_count (length bytes) → b (at + i) ≡ a (at + i)) → IsRecord format layout generation b number at bytes
-same_record is same = record { some = is.some; short = is.short; within = is.within; parts = λ part below. same part below ∙ is.parts part below }
+same_record is same = record { last = is.last; some = is.some; short = is.short; within = is.within; parts = λ part below. same part below ∙ is.parts part below }
 
 -- what agrees from a place on has the same records
 pub same_records : {format : Format} {layout : Layout} {generation : ℕ} {a b : Image} (number at : ℕ) (records : List (List ℕ))
@@ -252,6 +284,10 @@ superblock_says One layout = (
   big_number-reads_back 4 layout.slot_sectors (big_bytes 4 layout.log_sectors ++ replicate 496 0) (omega (arith, layout.slot_most)),
   big_number-reads_back 4 layout.log_sectors (replicate 496 0) (omega (arith, layout.log_most)),
 )
+superblock_says Two layout = (
+  big_number-reads_back 4 layout.slot_sectors (big_bytes 4 layout.log_sectors ++ replicate 496 0) (omega (arith, layout.slot_most)),
+  big_number-reads_back 4 layout.log_sectors (replicate 496 0) (omega (arith, layout.log_most)),
+)
 
 -- layouts of the same sizes have the same sector 0
 pub same_superblock : (format : Format) (a b : Layout) → a.slot_sectors ≡ b.slot_sectors → a.log_sectors ≡ b.log_sectors → superblock format a ≡ superblock format b
@@ -262,10 +298,17 @@ same_superblock format a b slots log = λ i. filled (format_name format ++ (big_
 pub superblock_name : (format : Format) (layout : Layout) → take 8 (superblock format layout) ≡ format_name format
 unfolding superblock filled
 superblock_name One layout = refl
+superblock_name Two layout = refl
 
 -- which tells the format
-pub one_format : (f g : Format) (l m : Layout) → superblock f l ≡ superblock g m → f ≡ g
-one_format One One l m same = refl
+names_differ : codes "UMDISK01" ≡ codes "UMDISK02" → ⊥
+names_differ e = let d : 49 ≡ 50 = ap (λ (l : List ℕ). slice_index_or l 7 0) e in absurd (omega (arith, d))
 
 pub same_name : (f g : Format) → format_name f ≡ format_name g → f ≡ g
 same_name One One same = refl
+same_name Two Two same = refl
+same_name One Two same = absurd (names_differ same)
+same_name Two One same = absurd (names_differ (sym same))
+
+pub one_format : (f g : Format) (l m : Layout) → superblock f l ≡ superblock g m → f ≡ g
+one_format f g l m same = same_name f g (sym (superblock_name f l) ∙ ap (λ (s : Sector). take 8 s) same ∙ superblock_name g m)

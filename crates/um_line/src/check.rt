@@ -31,7 +31,7 @@ const UNITS_HELP: &str =
     "Prints in its place what umd ctl list-units and umd ctl list-jobs print, a line each";
 
 const AFTER_HELP: &str =
-    "It prints generation, records, clock and next, each with its number: the generation of the newest header, how many records of that generation count, the moment of the last step, and the number of the next process. Nothing is written. A store that a manager serves isn't read.
+    "It prints generation, records, clock and next, each with its number: the generation of the newest header, how many records of that generation and the next count, the moment of the last step, and the number of the next process. Nothing is written. A store that a manager serves isn't read.
 
 Exit statuses: 0 it can be opened, but for E20; 1 it is refused, and umd help says what the refusal means; 2 wrong words; 5 the file failed, or a manager has it.
 

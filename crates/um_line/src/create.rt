@@ -42,7 +42,7 @@ const SLOT_HELP: &str =
     "Sectors of 512 bytes of each of the two slots, 64 to 1048576; one of them holds the state, with a header";
 
 const LOG_HELP: &str =
-    "Sectors of the log, 512 to 1048576; when it is full the state is written anew";
+    "Sectors of the log, 512 to 1048576; when half of it is full the state is written anew";
 
 /// The words that it takes.
 fn command<'a>(alloc: Global) -> Result<Command<'a>, AllocError>

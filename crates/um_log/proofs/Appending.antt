@@ -8,7 +8,7 @@ use Rattle.um_model.specs.Disk.{Sector, Image, Past, seen, IsImage, During, IsSe
 use Rattle.um_laws.proofs.DiskLaws.{started, weaker}
 use Rattle.um_model.specs.declared.layout.Layout.{Layout}
 use Rattle.um_model.specs.declared.layout.Slot.{Slot}
-use Rattle.um_model.specs.Store.{current, first_log_sector, store_sectors, log_start, log_end, record_limit, top, Counts, records_of, all_records, part_count, part_of, log_sector, IsRecord, AreRecords, stops, goes_on, HasRecords, sectors_of, IsOf, IsNoneAbove, IsFree, IsLogEnd, IsStore, GoesOn}
+use Rattle.um_model.specs.Store.{current, log_start, log_end, record_limit, top, Counts, records_of, part_count, part_of, log_sector, IsRecord, AreRecords, stops, goes_on, HasRecords, sectors_of, IsOf, IsNoneAbove, IsFree, IsLogEnd, IsStore, GoesOn}
 use Rattle.um_laws.proofs.CountedLaws.{counts_top, all_more}
 use Rattle.um_laws.proofs.ImageLaws.{records_are, only_records}
 use Rattle.um_laws.proofs.StoreLaws.{area_within, log_generation, log_size, is_of, none_of, unread_newest}
@@ -58,8 +58,8 @@ module _ (layout : Layout) (generation number next : ℕ) (bytes : List ℕ) (la
       -- the whole run is the record
       whole : ((i : ℕ) → i < length run → image (next + i) ≡ slice_index_or run i []) → HasRecords current layout generation image (records ++ bytes ∷ [])
       whole all = with_more (bytes ∷ [])
-          (goes_on (record { some = some; short = short; within = room; parts = λ part below. let low : part < length run = omega (arith, below, count) in all part low ∙ each part low })
-          (stops (λ x. none_of last free_behind (suc number) (next + size) x (omega arith))))
+          (goes_on (record { last = last; some = some; short = short; within = room; parts = λ part below. let low : part < length run = omega (arith, below, count) in all part low ∙ each part low })
+          (stops (λ x. none_of free_behind (suc number) (next + size) x (omega arith))))
 
     -- where a sector of it is old, no record stands there
     torn : (image : Image) (i : ℕ) → i < length run → image (next + i) ≡ old (next + i) → (image (next + 0) ≡ old (next + 0)) ⊎ (image (next + 0) ≡ slice_index_or run 0 [])
@@ -130,7 +130,7 @@ module _ (layout : Layout) (generation number next : ℕ) (bytes : List ℕ) (la
   -- ---- the whole store meanwhile
 
   module _ (newest : ℕ) (counts : Counts current newest generation) (old : Image) (slot : Slot) (body : List ℕ) (records : List (List ℕ))
-      (store : IsStore current layout old slot newest body records) where
+      (store : IsStore current layout old slot newest body records) (above : IsNoneAbove layout old generation) where
     -- where the log has more behind its records, the store has
     pub with_more_records : log_start layout generation ≤ next → (image : Image) → MaybeLaid old next run image → (x : List (List ℕ))
         → HasRecords current layout generation image (records_of current layout generation old ++ x) → IsStore current layout image slot newest body (records ++ x)
@@ -139,7 +139,10 @@ module _ (layout : Layout) (generation number next : ℕ) (bytes : List ℕ) (la
         record {
           first = maybe.outside 0 (inl (omega (arith, low, within.0))) ∙ store.first;
           newest = unread_newest layout old image (λ j read. maybe.outside j (inl (let under = read_below layout old j read in omega (arith, under, low, within.0)))) store.newest;
-          records_are = ap (λ (l : List (List ℕ)). l ++ x) store.records_are ∙ sym (all_more layout newest generation old image counts x (only_records current layout generation image _ are));
+          records_are = ap (λ (l : List (List ℕ)). l ++ x) store.records_are
+              ∙ sym (all_more layout newest generation old image counts above (above_more old image maybe generation (omega arith) above)
+              (λ j first out. maybe.outside j (⊎_elim (λ before. inl (omega (arith, before, low))) (λ behind. inr (omega (arith, behind, room, count))) out)) x
+              (only_records current layout generation image _ are));
           none_later = above_more old image maybe (top current newest) (counts_top current newest generation counts) store.none_later;
         }
 
@@ -177,7 +180,7 @@ module _ (layout : Layout) (generation number next : ℕ) (bytes : List ℕ) (la
     -- while the record is written
     pub during_record : During past new (AfterRun past next run) → During past new (EitherRecord layout slot newest body records bytes)
     during_record written = weaker past new _ _
-        (λ image m. either_record newest ready.counts m.from slot body records (ready.store m.from m.was) (ready.end m.from m.was) image m.laid) written
+        (λ image m. either_record newest ready.counts m.from slot body records (ready.store m.from m.was) (ready.above m.from m.was) (ready.end m.from m.was) image m.laid) written
 
     -- and behind it
     pub goes_on_record : IsImage past (seen past) → IsLaid (seen past) next run (seen new) → IsSettled new → GoesOn layout new slot newest body (records ++ bytes ∷ []) generation (number + 1) (next + size)
@@ -187,11 +190,11 @@ module _ (layout : Layout) (generation number next : ℕ) (bytes : List ℕ) (la
         record {
           counts = ready.counts;
           store = λ image at. subst (λ i. IsStore current layout i slot newest body (records ++ bytes ∷ [])) (sym (settled image at))
-              (record_store newest ready.counts (seen past) slot body records store end (seen new) laid);
+              (record_store newest ready.counts (seen past) slot body records store (ready.above (seen past) is) end (seen new) laid);
           above = λ image at. subst (λ (i : Image). IsNoneAbove layout i generation) (sym (settled image at))
               (above_more (seen past) (seen new) (laid_maybe (seen past) next run (seen new) laid) generation (omega arith) (ready.above (seen past) is));
           end = λ image at. subst (λ i. IsLogEnd layout generation i (records_of current layout generation i) (number + 1) (next + size)) (sym (settled image at))
-              (record_end newest ready.counts (seen past) slot body records store end (seen new) laid);
+              (record_end newest ready.counts (seen past) slot body records store (ready.above (seen past) is) end (seen new) laid);
         }
 
 -- before the first call

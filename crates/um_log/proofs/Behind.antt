@@ -13,7 +13,7 @@ use Rattle.um_sector.specs.Runs.{IsLaid, MaybeLaid, AfterRun}
 use Rattle.um_log.specs.Appending.{record_run}
 use Rattle.um_log.specs.Ahead.{EndsWith, HasSome, HasBegun, GoesOnAhead}
 use Rattle.um_sector.proofs.RunLaws.{laid_maybe}
-use Rattle.um_log.proofs.Appending.{ends, above_more, with_more_records, with_same_records, record_store, record_end}
+use Rattle.um_log.proofs.Appending.{ends, above_more, with_same_records, record_store, record_end}
 
 -- a beginning of the records is one of those with one more
 pub some_more : {layout : Layout} {slot : Slot} {newest : ℕ} {body : List ℕ} {records more : List (List ℕ)} {image : Image} (bytes : List ℕ)
@@ -64,7 +64,7 @@ module _ (layout : Layout) (generation number next : ℕ) (bytes : List ℕ) (la
             count = has.count;
             within = omega (arith, has.within, one_more);
             store = subst (IsStore current layout image slot newest body) same
-                (with_same_records layout generation number next bytes last some short room newest counts from slot body (records ++ take has.count more) has.store low image maybe now);
+                (with_same_records layout generation number next bytes last some short room newest counts from slot body (records ++ take has.count more) has.store above low image maybe now);
           };
           above = above_more layout generation number next bytes last some short room from image maybe generation (omega arith) above;
           rest = inr (omega (arith, few, one_more), subst (λ (l : List (List ℕ)). EndsWith layout generation image l (next + size)) told reads);
@@ -83,9 +83,9 @@ module _ (layout : Layout) (generation number next : ℕ) (bytes : List ℕ) (la
           let laid : IsLaid from next (record_run generation number bytes) image = record { inside = all; outside = maybe.outside } in
           record {
             some = all_some longer (subst (IsStore current layout image slot newest body) behind_all
-                (record_store layout generation number next bytes last some short room newest counts from slot body (records ++ more) store end image laid));
+                (record_store layout generation number next bytes last some short room newest counts from slot body (records ++ more) store above end image laid));
             above = above_more layout generation number next bytes last some short room from image maybe generation (omega arith) above;
-            rest = inl (refl, record_end layout generation number next bytes last some short room newest counts from slot body (records ++ more) store end image laid);
+            rest = inl (refl, record_end layout generation number next bytes last some short room newest counts from slot body (records ++ more) store above end image laid);
           }
 
       -- the record is torn, and stays so whatever stands behind it
@@ -126,9 +126,9 @@ module _ (layout : Layout) (generation number next : ℕ) (bytes : List ℕ) (la
       counts = counts;
       images = at_end past new _ begun;
       store = subst (IsStore current layout (seen new) slot newest body) behind_all
-          (record_store layout generation number next bytes last some short room newest counts (seen past) slot body (records ++ more) ahead.store ahead.end (seen new) laid);
+          (record_store layout generation number next bytes last some short room newest counts (seen past) slot body (records ++ more) ahead.store ahead.above ahead.end (seen new) laid);
       above = above_more layout generation number next bytes last some short room (seen past) (seen new) (laid_maybe (seen past) next (record_run generation number bytes) (seen new) laid) generation (omega arith) ahead.above;
-      end = record_end layout generation number next bytes last some short room newest counts (seen past) slot body (records ++ more) ahead.store ahead.end (seen new) laid;
+      end = record_end layout generation number next bytes last some short room newest counts (seen past) slot body (records ++ more) ahead.store ahead.above ahead.end (seen new) laid;
     }
 
 module _ {layout : Layout} {past : Past} {slot : Slot} {newest : ℕ} {body : List ℕ} {records more : List (List ℕ)} {generation number next : ℕ}

@@ -6,7 +6,6 @@ use Rattle.um_model.specs.Disk.{Sector, Image}
 use Rattle.um_model.specs.declared.layout.Format.{Format}
 use Rattle.um_model.specs.declared.layout.Layout.{Layout}
 use Rattle.um_model.specs.Store.{area_start, area_end, part_count, sectors_of, IsPart, IsRecord, AreRecords, stops, goes_on, HasRecords, IsLogRead, begins, part_behind, record_behind}
-use Rattle.um_laws.proofs.CountedLaws.{whole_log}
 use Rattle.um_log.specs.declared.part.Part.{Part}
 use Rattle.um_log.specs.Following.{IsPossible, ReadsPart, Stand, Follows, IsNextPart, IsSomeWith, IsLastUncounted, IsLastLater, IsInPlace, AreParts, StopsBefore}
 use Rattle.um_log.specs.Uncounted.{Ends, EndsUncounted, EndsLater, Counts, counted, passed, StopsAt}
@@ -129,7 +128,7 @@ module _ (format : Format) (layout : Layout) (image : Image) (from last generati
       → last < area_end format layout generation → Ends format layout image from generation number last
   stand_ends part size possible s all inside =
       let below = possible.below in
-      let w = whole format layout generation number s.at size image (omega (arith, below)) possible.short (omega (arith, s.end, all, inside)) (λ i few. s.parts i (omega (arith, few, all))) in
+      let w = whole format layout generation number s.at size image possible.generation_fits (omega (arith, below)) possible.short (omega (arith, s.end, all, inside)) (λ i few. s.parts i (omega (arith, few, all))) in
       record { at = s.at; low = s.low; bytes = w.bytes; is = w.is; end = omega (arith, s.end, all, w.long) }
 
   -- and where one ends they do
@@ -154,9 +153,9 @@ module _ (format : Format) (layout : Layout) (image : Image) (from last generati
 -- ---- what a part that is last tells
 
 module _ (format : Format) (layout : Layout) (image : Image) (from last generation : ℕ) (g_fits : generation < 2 ^ 64) (inside : last < area_end format layout generation) where
-  -- each generation ends with the log
-  inside_of : (theirs : ℕ) → last < area_end format layout theirs
-  inside_of theirs = let ours = whole_log format layout generation in let others = whole_log format layout theirs in omega (arith, inside, ours.1, others.1)
+  -- so it does in a later generation's that is the same
+  inside_of : (theirs : ℕ) → area_start format layout theirs ≡ area_start format layout generation → last < area_end format layout theirs
+  inside_of theirs same = omega (arith, inside, same)
 
   -- a whole record of that generation ends there, or none
   pub uncounted_ends : (least : ℕ) (run : Option Part) → Follows format generation image from (suc last) run
@@ -169,7 +168,8 @@ module _ (format : Format) (layout : Layout) (image : Image) (from last generati
         number = p.number;
         greater = is.greater;
         fits = f.1.number_fits;
-        ends = subst (λ g. Ends format layout image from g p.number last) is.generation_is (stand_ends format layout image from last p.generation p.number p.part p.size f.1 f.2 is.all (inside_of p.generation));
+        ends = subst (λ g. Ends format layout image from g p.number last) is.generation_is
+            (stand_ends format layout image from last p.generation p.number p.part p.size f.1 f.2 is.all (inside_of p.generation (ap (λ (g : ℕ). area_start format layout g) is.generation_is)));
       }
 
       back : (r : Option Part) → Follows format generation image from (suc last) r → (e : EndsUncounted format layout image from generation least last)
@@ -184,26 +184,31 @@ module _ (format : Format) (layout : Layout) (image : Image) (from last generati
           }
 
   -- one of a later generation, or none
-  pub later_ends : (run : Option Part) → Follows format generation image from (suc last) run → (IsSomeWith (IsLastLater generation) run ↔ EndsLater format layout image from generation last)
+  pub later_ends : (run : Option Part) → Follows format generation image from (suc last) run → (IsSomeWith (IsLastLater format layout generation) run ↔ EndsLater format layout image from generation last)
   later_ends run follows = (there run follows, λ e. back run follows e (ends_stand format layout image from last e.later e.number e.fits e.number_fits e.ends))
     where
-      there : (r : Option Part) → Follows format generation image from (suc last) r → IsSomeWith (IsLastLater generation) r → EndsLater format layout image from generation last
+      there : (r : Option Part) → Follows format generation image from (suc last) r → IsSomeWith (IsLastLater format layout generation) r → EndsLater format layout image from generation last
       there None f is = absurd is
       there (Some p) f is = record {
         later = p.generation;
         greater = is.greater;
+        place = is.place;
         fits = f.1.generation_fits;
         number = p.number;
         number_fits = f.1.number_fits;
-        ends = stand_ends format layout image from last p.generation p.number p.part p.size f.1 f.2 is.all (inside_of p.generation);
+        ends = stand_ends format layout image from last p.generation p.number p.part p.size f.1 f.2 is.all (inside_of p.generation is.place);
       }
 
       back : (r : Option Part) → Follows format generation image from (suc last) r → (e : EndsLater format layout image from generation last)
-          → AllStand format layout image from last e.later e.number → IsSomeWith (IsLastLater generation) r
+          → AllStand format layout image from last e.later e.number → IsSomeWith (IsLastLater format layout generation) r
       back None f e a = let greater = e.greater in absurd (f e.later e.number a.part a.size (omega (arith, greater)) a.possible a.stand)
       back (Some p) f e a =
           let same = one_stand format f.1 f.2 a.possible a.stand in
-          record { greater = omega (arith, e.greater, same.generation_is); all = omega (arith, same.part_is, a.all, ap (λ (z : ℕ). part_count z) same.size_is) }
+          record {
+            greater = omega (arith, e.greater, same.generation_is);
+            place = ap (λ (g : ℕ). area_start format layout g) same.generation_is ∙ e.place;
+            all = omega (arith, same.part_is, a.all, ap (λ (z : ℕ). part_count z) same.size_is);
+          }
 
 -- ---- where the parts of the next record end
 
@@ -327,7 +332,7 @@ nothing_behind format layout generation image records are number next count plac
 by_order : (a b : ℕ) → a ≤ b → (b ≡ a) ⊎ (a < b)
 by_order a b low = ⊎_elim (λ less. inr less) (λ more. inl (omega (arith, low, more))) (cases_lt a b)
 
-module _ (format : Format) (layout : Layout) (generation : ℕ) (image : Image) (number next stop : ℕ) (room : next < area_end format layout generation)
+module _ (format : Format) (layout : Layout) (generation : ℕ) (image : Image) (number next stop : ℕ) (g_fits : generation < 2 ^ 64) (room : next < area_end format layout generation)
     (ends : StopsBefore format layout generation image number next (area_end format layout generation) stop) (none : (bytes : List ℕ) → ¬ IsRecord format layout generation image number next bytes) where
   looked_at : IsLogRead format layout generation image number next stop
   looked_at = by ends.stand
@@ -343,7 +348,7 @@ module _ (format : Format) (layout : Layout) (generation : ℕ) (image : Image) 
           subst (IsLogRead format layout generation image number next) place
           (part_behind a.size part a.short (omega (arith, behind, fewer)) a.within (λ i few. a.parts i (omega (arith, few, behind)))))
           (λ all.
-          let w = whole format layout generation number next a.size image (omega (arith, behind, a.below)) a.short a.within (λ i few. a.parts i (omega (arith, few, all))) in
+          let w = whole format layout generation number next a.size image g_fits (omega (arith, behind, a.below)) a.short a.within (λ i few. a.parts i (omega (arith, few, all))) in
           absurd (none w.bytes w.is))
           (cases_lt stop (next + part_count a.size)))
           (by_order next stop ends.low)

@@ -3,3 +3,4 @@ mod Parts
 mod Following
 pub mod Appending
 pub mod Behind
+mod Everywhere

@@ -103,15 +103,16 @@ pub record Whole (format : Format) (layout : Layout) (generation number at size 
   pub long : length bytes ≡ size
   pub is : IsRecord format layout generation image number at bytes
 
-pub whole : (format : Format) (layout : Layout) (generation number at size : ℕ) (image : Image) → 0 < size → size ≤ longest format → at + part_count size ≤ area_end format layout generation
+pub whole : (format : Format) (layout : Layout) (generation number at size : ℕ) (image : Image) → generation < 2 ^ 64 → 0 < size → size ≤ longest format → at + part_count size ≤ area_end format layout generation
     → ((i : ℕ) → i < part_count size → IsPart generation number i size (image (at + i))) → Whole format layout generation number at size image
-whole format layout generation number at size image some short within parts =
+whole format layout generation number at size image last some short within parts =
     let all = made generation number size at image (part_count size) (omega arith) parts in
     let long : length all.bytes ≡ size = omega (arith, all.long) in
     record {
       bytes = all.bytes;
       long = long;
       is = record {
+        last = last;
         some = omega (arith, some, long);
         short = omega (arith, short, long);
         within = omega (arith, within, long);

@@ -3,7 +3,7 @@
 -- `Reader::remains` stands on this file.
 use Rattle.std.specs.Prelude.{◌≡◌, ◌⊎◌, ◌+◌, ◌^◌, ◌<◌, ◌≤◌, ℕ, suc, Option, Some, None}
 use Rattle.um_model.specs.Disk.{Sector, Image}
-use Rattle.um_model.specs.Store.{area_end, part_count, longest, IsPart}
+use Rattle.um_model.specs.Store.{area_start, area_end, part_count, longest, IsPart}
 use Rattle.um_model.specs.declared.layout.Format.{Format}
 use Rattle.um_model.specs.declared.layout.Layout.{Layout}
 use Rattle.um_log.specs.Reading.{FitsIn}
@@ -55,9 +55,10 @@ pub record IsLastUncounted (generation least : ℕ) (p : Part) : Type 0 where
   pub greater : least ≤ p.number
   pub all : suc p.part ≡ part_count p.size
 
--- or one of a later generation
-pub record IsLastLater (generation : ℕ) (p : Part) : Type 0 where
+-- or one of a later generation, which has the same place in the log
+pub record IsLastLater (format : Format) (layout : Layout) (generation : ℕ) (p : Part) : Type 0 where
   pub greater : generation < p.generation
+  pub place : area_start format layout p.generation ≡ area_start format layout generation
   pub all : suc p.part ≡ part_count p.size
 
 -- a part is, in its place, that of a record which has room from a sector on

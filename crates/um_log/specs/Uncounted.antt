@@ -3,7 +3,7 @@
 -- `Reader::remains`, the opening of a store and `inspect` stand on this file.
 use Rattle.std.specs.Prelude.{◌≡◌, ◌+◌, ◌^◌, ◌<◌, ◌≤◌, ℕ, suc, List, length}
 use Rattle.um_model.specs.Disk.{Image}
-use Rattle.um_model.specs.Store.{part_count, IsRecord, IsLogRead}
+use Rattle.um_model.specs.Store.{area_start, part_count, IsRecord, IsLogRead}
 use Rattle.um_model.specs.declared.layout.Format.{Format}
 use Rattle.um_model.specs.declared.layout.Layout.{Layout}
 
@@ -22,10 +22,11 @@ pub record EndsUncounted (format : Format) (layout : Layout) (image : Image) (fr
   pub fits : number < 2 ^ 64
   pub ends : Ends format layout image from generation number last
 
--- one of a later generation; both numbers have eight bytes
+-- one of a later generation, which has the same place in the log; both numbers have eight bytes
 pub record EndsLater (format : Format) (layout : Layout) (image : Image) (from generation last : ℕ) : Type 0 where
   pub later : ℕ
   pub greater : generation < later
+  pub place : area_start format layout later ≡ area_start format layout generation
   pub fits : later < 2 ^ 64
   pub number : ℕ
   pub number_fits : number < 2 ^ 64

@@ -4,7 +4,7 @@
 
 mod ahead;
 mod chain;
-mod greatest;
+mod generations;
 mod laws;
 mod part;
 mod read;
@@ -12,6 +12,7 @@ mod remains;
 mod sectors;
 mod write;
 
+pub use generations::greatest;
 pub use laws::{
     records_are_told, records_have_one_reading, unread_sectors_of_the_log_do_not_count,
 };

@@ -1,4 +1,4 @@
-ghost use Rattle.std.specs.Prelude.{◌≡◌, ◌⊎◌, ◌↔◌, ◌+◌, ◌-◌, ◌<◌, ◌≤◌, ℕ, min, length, Ok, None, IfOk, IfErr, IfSome, OnOk, OnErr, IsTrue};
+ghost use Rattle.std.specs.Prelude.{◌≡◌, ◌⊎◌, ◌↔◌, ◌+◌, ◌-◌, ◌^◌, ◌<◌, ◌≤◌, ℕ, min, length, Ok, None, IfOk, IfErr, IfSome, OnOk, OnErr, IsTrue};
 ghost use Rattle.um_model.specs.Disk.{seen};
 ghost use Rattle.um_model.specs.Store.{part_count, area_start, area_end, HasRecords, placed};
 ghost use Rattle.um_sector.specs.Refused.{CountsDevice, IsLost};
@@ -110,6 +110,24 @@ impl Reader {
             generation,
             number: 0,
             next: layout.area_start(format, generation),
+        }
+    }
+
+    /// Before the first record of the generation behind, whose records count too. None where these count alone: in format 1, and where there
+    /// is no generation behind.
+    pub fn following(&self) -> Option<Reader>
+        ensures some { IfSome result (λ next. (self.now.format ≡ Format.Two) × (next.format ≡ Format.Two) × (next.layout ≡ self.now.layout) × (next.generation ≡ self.now.generation + 1)) }
+        ensures empty { IfSome result (λ next. (next.number ≡ 0) × (next.next ≡ area_start Format.Two self.now.layout (self.now.generation + 1))) }
+        ensures none { result ≡ None → (self.now.format ≡ Format.One) ⊎ (self.now.generation ≡ 2 ^ 64 - 1) }
+    {
+        match self.format {
+            Format::One => None,
+            Format::Two => {
+                if self.generation == u64::MAX {
+                    return None;
+                }
+                Some(Reader::new(Format::Two, self.layout, self.generation + 1))
+            }
         }
     }
 

@@ -1,29 +1,29 @@
 ghost use Rattle.std.specs.Prelude.{◌≡◌, ◌⊎◌, ◌↔◌, ◌+◌, ◌-◌, ◌<◌, ◌≤◌, ℕ, suc, List, length, IfOk, IfErr, IsTrue};
 ghost use Rattle.um_log.specs.Following.{IsSomeWith, IsLastUncounted, IsLastLater, IsInPlace};
-ghost use Rattle.um_log.specs.Greatest.{IsGreatest};
+ghost use Rattle.um_log.specs.Greatest.{IsGreatestIn};
 ghost use Rattle.um_log.specs.Uncounted.{Counts, EndsUncounted, EndsLater, StopsAt};
 ghost use Rattle.um_model.specs.Disk.{seen};
-ghost use Rattle.um_model.specs.Store.{area_start, area_end, sectors_of, HasRecords};
+ghost use Rattle.um_model.specs.Store.{area_sectors, area_start, area_end, sectors_of, HasRecords};
 ghost use Rattle.um_sector.specs.Refused.{CountsDevice};
 
 use crate::chain::follow;
-use crate::greatest::{greater, told_generation};
+use crate::generations::{greater, told_generation};
 use crate::part::Part;
 use crate::read::{Reader, fits};
 use um_sector::{Disk, SECTOR_BYTES, Sector};
 use um_wire::Refusal;
 
-/// What stands in the log behind the records that count.
+/// What stands in a generation's place in the log behind its records.
 #[derive(Clone, Copy, Debug)]
 pub struct Remains {
-    /// The greatest generation that stands on the disk: that of the records, or the greatest that a sector behind them says of itself,
-    /// whole or not.
+    /// The greatest generation that stands there: that of the records, or the greatest that a sector behind them says of itself, whole or
+    /// not.
     pub greatest: u64,
     /// The sector with which the reading of the records ends: the first that isn't the next part in its place.
     pub stop: usize,
     /// So many whole records of their generation, with the number of the next record or a greater one: they don't count.
     pub uncounted: usize,
-    /// So many whole records of later generations.
+    /// So many whole records of later generations that have the same place.
     pub later: usize,
 }
 
@@ -50,12 +50,17 @@ impl Reader {
         }
     }
 
-    /// Whether a whole record of a later generation ends with the part.
+    /// Whether a whole record of a later generation that has the same place ends with the part.
     fn is_later(&self, run: Option<Part>) -> bool
-        ensures { IsTrue result ↔ IsSomeWith (IsLastLater self.now.generation) run }
+        ensures { IsTrue result ↔ IsSomeWith (IsLastLater self.now.format self.now.layout self.now.generation) run }
     {
         match run {
-            Some(part) => part.generation > self.generation && part.is_last(),
+            Some(part) => {
+                part.generation > self.generation
+                    && self.layout.area_start(self.format, part.generation)
+                        == self.layout.area_start(self.format, self.generation)
+                    && part.is_last()
+            }
             None => false,
         }
     }
@@ -99,13 +104,14 @@ impl Reader {
         }
     }
 
-    /// What stands behind the records of the generation, where the reader stands behind them. It reads each sector from there on once.
+    /// What stands behind the records of the generation in its place, where the reader stands behind them. It reads each sector from there
+    /// on once.
     ///
     /// E16 where a read fails.
     pub fn remains<D: Disk>(&self, disk: &mut D) -> Result<Remains, Refusal>
         ensures greatest { IfOk result (λ remains. IsTrue (D.honest disk.old) → (records : List (List ℕ)) → HasRecords self.now.format self.now.layout self.now.generation (seen (D.past disk.old)) records
             → self.now.next ≡ area_start self.now.format self.now.layout self.now.generation + sectors_of records
-            → IsGreatest self.now.layout (seen (D.past disk.old)) self.now.generation remains.greatest) }
+            → IsGreatestIn self.now.format self.now.layout self.now.generation (seen (D.past disk.old)) remains.greatest) }
         ensures stop { IfOk result (λ remains. IsTrue (D.honest disk.old) → (records : List (List ℕ)) → HasRecords self.now.format self.now.layout self.now.generation (seen (D.past disk.old)) records
             → self.now.number ≡ length records → self.now.next ≡ area_start self.now.format self.now.layout self.now.generation + sectors_of records
             → self.now.next < area_end self.now.format self.now.layout self.now.generation
@@ -116,6 +122,7 @@ impl Reader {
         ensures later { IfOk result (λ remains. IsTrue (D.honest disk.old)
             → Counts (EndsLater self.now.format self.now.layout (seen (D.past disk.old)) self.now.next self.now.generation)
             self.now.next (area_end self.now.format self.now.layout self.now.generation) remains.later) }
+        ensures most { IfOk result (λ remains. (remains.uncounted ≤ area_sectors self.now.format self.now.layout) × (remains.later ≤ area_sectors self.now.format self.now.layout)) }
         ensures past { IsTrue (D.honest disk.old) → D.past disk.new ≡ D.past disk.old }
         ensures calls { D.calls disk.new ≤ D.calls disk.old + (area_end self.now.format self.now.layout self.now.generation - self.now.next) }
         ensures failures { CountsDevice result (D.failures disk.old) (D.failures disk.new) }

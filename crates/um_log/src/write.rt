@@ -40,7 +40,7 @@ impl Log {
         }
     }
 
-    /// Whether a record of so many bytes fits: from 1 of them to the longest record, with all its sectors in the log.
+    /// Whether a record of so many bytes fits: from 1 of them to the longest record, with all its sectors in the place of the generation.
     pub fn fits(&self, size: usize) -> bool
         ensures { IsTrue result ↔ Fits self.now.layout self.now.generation self.now.next size }
     {

@@ -145,7 +145,8 @@ nil_of [] e = refl
 nil_of (x ∷ xs) e = absurd (omega (arith, e))
 
 -- a log without records goes on at its start
-empty_end : {past : Past} {sectors newest generation number next : ℕ} {layout : Layout} {slot : Slot} {s : State} → Keeps past sectors layout slot newest generation number next s → number ≡ 0
+empty_end : {past : Past} {sectors newest written generation number next : ℕ} {kept : List ℕ} {layout : Layout} {slot : Slot} {s : State}
+    → Keeps past sectors layout slot newest kept written generation number next s → number ≡ 0
     → next ≡ log_start layout generation
 empty_end {past = past} {generation = generation} {layout = layout} k none =
     let records = records_of current layout generation (seen past) in
@@ -153,8 +154,8 @@ empty_end {past = past} {generation = generation} {layout = layout} k none =
     omega (arith, k.place, no_sectors)
 
 -- so the boot isn't refused for want of room there
-pub never_spent : {past : Past} {sectors newest generation number next : ℕ} {layout : Layout} {slot : Slot} {s : State} (moment : ℕ) (boot : List ℕ)
-    → Keeps past sectors layout slot newest generation number next s → number ≡ 0 → length boot ≤ boot_limit
+pub never_spent : {past : Past} {sectors newest written generation number next : ℕ} {kept : List ℕ} {layout : Layout} {slot : Slot} {s : State} (moment : ℕ) (boot : List ℕ)
+    → Keeps past sectors layout slot newest kept written generation number next s → number ≡ 0 → length boot ≤ boot_limit
     → ¬ Fits layout generation next (length (input_spelling (boot_at moment boot))) → ⊥
 never_spent {generation = generation} {next = next} {layout = layout} moment boot k none short no_room =
     no_room (boot_fits layout generation next moment boot short (empty_end k none))

@@ -16,6 +16,7 @@ pub mod Offering
 pub mod Outliving
 pub mod Placing
 pub mod PuttingOut
+pub mod Stepping
 pub mod TakenUp
 pub mod Talking
 pub mod Telling

@@ -21,7 +21,7 @@ use Rattle.um_manager.specs.Orders.{Grew}
 use Rattle.um_manager.specs.Replies.{reply_in}
 use Rattle.um_manager.specs.Stores.{refusal_of, StoreAnswers, Submits}
 use Rattle.um_manager.specs.Places.{Place, LogEnd, is_trusted}
-use Rattle.um_manager.specs.Turns.{Answers, each, fell, reopen, Tells, AreSpent, MakesFewCalls, Leaves, Holds, Submitted, now}
+use Rattle.um_manager.specs.Turns.{Answers, each, fell, reopen, Tells, AreSpent, MakesFewCalls, MakesFewerCalls, Leaves, Holds, Submitted, now}
 use Rattle.um_manager.specs.declared.submitting.StoreFault.{StoreFault}
 use Rattle.um_manager.specs.declared.submitting.StoreFault.TheVariants as fault
 
@@ -129,15 +129,22 @@ never_recorded : (size : ℕ) (s : State) (inputs : List Input) (e : declared.Re
 never_recorded size s [] e = all_recorded
 never_recorded size s (input ∷ inputs) e = without_record tt (never_recorded size s inputs e)
 
-never_called : (place : Place) (s : State) (inputs : List Input) (e : declared.Refusal) (l m : LogEnd) → m ≡ l → MakesFewCalls place s inputs (replicate (length inputs) (Err e)) s l m
-never_called place s inputs e l m same = record {
+-- the log is of the same generation, behind as many calls
+abbrev pub IsQuiet : LogEnd → LogEnd → Type 0
+IsQuiet l m = (m.generation ≡ l.generation) × (m.calls ≡ l.calls)
+
+never_called : (place : Place) (s : State) (inputs : List Input) (e : declared.Refusal) (l m : LogEnd) → IsQuiet l m → MakesFewCalls place s inputs (replicate (length inputs) (Err e)) s l m
+never_called place s inputs e l m quiet = record {
   sectors = 0;
   recorded = never_recorded place.size s inputs e;
   rises = 0;
-  risen_by = omega (arith, ap (λ (x : LogEnd). x.generation) same);
+  risen_by = omega (arith, quiet.0);
   stays = λ room. refl;
-  few = omega (arith, ap (λ (x : LogEnd). x.calls) same);
+  few = omega (arith, quiet.1);
 }
+
+fewer_called : (place : Place) (s : State) (inputs : List Input) (e : declared.Refusal) (l m : LogEnd) → IsQuiet l m → MakesFewerCalls place s inputs (replicate (length inputs) (Err e)) s l m
+fewer_called place s inputs e l m quiet none_left one = record { sectors = 0; recorded = never_recorded place.size s inputs e; few = omega (arith, quiet.1) }
 
 memory_not_spent : refusal.NoMemory ≡ refusal.GenerationsSpent → ⊥
 memory_not_spent p = cc
@@ -147,7 +154,7 @@ reopen_not_spent p = cc
 
 -- a refusal of all inputs is one of each
 denied_as : (place : Place) (e : declared.Refusal) (store : Result Unit declared.Refusal) (s : State) (inputs : List Input) (past : List Call) (marks : List ℕ) (d f : Past) (l m : LogEnd) (replies : List Reply) (h w : Bool)
-    → e ≢ refusal.GenerationsSpent → m ≡ l → Answers place s inputs (replicate (length inputs) (Err e)) s → Tells store place.size s inputs (replicate (length inputs) (Err e)) s
+    → e ≢ refusal.GenerationsSpent → IsQuiet l m → Answers place s inputs (replicate (length inputs) (Err e)) s → Tells store place.size s inputs (replicate (length inputs) (Err e)) s
     → replies ≡ replicate (length inputs) (Refusal (refused_of e))
     → (IsTrue place.trusted → Leaves place s inputs (replicate (length inputs) (Err e)) d f) → (IsTrue place.trusted → store ≡ Ok tt → Holds place s f)
     → Submitted place store inputs replies h w (now s past marks [] d l) (now s past marks [] f m)
@@ -158,6 +165,7 @@ denied_as place e store s inputs past marks d f l m replies h w other quiet answ
   order = subst (λ actions. AreNew s.next s.next (started_numbers actions)) (sym (none_asked (length inputs) e)) (none_new s.next);
   spent = λ from free. as_told (never_spent place.layout m.generation place.size from s inputs e other);
   few = λ ok. never_called place s inputs e l m quiet;
+  fewer = λ ok. fewer_called place s inputs e l m quiet;
   replies_are = is ∙ denied_replies (length inputs) e;
   grew = λ ho wh. subst (λ actions. Grew s.units past past marks marks actions) (sym (none_asked (length inputs) e)) (grew_none s.units past marks);
   left = leaves;
@@ -180,7 +188,7 @@ tells_reopen size s inputs = record {
 
 denied_at : (place : Place) (f : StoreFault) (result : Result Unit declared.Refusal) (s : State) (inputs : List Input) (past : List Call) (marks : List ℕ) (d e : Past) (l m : LogEnd) (replies : List Reply) (h w : Bool)
     → StoreAnswers f result → replies ≡ replicate (length inputs) (Refusal (refused_of (refusal_of f)))
-    → (f ≡ fault.Reopen → place.trusted ≡ false) → e ≡ d → m ≡ l → (IsTrue place.trusted → Holds place s d)
+    → (f ≡ fault.Reopen → place.trusted ≡ false) → e ≡ d → IsQuiet l m → (IsTrue place.trusted → Holds place s d)
     → Submits place result inputs replies h w (now s past marks [] d l) (now s past marks [] e m)
 denied_at place fault.NoMemory result s inputs past marks d e l m replies h w answers is lost same quiet held =
     subst (λ r. Submits place r inputs replies h w (now s past marks [] d l) (now s past marks [] e m)) (sym answers) (
@@ -199,7 +207,7 @@ denied_at place fault.Reopen result s inputs past marks d e l m replies h w answ
 
 pub denied_all : (place : Place) (f : StoreFault) (result : Result Unit declared.Refusal) (s t : State) (inputs : List Input) (past : List Call) (marks : List ℕ) (d e : Past) (l m : LogEnd) (replies : List Reply) (h w : Bool)
     → StoreAnswers f result → t ≡ s → replies ≡ replicate (length inputs) (Refusal (refused_of (refusal_of f)))
-    → (f ≡ fault.Reopen → place.trusted ≡ false) → e ≡ d → m ≡ l → (IsTrue place.trusted → Holds place s d)
+    → (f ≡ fault.Reopen → place.trusted ≡ false) → e ≡ d → IsQuiet l m → (IsTrue place.trusted → Holds place s d)
     → Submits place result inputs replies h w (now s past marks [] d l) (now t past marks [] e m)
 denied_all place f result s t inputs past marks d e l m replies h w answers same is lost still quiet held =
     subst (λ u. Submits place result inputs replies h w (now s past marks [] d l) (now u past marks [] e m)) (sym same)
@@ -308,11 +316,11 @@ failed_answered n result told worked =
 pub submitted_all : (place : Place) (s t : State) (inputs : List Input) (answers : List Answer) (failed : Bool) (result : Result Unit declared.Refusal) (old new : List Call) (marks marked : List ℕ) (d e : Past)
     (l m : LogEnd) (replies : List Reply) (h w : Bool) → result ≡ (if failed then Err refusal.Device else Ok tt)
     → (failed ≡ false → AreAnswered place.size s inputs answers t) → (failed ≡ true → FellBack place.size s inputs answers t) → ((failed ≡ true) ↔ HasFault answers)
-    → AreNew s.next t.next (started_numbers (all_asked answers)) → AreSpent place s inputs answers l m → (failed ≡ false → MakesFewCalls place s inputs answers t l m) → replies ≡ map reply_in answers
+    → AreNew s.next t.next (started_numbers (all_asked answers)) → AreSpent place s inputs answers l m → (failed ≡ false → MakesFewCalls place s inputs answers t l m) → (failed ≡ false → MakesFewerCalls place s inputs answers t l m) → replies ≡ map reply_in answers
     → (IsTrue h → IsTrue w → Grew t.units old new marks marked (all_asked answers))
     → (IsTrue place.trusted → During d e (IsBegun place.layout s (taken inputs answers))) → (IsTrue place.trusted → failed ≡ false → Holds place t e)
     → Submits place result inputs replies h w (now s old marks [] d l) (now t new marked [] e m)
-submitted_all place s t inputs answers failed result old new marks marked d e l m replies h w reported taken back told order spent few is grew leaves holds =
+submitted_all place s t inputs answers failed result old new marks marked d e l m replies h w reported taken back told order spent few fewer is grew leaves holds =
     let reports = reports_of failed result reported in (
       (λ x. absurd (memory_not_device (reports.bad refusal.NoMemory x).0)),
       record {
@@ -322,6 +330,7 @@ submitted_all place s t inputs answers failed result old new marks marked d e l 
         order = order;
         spent = spent;
         few = λ ok. few (reports.good ok);
+        fewer = λ ok. fewer (reports.good ok);
         replies_are = is;
         grew = grew;
         left = leaves;

@@ -13,7 +13,7 @@ pub same_place : {m n : ℕ} {k l : Layout} {h i f g : Bool} → n ≡ m → l �
 same_place {m} {n} {k} {l} {h} {i} {f} {g} size layout honest failed =
     ap (λ x. place x l (is_trusted i g)) size ∙ ap (λ (x : Layout). place m x (is_trusted i g)) layout ∙ ap (λ x. place m k (is_trusted x g)) honest ∙ ap (λ x. place m k (is_trusted h x)) failed
 
-answered_no_device : {r : Result Unit Refusal} {u : Unit} → r ≡ Ok u → r ≡ Err Device → ⊥
+pub answered_no_device : {r : Result Unit Refusal} {u : Unit} → r ≡ Ok u → r ≡ Err Device → ⊥
 answered_no_device p q = cc
 
 -- a turn that is answered fails no call
@@ -25,6 +25,23 @@ same_failed {o = false} {n = true} is failed = elim (failed.0 refl) [ inl was �
 -- a refusal that is handed on
 pub same_err : (r t : Result Unit Refusal) (e : Refusal) → IsErrAnd r (λ y. y ≡ e) → t ≡ Err e → r ≡ t
 same_err r t e is was = let (y, err, same) = err_from_is_err_and r is in err ∙ ap Err same ∙ sym was
+
+-- a refusal that is handed on as another answer's
+pub handed_on : {A B : Type 0} {r : Result A Refusal} {t : Result B Refusal} {e y d : Refusal} → r ≡ Err y → y ≡ e → t ≡ Err e → t ≡ Err d → r ≡ Err d
+handed_on p q s u = cc
+
+pub handed_back : {A B : Type 0} {r : Result A Refusal} {t : Result B Refusal} {e y d : Refusal} → r ≡ Err y → y ≡ e → t ≡ Err e → r ≡ Err d → t ≡ Err d
+handed_back p q s u = cc
+
+pub ok_no_device : {A : Type 0} {x : A} → Ok x ≡ Err Device → ⊥
+ok_no_device p = cc
+
+-- a store has failed behind two calls where it had, or where the second answers E16
+pub failed_on : {A B : Type 0} {r : Result A Refusal} {t : Result B Refusal} {o m n : Bool} → m ≡ o → (t ≡ Err Device → r ≡ Err Device) → (r ≡ Err Device → t ≡ Err Device)
+    → ((n ≡ true) ↔ ((m ≡ true) ⊎ (t ≡ Err Device))) → (n ≡ true) ↔ ((o ≡ true) ⊎ (r ≡ Err Device))
+failed_on still there back failed =
+    ((λ is. elim (failed.0 is) [ inl was ↦ inl (sym still ∙ was) | inr device ↦ inr (there device) ]),
+    (λ is. failed.1 (elim is [ inl was ↦ inl (still ∙ was) | inr device ↦ inr (back device) ])))
 
 pub refused_not_ok : {r : Result Unit Refusal} {e : Refusal} → r ≡ Err e → r ≡ Ok tt → ⊥
 refused_not_ok p q = cc

@@ -1,14 +1,16 @@
 -- What the parts of a turn come to together.
 use Rattle.std.specs.Prelude.{IfErr}
 use Rattle.std.proofs.Common.{◌≡◌, ◌⊎◌, ◌||◌, inl, inr, ℕ, List, [], ◌∷◌, ◌++◌, length, drop, map, flat_map, Bool, IsTrue, Option, Result, Ok, Err, cond, refl, sym, ap, subst, ◌∙◌, append_assoc, append-nil}
-use Rattle.um_keeper.specs.Answering.{all_asked}
+use Rattle.um_keeper.specs.Answering.{all_asked, taken, AreSpentAsMeant}
+use Rattle.um_keeper.specs.Keeping.{IsBegun}
 use Rattle.um_model.specs.Children.{Call, Tale, orders, orders_in, tales, tales_in, refused, refusals_in}
 use Rattle.um_model.specs.Service.{ByUnit, Action}
 use Rattle.um_model.specs.declared.service.UnitState.{UnitState}
-use Rattle.um_model.specs.Machine.{Input, Reply}
+use Rattle.um_model.specs.Machine.{State, Input, Reply}
+use Rattle.um_model.specs.Store.{body_limit}
 use Rattle.um_model.specs.Sessions.{Session, Does, Room}
 use Rattle.um_model.specs.Stands.{IsStoreOf}
-use Rattle.um_laws.proofs.DiskLaws.{started}
+use Rattle.um_laws.proofs.DiskLaws.{started, at_end}
 use Rattle.um_proto.specs.declared.request.Request.{Request}
 use Rattle.um_sector.specs.Refused.{IsLost}
 use Rattle.um_wire.specs.declared.refusal.Refusal.{Refusal}
@@ -25,7 +27,8 @@ use Rattle.std.proofs.lemmas.List.Folds.{list_any-append}
 use Rattle.um_manager.specs.Places.{Place}
 use Rattle.um_manager.specs.Replies.{PaysAll}
 use Rattle.um_manager.specs.Stores.{Submits}
-use Rattle.um_manager.specs.Turns.{Now, now, firsts, inputs_of, first_refusal, Answers, Tells, AreSpent, MakesFewCalls, Leaves, Called, Turned}
+use Rattle.um_manager.proofs.Stepping.{all_begun, and_behind, few_behind, fewer_behind}
+use Rattle.um_manager.specs.Turns.{Now, now, firsts, inputs_of, Answers, Tells, MakesFewCalls, MakesFewerCalls, with_step, Leaves, WritesOn, Called, Turned}
 use Rattle.um_manager.specs.declared.pieces.Piece.{Piece}
 use Rattle.um_manager.specs.declared.pieces.Piece.TheVariants.{Nothing, Bytes, Closed}
 use Rattle.um_manager.specs.declared.taking.Due.{Due}
@@ -54,10 +57,6 @@ cuts_roomy (t ∷ ts) (r ∷ rs) (u ∷ us) (p ∷ ps) [] same cuts = absurd cut
 cuts_roomy (t ∷ ts) (r ∷ rs) (u ∷ us) (p ∷ ps) (q ∷ qs) same cuts =
     ((cuts.0.0, takes_roomy t r cuts.0.0 p same.0 cuts.0.1, cuts.0.2), cuts_roomy ts rs us ps qs same.1 cuts.1)
 
-nothing_more : (store : Result Unit Refusal) → store ≡ first_refusal store (Ok tt)
-nothing_more (Ok tt) = refl
-nothing_more (Err e) = refl
-
 -- the calls of a turn: those that ask, those that order, and those that let numbers go
 pub called : (units : ByUnit UnitState) (store : Result Unit Refusal) (told : List Tale) (actions : List Action) (old heard grown new : List Call) (marks marked : List ℕ) → HasFewLive units
     → heard ≡ old ++ map asks_for told → Grew units heard grown marks marked actions → LetGo units grown new → ((e : Refusal) → store ≡ Err e → new ≡ grown)
@@ -74,18 +73,23 @@ called units store told actions old heard grown new marks marked few asked grew 
       (sym (flat_map-append refusals_in grew.given let_go.given ∙ ap (λ l. refused grew.given ++ l) let_go.no_refusal ∙ append-nil (refused grew.given)));
 }
 
-pub turned : (place : Place) (store : Result Unit Refusal) (moment : ℕ) (pieces : List Piece) (a b : Now) (live : List ℕ) (past grown : List Call) (roomy cut : List Session)
-    (heard ticked inputs : List Input) (count : ℕ) (owed : List Due) (replies rest : List Reply) (h k w m y : Bool)
-    → AreLive a.state.units live → HasFewLive b.state.units → AllSame a.sessions roomy
-    → Heard unexecuted moment (λ n. has n a.marks) h m a.past past live [] heard → ticked ≡ heard ++ tick_at moment ∷ [] → count ≡ length ticked
+pub turned : (place at : Place) (store result : Result Unit Refusal) (moment : ℕ) (pieces : List Piece) (a m b : Now) (live : List ℕ) (past grown : List Call) (roomy cut : List Session)
+    (heard ticked inputs : List Input) (count : ℕ) (owed : List Due) (replies rest : List Reply) (h k w n y : Bool)
+    → AreLive a.state.units live → HasFewLive m.state.units → AllSame a.sessions roomy
+    → Heard unexecuted moment (λ n. has n a.marks) h n a.past past live [] heard → ticked ≡ heard ++ tick_at moment ∷ [] → count ≡ length ticked
     → Took moment roomy pieces cut ticked inputs [] owed
-    → Submits place store inputs replies k w (now a.state past a.marks [] a.disk a.log) (now b.state grown b.marks [] b.disk b.log)
-    → (IsTrue k → IsTrue y → LetGo b.state.units grown b.past) → ((e : Refusal) → store ≡ Err e → b.past ≡ grown) → rest ≡ drop count replies → PaysAll b.state owed rest cut b.sessions → k ≡ h → (IsTrue w → IsTrue m) → (IsTrue y → IsTrue w) → Turned place h y store moment pieces a b
-turned place store moment pieces a b live past grown roomy cut heard ticked inputs count owed replies rest h k w m y are_live few room told tick counted took submits lets still_there rest_is pays same fewer still =
+    → Submits place store inputs replies k w (now a.state past a.marks [] a.disk a.log) (now m.state grown b.marks [] m.disk m.log)
+    → WritesOn at store result m (now b.state [] [] [] b.disk b.log) → at.layout ≡ place.layout → (IsTrue place.trusted → store ≡ Ok tt → IsTrue at.trusted)
+    → place.size ≡ body_limit place.layout
+    → (IsTrue k → IsTrue y → LetGo m.state.units grown b.past) → ((e : Refusal) → store ≡ Err e → b.past ≡ grown) → rest ≡ drop count replies → PaysAll m.state owed rest cut b.sessions → k ≡ h → (IsTrue w → IsTrue n) → (IsTrue y → IsTrue w) → Turned place h y result moment pieces a b
+turned place at store result moment pieces a m b live past grown roomy cut heard ticked inputs count owed replies rest h k w n y are_live few room told tick counted took submits writes there sure sized lets still_there rest_is pays same fewer still =
     let sub = submits.1 in
     let first : ticked ≡ firsts moment told.told = tick ∙ ap (λ l. l ++ tick_at moment ∷ []) told.inputs_are in
     let all : inputs ≡ inputs_of moment told.told took.requests = took.inputs_are ∙ ap (λ l. l ++ flat_map (inputs_asked moment) took.requests) first in
-    record {
+    let begun = IsBegun place.layout a.state (taken inputs sub.answers) in
+    let on = and_behind place at store result m (now b.state [] [] [] b.disk b.log) writes there in
+    subst (λ (s : State). Turned place h y result moment pieces a (record b { state = s })) (sym writes.state)
+    (record {
       live = live;
       are_live = are_live;
       told = told.told;
@@ -94,27 +98,37 @@ turned place store moment pieces a b live past grown roomy cut heard ticked inpu
       cut = cut;
       cuts = cuts_roomy a.sessions roomy cut pieces took.requests room took.cuts;
       store = store;
-      behind = Ok tt;
-      result_is = nothing_more store;
-      nothing_behind = refl;
+      behind = writes.behind;
+      result_is = writes.result_is;
+      behind_is = writes.behind_is;
       answers = sub.answers;
-      answered = subst (λ l. Answers place a.state l sub.answers b.state) all sub.answered;
-      tells = subst (λ l. Tells store place.size a.state l sub.answers b.state) all sub.tells;
+      answered = subst (λ l. Answers place a.state l sub.answers m.state) all sub.answered;
+      tells = subst (λ l. Tells store place.size a.state l sub.answers m.state) all sub.tells;
       order = sub.order;
-      spent = subst (λ l. AreSpent place a.state l sub.answers a.log b.log) all sub.spent;
-      few = λ ok. subst (λ l. MakesFewCalls place a.state l sub.answers b.state a.log b.log) all (sub.few ok);
-      paid = subst (λ l. PaysAll b.state (map due_of took.requests) l cut b.sessions)
+      spent = λ from free. subst (λ l. AreSpentAsMeant place.layout b.log.generation place.size from a.state l sub.answers) all
+          (subst (λ g. AreSpentAsMeant place.layout g place.size from a.state inputs sub.answers) (sym writes.generation) (sub.spent from free));
+      few = λ ok. subst (λ l. MakesFewCalls place a.state l sub.answers m.state (with_step a.log) b.log) all
+          (few_behind place at store result a.state m.state inputs sub.answers a.log m (now b.state [] [] [] b.disk b.log) writes (sub.few ok));
+      fewer = λ ok. subst (λ l. MakesFewerCalls place a.state l sub.answers m.state (with_step a.log) b.log) all
+          (fewer_behind place at store result a.state m.state inputs sub.answers a.log m (now b.state [] [] [] b.disk b.log) writes (sub.fewer ok));
+      paid = subst (λ l. PaysAll m.state (map due_of took.requests) l cut b.sessions)
           (rest_is ∙ ap (λ n. drop n replies) (counted ∙ ap length first) ∙ ap (λ l. drop (length (firsts moment told.told)) l) sub.replies_are)
-          (subst (λ l. PaysAll b.state l rest cut b.sessions) took.due_are pays);
-      left = λ t. subst (λ l. Leaves place a.state l sub.answers a.disk b.disk) all (sub.left t);
-      stored = sub.stored;
-      offered = b.disk;
-      meanwhile = λ t. let left = sub.left t in record { calls = left.calls; later = []; at_is = left.is; new_is = refl };
-      steady = λ t ok. started b.disk (λ image. IsStoreOf place.layout image b.state) (sub.stored t ok);
+          (subst (λ l. PaysAll m.state l rest cut b.sessions) took.due_are pays);
+      left = λ t. subst (λ l. Leaves place a.state l sub.answers a.disk b.disk) all
+          (on (sure t) a.disk begun (λ ok image store_of. all_begun place.layout place.size a.state m.state inputs sub.answers image sized (sub.tells.ok ok) store_of) (sub.left t));
+      stored = λ t ok. at_end m.disk b.disk (λ image. IsStoreOf place.layout image m.state)
+          (on (sure t) m.disk (λ image. IsStoreOf place.layout image m.state) (λ so image store_of. store_of) (started m.disk (λ image. IsStoreOf place.layout image m.state) (sub.stored t ok)));
+      offered = m.disk;
+      meanwhile = λ t.
+          let first = sub.left t in
+          let later = on (sure t) m.disk (λ image. Unit) (λ so image store_of. tt) (started m.disk (λ image. Unit) (λ image is. tt)) in
+          record { calls = first.calls; later = later.calls; at_is = first.is; new_is = later.is };
+      steady = λ t ok. on (sure t) m.disk (λ image. IsStoreOf place.layout image m.state) (λ so image store_of. store_of)
+          (started m.disk (λ image. IsStoreOf place.layout image m.state) (sub.stored t ok));
       called = λ honest whole.
-          called b.state.units store told.told (all_asked sub.answers) a.past past grown b.past a.marks b.marks few (told.past_is honest (fewer (still whole)))
+          called m.state.units store told.told (all_asked sub.answers) a.past past grown b.past a.marks b.marks few (told.past_is honest (fewer (still whole)))
           (sub.grew (subst IsTrue (sym same) honest) (still whole)) (lets (subst IsTrue (sym same) honest) whole) still_there;
-    }
+    })
 
 -- the same turn, of a history of which less is known
 pub turned_less : {place : Place} {h k w v : Bool} {result : Result Unit Refusal} {moment : ℕ} {pieces : List Piece} {a b : Now} → (IsTrue k → IsTrue h) → (IsTrue v → IsTrue w)
@@ -130,13 +144,14 @@ turned_less less fewer t = record {
   store = t.store;
   behind = t.behind;
   result_is = t.result_is;
-  nothing_behind = t.nothing_behind;
+  behind_is = t.behind_is;
   answers = t.answers;
   answered = t.answered;
   tells = t.tells;
   order = t.order;
   spent = t.spent;
   few = t.few;
+  fewer = t.fewer;
   paid = t.paid;
   left = t.left;
   stored = t.stored;
@@ -145,11 +160,6 @@ turned_less less fewer t = record {
   steady = t.steady;
   called = λ honest whole. t.called (less honest) (fewer whole);
 }
-
--- a refusal of the store is one of the turn
-pub store_refuses : (r : Result Unit Refusal) → IfErr r (λ e. (e ≡ Device) ⊎ (e ≡ Reopen)) → IfErr r (λ e. IsLost e ⊎ (e ≡ Reopen))
-store_refuses (Ok u) refused = tt
-store_refuses (Err e) refused = elim refused [ inl device ↦ inl (inr device) | inr again ↦ inr again ]
 
 pub not_refused : (r : Result Unit Refusal) (u : Unit) (e : Refusal) → r ≡ Ok u → r ≡ Err e → ⊥
 not_refused r u e p q = cc

@@ -2,7 +2,7 @@
 -- No manual page has it: it is the project's own.
 -- The turn of the manager and its opening stand on this file.
 use Rattle.std.specs.Prelude.{◌≡◌, ◌≤◌, ◌-◌, ◌^◌, ℕ, Bool, true, false}
-use Rattle.um_keeper.specs.Keepers.{disk_in, size_in, layout_in, log_generation_in, next_in, has_failed}
+use Rattle.um_keeper.specs.Keepers.{disk_in, size_in, layout_in, log_generation_in, next_in, left_in, has_failed}
 use Rattle.um_keeper.specs.declared.keeper.Keeper.{Keeper}
 use Rattle.um_model.specs.Store.{body_limit, log_start}
 use Rattle.um_model.specs.declared.layout.Layout.{Layout}
@@ -30,14 +30,16 @@ is_trusted honest true = false
 abbrev pub place_in : {D : Type 0} {g : _} → (honest : Bool) → Keeper D g → Place
 place_in honest k = place (size_in k) (layout_in k) (is_trusted honest (has_failed k))
 
--- where the next record goes: in the log of which generation, and at which sector; and how many calls were made on the disk so far
+-- where the next record goes: in the log of which generation, and at which sector; how many sectors are left of a snapshot under way; and how many
+-- calls were made on the disk so far
 pub record LogEnd : Type 0 where
   pub generation : ℕ
   pub next : ℕ
+  pub left : ℕ
   pub calls : ℕ
 
 abbrev pub log_in : {D : Type 0} {g : disk.Ghosts D} → Keeper D g → LogEnd
-log_in {g = g} k = record { generation = log_generation_in k; next = next_in k; calls = g.calls (disk_in k) }
+log_in {g = g} k = record { generation = log_generation_in k; next = next_in k; left = left_in k; calls = g.calls (disk_in k) }
 
 -- in the last generation, now or once it comes to that, the log is free from this sector on
 pub record IsFreeFrom (layout : Layout) (log : LogEnd) (from : ℕ) : Type 0 where

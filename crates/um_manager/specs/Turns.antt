@@ -1,10 +1,10 @@
 -- What a turn of the manager does.
 -- No manual page has this: it is the project's own (docs/ARCHITECTURE.md, "The way of one input").
 -- The manager's calls stand on this file.
-use Rattle.std.specs.Prelude.{◌≡◌, ◌≢◌, ◌↔◌, ◌||◌, ℕ, List, [], ◌∷◌, ◌++◌, length, drop, map, flat_map, replicate, Bool, true, false, IsTrue, Option, Result, Ok, Err}
+use Rattle.std.specs.Prelude.{◌≡◌, ◌≢◌, ◌⊎◌, ◌↔◌, ◌+◌, ◌≤◌, ◌||◌, ℕ, List, [], ◌∷◌, ◌++◌, length, drop, map, flat_map, replicate, Bool, true, false, IsTrue, Option, Result, Ok, Err}
 use Rattle.std.specs.List.{list_any}
 use Rattle.um_children.specs.History.{lets_any, Spares}
-use Rattle.um_keeper.specs.Answering.{Answer, AreAnswered, FellBack, HasFault, AreSpentAsMeant, TakesCalls, all_asked, taken}
+use Rattle.um_keeper.specs.Answering.{Answer, AreAnswered, FellBack, HasFault, AreSpentAsMeant, TakesCalls, BeginsOne, all_asked, taken}
 use Rattle.um_keeper.specs.Keepers.{state_in}
 use Rattle.um_keeper.specs.Keeping.{IsBegun}
 use Rattle.um_keeper.specs.declared.keeper.Keeper.{Keeper}
@@ -81,11 +81,24 @@ abbrev pub AreSpent : Place → State → List Input → List Answer → LogEnd 
 AreSpent place s inputs answers old new = (from : ℕ) → IsFreeFrom place.layout old from
     → AreSpentAsMeant place.layout new.generation place.size from s inputs answers
 
--- Where no call on the disk failed there were few of them: the sectors of the inputs' records, a sync, and a snapshot for each generation by which the
--- log rose.
+-- Where no call on the disk failed there were few of them: the sectors of the inputs' records, a sync, and a snapshot and a sync for each generation by
+-- which the log rose.
 abbrev pub MakesFewCalls : Place → State → List Input → List Answer → State → LogEnd → LogEnd → Type 0
 MakesFewCalls place s inputs answers t old new =
     TakesCalls place.layout old.next old.generation new.generation old.calls new.calls place.size s inputs answers t
+
+-- Where no snapshot was under way and the log rose by one generation at most there were fewer: the sectors of the inputs' records, and two syncs.
+abbrev pub MakesFewerCalls : Place → State → List Input → List Answer → State → LogEnd → LogEnd → Type 0
+MakesFewerCalls place s inputs answers t old new =
+    old.left ≡ 0 → new.generation ≤ old.generation + 1 → BeginsOne old.calls new.calls place.size s inputs answers t
+
+-- the most calls that a turn makes behind the answer of its store: 16 sectors of a snapshot under way, a sync, its header, and a sync
+abbrev pub step_calls : ℕ
+step_calls = 19
+
+-- the log before a turn, where these are counted beside the others
+abbrev pub with_step : LogEnd → LogEnd
+with_step log = record log { calls = log.calls + step_calls }
 
 -- each image is a store of the state
 abbrev pub Holds : Place → State → Past → Type 0
@@ -99,10 +112,29 @@ pub record Submitted (place : Place) (store : Result Unit Refusal) (inputs : Lis
   pub order : AreNew a.state.next b.state.next (started_numbers (all_asked answers))
   pub spent : AreSpent place a.state inputs answers a.log b.log
   pub few : store ≡ Ok tt → MakesFewCalls place a.state inputs answers b.state a.log b.log
+  pub fewer : store ≡ Ok tt → MakesFewerCalls place a.state inputs answers b.state a.log b.log
   pub replies_are : replies ≡ map reply_in answers
   pub grew : IsTrue honest → IsTrue whole → Grew b.state.units a.past b.past a.marks b.marks (all_asked answers)
   pub left : IsTrue place.trusted → Leaves place a.state inputs answers a.disk b.disk
   pub stored : IsTrue place.trusted → store ≡ Ok tt → Holds place b.state b.disk
+
+-- of two results the first that is a refusal
+abbrev pub first_refusal : Result Unit Refusal → Result Unit Refusal → Result Unit Refusal
+first_refusal (Ok done) behind = behind
+first_refusal (Err e) behind = Err e
+
+-- What a turn writes behind the answer of its store: where that was Ok, the next sectors of a snapshot under way. Each image meanwhile is a store of
+-- the state, which stays as it is, and so does the place of the next record. A fault on the disk is told.
+pub record WritesOn (place : Place) (store result : Result Unit Refusal) (a b : Now) : Type 0 where
+  pub behind : Result Unit Refusal
+  pub result_is : result ≡ first_refusal store behind
+  pub behind_is : (behind ≡ Ok tt) ⊎ ((store ≡ Ok tt) × (behind ≡ Err Device))
+  pub state : b.state ≡ a.state
+  pub generation : b.log.generation ≡ a.log.generation
+  pub next : b.log.next ≡ a.log.next
+  pub calls : b.log.calls ≤ a.log.calls + step_calls
+  pub still : (e : Refusal) → store ≡ Err e → b.disk ≡ a.disk
+  pub steady : IsTrue place.trusted → store ≡ Ok tt → During a.disk b.disk (λ image. IsStoreOf place.layout image a.state)
 
 -- What the children's calls were: each fate that was told was asked, and then the orders were given, which are these actions. What is kept of a
 -- live number isn't let go, and where the store failed nothing is. Of the live numbers those whose start was refused are marked beside the others.
@@ -120,17 +152,12 @@ pub record Called (units : ByUnit UnitState) (store : Result Unit Refusal) (told
 abbrev pub inputs_of : ℕ → List Tale → List (Option (Result Request Refusal)) → List Input
 inputs_of moment told requests = firsts moment told ++ flat_map (inputs_asked moment) requests
 
--- of two results the first that is a refusal
-abbrev pub first_refusal : Result Unit Refusal → Result Unit Refusal → Result Unit Refusal
-first_refusal (Ok done) behind = behind
-first_refusal (Err e) behind = Err e
-
 -- What a turn did. It asked the fate of each live number once, ascending, of the marked ones with a claim. It took the pieces and of each
 -- connection the request of the first whole frame. It offered the inputs of the fates told, a tick and the requests, in this order, and each of
--- them was answered, and the numbers that were started are new; nothing is done behind the offer. Each request's reply is put out for its own
+-- them was answered, and the numbers that were started are new. Each request's reply is put out for its own
 -- connection, a query's from the state after all inputs. A crash meanwhile leaves a store of the state after a beginning of the inputs taken, and
 -- one behind it, where the store failed none, of all. `offered` is the disk as the store had answered: where it answered Ok, each image since then is
--- a store of the state behind. The history of children that are honest has, where it is whole, just what was asked.
+-- a store of the state behind; and only then something is written, of which a fault is told. The history of children that are honest has, where it is whole, just what was asked.
 pub record Turned (place : Place) (honest whole : Bool) (result : Result Unit Refusal) (moment : ℕ) (pieces : List Piece) (a b : Now) : Type 0 where
   pub live : List ℕ
   pub are_live : AreLive a.state.units live
@@ -142,13 +169,14 @@ pub record Turned (place : Place) (honest whole : Bool) (result : Result Unit Re
   pub store : Result Unit Refusal
   pub behind : Result Unit Refusal
   pub result_is : result ≡ first_refusal store behind
-  pub nothing_behind : behind ≡ Ok tt
+  pub behind_is : (behind ≡ Ok tt) ⊎ ((store ≡ Ok tt) × (behind ≡ Err Device))
   pub answers : List Answer
   pub answered : Answers place a.state (inputs_of moment told requests) answers b.state
   pub tells : Tells store place.size a.state (inputs_of moment told requests) answers b.state
   pub order : AreNew a.state.next b.state.next (started_numbers (all_asked answers))
   pub spent : AreSpent place a.state (inputs_of moment told requests) answers a.log b.log
-  pub few : store ≡ Ok tt → MakesFewCalls place a.state (inputs_of moment told requests) answers b.state a.log b.log
+  pub few : store ≡ Ok tt → MakesFewCalls place a.state (inputs_of moment told requests) answers b.state (with_step a.log) b.log
+  pub fewer : store ≡ Ok tt → MakesFewerCalls place a.state (inputs_of moment told requests) answers b.state (with_step a.log) b.log
   pub paid : PaysAll b.state (map due_of requests) (drop (length (firsts moment told)) (map reply_in answers)) cut b.sessions
   pub left : IsTrue place.trusted → Leaves place a.state (inputs_of moment told requests) answers a.disk b.disk
   pub stored : IsTrue place.trusted → store ≡ Ok tt → Holds place b.state b.disk

@@ -2,7 +2,7 @@ ghost use Rattle.std.specs.Prelude.{◌≡◌, ◌≢◌, ◌⊎◌, ◌↔◌, 
 ghost use Rattle.std.specs.List.{AllByRecursion};
 ghost use Rattle.um_children.specs.Frames.{KeepsChildren};
 ghost use Rattle.um_manager.specs.Frames.{Frame};
-ghost use Rattle.um_keeper.specs.Keepers.{disk_in, state_in, size_in, layout_in, has_failed, opened_in};
+ghost use Rattle.um_keeper.specs.Keepers.{disk_in, state_in, size_in, layout_in, left_in, has_failed, opened_in};
 ghost use Rattle.um_keeper.specs.Opening.{IsRead, IsSomeStore, IsUntaken, IsUnwritten};
 ghost use Rattle.um_manager.specs.Connections.{IsNew, HoldsFrameAt};
 ghost use Rattle.um_manager.specs.Going.{IsJustOpened, IsTurn, IsTaking, Continues};
@@ -135,8 +135,10 @@ impl<D: Disk, C: Children> Manager<D, C> {
 
     /// One turn at this moment over what came of the connections.
     ///
-    /// E15 before anything is taken, asked or offered. The store's E16 and E17, after the replies are put out: E16 exactly where the count of the
-    /// disk's failures rises, E17 exactly where it rose in an earlier call.
+    /// Behind an Ok of the store 16 sectors of a snapshot under way go out, or all that are left.
+    ///
+    /// E15 before anything is taken, asked or offered. The store's E16 and E17, after the replies are put out, and E16 of what goes out behind them,
+    /// though the inputs were answered: E16 exactly where the count of the disk's failures rises, E17 exactly where it rose in an earlier call.
     pub fn turn(&mut self, moment: Moment, pieces: &Pieces) -> Result<(), Refusal>
         ensures turns { Turns (place_in (D.honest (disk_in self.old.keeper)) self.old.keeper) result (C.honest self.old.children)
             (C.whole self.new.children) moment pieces.now
@@ -247,6 +249,14 @@ impl<D: Disk, C: Children> Manager<D, C> {
         ensures { result.now ≡ self.now.children }
     {
         &self.children
+    }
+
+    /// So many sectors of a body are left of the snapshot under way, and 0 exactly where none is: each turn writes the next of them, so one is to be
+    /// made soon, whatever comes.
+    pub fn left(&self) -> u32
+        ensures { result ≡ left_in self.now.keeper }
+    {
+        self.keeper.left()
     }
 
     /// What was read of the store when the manager was opened.

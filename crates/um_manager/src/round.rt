@@ -1,13 +1,13 @@
 //! One turn.
 
-ghost use Rattle.std.specs.Prelude.{◌≡◌, ◌≢◌, ◌⊎◌, ◌↔◌, ◌≤◌, ◌+◌, ◌*◌, [], true, Err, IfOk, IfErr, IsTrue, length, drop, vec_capacity};
+ghost use Rattle.std.specs.Prelude.{◌≡◌, ◌≢◌, ◌⊎◌, ◌↔◌, ◌≤◌, ◌+◌, ◌*◌, [], true, false, Err, IfOk, IfErr, OnOk, IsTrue, length, drop, vec_capacity};
 ghost use Rattle.um_children.specs.Frames.{KeepsChildren};
-ghost use Rattle.um_manager.specs.Frames.{Frame};
+ghost use Rattle.um_manager.specs.Frames.{Frame, KeepsStore};
 ghost use Rattle.um_keeper.specs.Keepers.{disk_in, has_failed};
 ghost use Rattle.um_fates.specs.Fates.{tick_at};
 ghost use Rattle.um_manager.specs.Orders.{LetGo};
 ghost use Rattle.um_manager.specs.Places.{place_in};
-ghost use Rattle.um_manager.specs.Turns.{Turns, now_in};
+ghost use Rattle.um_manager.specs.Turns.{Turns, WritesOn, now_in};
 ghost use Rattle.um_sector.specs.Refused.{CountsDevice, IsLost};
 ghost use Rattle.um_state.specs.View.{input_of};
 
@@ -117,7 +117,30 @@ fn forget_recorded<C: Children>(
     }
 }
 
-/// A turn: it hears the fates, takes the pieces, offers the inputs, carries out the actions, and puts out the replies.
+/// So many sectors of a snapshot under way go out behind each answer of the store, and what finishes it.
+const STEP: u32 = 16;
+
+/// Behind an Ok of the store the next sectors of a snapshot under way go out; E16 where a call on the disk fails then. A refusal of the store stays.
+fn write_on<D: Disk>(keeper: &mut Keeper<D>, submitted: Result<(), Refusal>) -> Result<(), Refusal>
+    requires working { OnOk submitted (has_failed keeper.old ≡ false) }
+    ensures writes { WritesOn (place_in (D.honest (disk_in keeper.old)) keeper.old) submitted result
+        (now_in keeper.old [] [] [] (D.past (disk_in keeper.old))) (now_in keeper.new [] [] [] (D.past (disk_in keeper.new))) }
+    ensures stays { IfErr submitted (λ e. result ≡ Err e) }
+    ensures still { IfErr submitted (λ e. keeper.new ≡ keeper.old) }
+    ensures refused { OnOk submitted (IfErr result (λ e. e ≡ Refusal.Device)) }
+    ensures device { OnOk submitted (CountsDevice result (D.failures (disk_in keeper.old)) (D.failures (disk_in keeper.new))) }
+    ensures store { OnOk submitted (KeepsStore D.Disk result keeper.old keeper.new) }
+{
+    match submitted {
+        Ok(()) => match keeper.step(STEP) {
+            Ok(_) => Ok(()),
+            Err(refusal) => Err(refusal),
+        },
+        Err(refusal) => Err(refusal),
+    }
+}
+
+/// A turn: it hears the fates, takes the pieces, offers the inputs, carries out the actions, puts out the replies, and goes on with a snapshot.
 #[tactic(auto, using(crate::proofs::Turning::all_same))]
 pub fn turn<D: Disk, C: Children>(
     alloc: Global,
@@ -175,5 +198,5 @@ pub fn turn<D: Disk, C: Children>(
         ended.as_slice(),
         &submitted,
     );
-    submitted
+    write_on(keeper, submitted)
 }

@@ -37,6 +37,8 @@ mod scripts;
 #[cfg(test)]
 mod serving;
 #[cfg(test)]
+mod stepping;
+#[cfg(test)]
 mod texts;
 #[cfg(test)]
 mod turns;

@@ -1,5 +1,5 @@
 -- Replies to a stream, frame by frame, where reader and writer tell their bytes.
-use Rattle.std.proofs.Common.{◌≡◌, ℕ, List, [], ◌++◌, Option, Some, None, Vec, Global}
+use Rattle.std.proofs.Common.{◌≡◌, ℕ, List, [], ◌++◌, Option, Some, None, Vec, Global, subst}
 use Rattle.std.specs.Io.KnownBytes.{Appends}
 use Rattle.std.proofs.KnownBytes.{Appends-trans}
 use Rattle.um_memory.specs.Managers.{state_of, size_of, kept_of, BeginsReply, nothing, front}
@@ -50,3 +50,13 @@ pub begins_end : (size : ℕ) (s : State) (kept : List Action) (a a' b b' : Opti
     → last_reply e ≡ part ++ more → Appends b b' part → BeginsFrom size s kept a b b'
 begins_end size s kept None a' b b' e part more c is w = tt
 begins_end size s kept (Some xs) a' b b' e part more c is w = (part, at_end e more c is, w)
+
+-- the same of a manager whose size, state and actions are as another's
+pub replies_same : {k l : ℕ} {s t : State} {x y : List Action} (a b new : Option (List ℕ)) (e : Ending) → l ≡ k → t ≡ s → y ≡ x → WritesFrom l t y a b new e
+    → WritesFrom k s x a b new e
+replies_same {k} {l} {s} {t} {x} {y} a b new e size state kept w =
+    subst (λ z. WritesFrom k s z a b new e) kept (subst (λ z. WritesFrom k z y a b new e) state (subst (λ z. WritesFrom z t y a b new e) size w))
+
+pub begins_same : {k l : ℕ} {s t : State} {x y : List Action} (a b new : Option (List ℕ)) → l ≡ k → t ≡ s → y ≡ x → BeginsFrom l t y a b new → BeginsFrom k s x a b new
+begins_same {k} {l} {s} {t} {x} {y} a b new size state kept w =
+    subst (λ z. BeginsFrom k s z a b new) kept (subst (λ z. BeginsFrom k z y a b new) state (subst (λ z. BeginsFrom z t y a b new) size w))

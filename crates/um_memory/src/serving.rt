@@ -53,13 +53,23 @@ fn reply_to(refusal: Refusal) -> Result<Reply, Fault>
 }
 
 /// The manager in memory.
-#[derive(Drop)]
 struct Manager {
     keeper: Keeper<MemDisk>,
     /// The actions since they were last asked for.
     kept: Vec<Action>,
     /// What the inputs count since the store was renewed.
     taken: usize,
+}
+
+// One call, where a derived one is taken apart at each exit.
+impl Drop for Manager {
+    fn drop(self) {
+        let Manager {
+            keeper: _keeper,
+            kept: _kept,
+            taken: _,
+        } = self;
+    }
 }
 
 impl Manager {
@@ -88,9 +98,15 @@ impl Manager {
         if self.taken < RENEWAL {
             return Ok(self);
         }
+        let Manager {
+            keeper,
+            kept,
+            taken: _,
+        } = self;
+        let keeper = renewed(alloc, keeper)?;
         Ok(Manager {
-            keeper: renewed(alloc, self.keeper)?,
-            kept: self.kept,
+            keeper,
+            kept,
             taken: 0,
         })
     }

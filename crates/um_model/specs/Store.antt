@@ -1,13 +1,13 @@
 -- What the sectors of a store are: its layout, the two slots with a header and a body each, and the log of records.
 -- No manual page has it: it is the project's own format (docs/FORMATS.md, "The store on its disk").
 -- The slots, the log and the keeper stand on this file.
-use Rattle.std.specs.Prelude.{◌≡◌, ◌+◌, ◌-◌, ◌*◌, ◌/◌, ◌^◌, ◌<◌, ◌≤◌, min, ℕ, zero, suc, List, [], ◌∷◌, ◌++◌, length, take, drop, replicate, codes}
+use Rattle.std.specs.Prelude.{◌≡◌, ◌⊎◌, ◌+◌, ◌-◌, ◌*◌, ◌/◌, ◌%◌, ◌^◌, ◌<◌, ◌≤◌, min, ℕ, zero, suc, List, [], ◌∷◌, ◌++◌, length, take, drop, replicate, codes}
 use Rattle.std.specs.Prelude.{Bool, true, ◌&&◌, bytes_eq, nat_lt, nat_le, if◌then◌else◌, Option, Some, None}
 use Rattle.byteorder.specs.Endian.{big_number, big_bytes}
 use Rattle.um_model.specs.Disk.{Sector, Image, Past, Images}
 use Rattle.um_model.specs.declared.layout.TheConstants.{CURRENT}
 use Rattle.um_model.specs.declared.layout.Format.{Format}
-use Rattle.um_model.specs.declared.layout.Format.TheVariants.{One}
+use Rattle.um_model.specs.declared.layout.Format.TheVariants.{One, Two}
 use Rattle.um_model.specs.declared.layout.Layout.{Layout}
 use Rattle.um_model.specs.declared.layout.Slot.{Slot}
 use Rattle.um_model.specs.declared.layout.Slot.TheVariants.{A, B}
@@ -32,6 +32,7 @@ store_name = codes "UMDISK"
 
 abbrev pub format_name : Format → List ℕ
 format_name One = codes "UMDISK01"
+format_name Two = codes "UMDISK02"
 
 -- sector 0 of a store: its format, and the numbers of sectors of a slot and of the log, in four bytes each
 unfoldable pub superblock : Format → Layout → Sector
@@ -46,13 +47,15 @@ slot_start layout B = layout.slot_sectors + 1
 abbrev pub first_log_sector : Layout → ℕ
 first_log_sector layout = 2 * layout.slot_sectors + 1
 
--- so many sectors of the log are for the records of a generation
+-- so many sectors of the log are for the records of a generation: of format 2 half of them, an odd one is left over
 abbrev pub area_sectors : Format → Layout → ℕ
 area_sectors One layout = layout.log_sectors
+area_sectors Two layout = layout.log_sectors / 2
 
--- the first of them, and the first behind them
+-- the first of them, and the first behind them: of format 2 even and odd generations take two areas in turn
 abbrev pub area_start : Format → Layout → ℕ → ℕ
 area_start One layout generation = first_log_sector layout
+area_start Two layout generation = first_log_sector layout + generation % 2 * area_sectors Two layout
 
 abbrev pub area_end : Format → Layout → ℕ → ℕ
 area_end format layout generation = area_start format layout generation + area_sectors format layout
@@ -167,6 +170,7 @@ pub data IsSlotRead (layout : Layout) (image : Image) : ℕ → Type 0 where
 -- the longest record, in bytes
 abbrev pub longest : Format → ℕ
 longest One = 131072
+longest Two = 122880
 
 -- that of a generation in the format in which stores are written
 abbrev pub record_limit : Layout → ℕ → ℕ
@@ -198,6 +202,7 @@ log_sector generation number part size payload =
 
 -- a whole record stands there: all its sectors are just as they are written
 pub record IsRecord (format : Format) (layout : Layout) (generation : ℕ) (image : Image) (number at : ℕ) (bytes : List ℕ) : Type 0 where
+  pub last : generation < 2 ^ 64
   pub some : 0 < length bytes
   pub short : length bytes ≤ longest format
   pub within : at + part_count (length bytes) ≤ area_end format layout generation
@@ -234,9 +239,9 @@ parts_stand generation image number at bytes (suc n) =
 -- that record stands there whole
 abbrev pub is_record : Format → Layout → ℕ → Image → ℕ → ℕ → List ℕ → Bool
 is_record format layout generation image number at bytes =
-    nat_lt 0 (length bytes) && (nat_le (length bytes) (longest format)
+    nat_lt generation (2 ^ 64) && (nat_lt 0 (length bytes) && (nat_le (length bytes) (longest format)
     && (nat_le (at + part_count (length bytes)) (area_end format layout generation)
-    && parts_stand generation image number at bytes (part_count (length bytes))))
+    && parts_stand generation image number at bytes (part_count (length bytes)))))
 
 -- the records from a place on, so many at most
 abbrev pub records_from : ℕ → Format → Layout → ℕ → Image → ℕ → ℕ → List (List ℕ)
@@ -298,17 +303,20 @@ pub data IsLogRead (format : Format) (layout : Layout) (generation : ℕ) (image
 
 -- ---- the whole store
 
--- the records of a generation count beside the newest snapshot: of format 1 those of its own generation
+-- the records of a generation count beside the newest snapshot: those of its own generation, and of format 2 those of the next one
 abbrev pub Counts : Format → ℕ → ℕ → Type 0
 Counts One newest generation = generation ≡ newest
+Counts Two newest generation = (generation ≡ newest) ⊎ (generation ≡ newest + 1)
 
 -- the greatest generation whose records count beside the newest snapshot
 abbrev pub top : Format → ℕ → ℕ
 top One newest = newest
+top Two newest = newest + 1
 
 -- all records that count beside the newest snapshot, in their order
 abbrev pub all_records : Format → Layout → ℕ → Image → List (List ℕ)
 all_records One layout newest image = records_of One layout newest image
+all_records Two layout newest image = records_of Two layout newest image ++ records_of Two layout (newest + 1) image
 
 -- What an image of a store holds: the newest header with its body, the records that count beside it, and none later in the log.
 pub record IsStore (format : Format) (layout : Layout) (image : Image) (slot : Slot) (generation : ℕ) (body : List ℕ) (records : List (List ℕ))

@@ -17,10 +17,13 @@ const SECTORS_MOST: u32 = 1 << 20;
 pub enum Format {
     /// One log, for all generations. The records of the newest snapshot's generation count.
     One,
+    /// Two areas of the log, which the generations take in turn. The records of the newest snapshot's generation count, and behind them
+    /// those of the next one.
+    Two,
 }
 
 /// The format in which stores are written.
-pub const CURRENT: Format = Format::One;
+pub const CURRENT: Format = Format::Two;
 
 /// One of the two places of a snapshot.
 #[derive(Clone, Copy, Debug, PartialEq, Eq)]
@@ -65,12 +68,13 @@ impl Format {
     {
         match self {
             Format::One => 131_072,
+            Format::Two => 122_880,
         }
     }
 }
 
 impl Layout {
-    ghost use Rattle.um_model.specs.Store.{slot_start, body_limit, first_log_sector, area_start, area_end, log_start, log_end, record_limit, store_sectors};
+    ghost use Rattle.um_model.specs.Store.{slot_start, body_limit, first_log_sector, area_sectors, area_start, area_end, log_start, log_end, record_limit, store_sectors};
 
     /// The layout of a store with slots and a log of so many sectors; None outside the limits.
     pub fn new(slot_sectors: u32, log_sectors: u32) -> Option<Layout>
@@ -113,12 +117,26 @@ impl Layout {
         2 * self.slot_sectors as usize + 1
     }
 
-    /// The first sector of a generation's records: of format 1 that of the log.
-    pub fn area_start(self, format: Format, _generation: u64) -> usize
-        ensures { result ≡ area_start format self _generation }
+    /// How many sectors of the log are for the records of a generation: of format 1 all, of format 2 half of them, rounded down.
+    pub fn area_sectors(self, format: Format) -> usize
+        ensures { result ≡ area_sectors format self }
+    {
+        match format {
+            Format::One => self.log_sectors as usize,
+            Format::Two => (self.log_sectors / 2) as usize,
+        }
+    }
+
+    /// The first sector of a generation's records: of format 1 that of the log; of format 2 an even generation has the first area, an odd
+    /// one the area behind it.
+    pub fn area_start(self, format: Format, generation: u64) -> usize
+        ensures { result ≡ area_start format self generation }
     {
         match format {
             Format::One => self.first_log_sector(),
+            Format::Two => {
+                self.first_log_sector() + (generation % 2) as usize * self.area_sectors(format)
+            }
         }
     }
 
@@ -126,9 +144,7 @@ impl Layout {
     pub fn area_end(self, format: Format, generation: u64) -> usize
         ensures { result ≡ area_end format self generation }
     {
-        match format {
-            Format::One => self.area_start(format, generation) + self.log_sectors as usize,
-        }
+        self.area_start(format, generation) + self.area_sectors(format)
     }
 
     /// The first sector of a generation's records in the format in which stores are written.

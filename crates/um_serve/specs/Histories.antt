@@ -1,5 +1,5 @@
 -- How what was done with a manager goes on with rounds over a gate, and what these offered to its store.
--- No manual page has this: it is the project's own (docs/HEADLINE.md, "Which call gives a life").
+-- No manual page has this: it is the project's own (docs/HEADLINE.md, "Which call gives what").
 -- `serve` stands on this file.
 use Rattle.std.specs.Prelude.{◌≡◌, ◌≢◌, List, [], ◌∷◌, ◌++◌, Result, Ok, Err}
 use Rattle.um_manager.specs.Done.{TakesOut}

@@ -1,5 +1,5 @@
 -- A snapshot that is being written is there whole or not at all, and the store with it is the next generation.
-use Rattle.std.specs.Prelude.{◌≡◌, ◌⊎◌, ◌+◌, ◌*◌, ◌^◌, ◌<◌, ◌≤◌, ℕ, zero, suc, List, [], ◌++◌, length, take, drop}
+use Rattle.std.specs.Prelude.{◌≡◌, ◌+◌, ◌*◌, ◌^◌, ◌<◌, ◌≤◌, ℕ, zero, suc, List, [], ◌++◌, length, take, drop}
 use Rattle.std.proofs.Common.{refl, sym, ◌∙◌, ap, subst, inl, inr, ⊎_elim, arith}
 use Rattle.std.proofs.Math.Seq.{take-append-add}
 use Rattle.std.proofs.lemmas.Bool.{cases_lt}
@@ -10,10 +10,10 @@ use Rattle.um_model.specs.declared.layout.Format.{Format}
 use Rattle.um_model.specs.declared.layout.Layout.{Layout}
 use Rattle.um_model.specs.declared.layout.Slot.{Slot}
 use Rattle.um_model.specs.declared.layout.Slot.TheVariants.{A, B}
-use Rattle.um_model.specs.Store.{current, first_log_sector, all_records, records_of, log_start, IsNoneAbove, IsLogEnd, IsStore, GoesOn, filled, superblock, slot_start, other, body_limit, IsHeader, sector_count, joined, body_at, IsNewest, HasNoHeader}
-use Rattle.um_laws.proofs.CountedLaws.{none_counts, same_all, below_top, above_later, counts_own, top_fits, log_anew}
-use Rattle.um_laws.proofs.StoreLaws.{same_header, filled_whole, take-filled, behind_slot, before_slot, home_same, kept_newest, same_above}
-use Rattle.um_slot.specs.Snapshots.{body_sector, IsBeside, IsSnapshot, MaybeSnapshot, AfterSnapshot, HasStore, EitherSnapshot, HasNewest, EitherNewest}
+use Rattle.um_model.specs.Store.{current, first_log_sector, all_records, records_of, log_start, IsOf, IsNoneAbove, IsLogEnd, IsStore, GoesOn, filled, superblock, slot_start, other, body_limit, IsHeader, sector_count, joined, body_at, IsNewest, HasNoHeader}
+use Rattle.um_laws.proofs.CountedLaws.{none_counts, same_all, same_log, below_top, top_later, above_later, counts_own, log_anew}
+use Rattle.um_laws.proofs.StoreLaws.{area_within, same_header, filled_whole, take-filled, behind_slot, before_slot, home_same, kept_newest, same_above}
+use Rattle.um_slot.specs.Snapshots.{body_sector, IsBeside, IsSnapshot, MaybeSnapshot, AfterSeal, HasStore, EitherSnapshot, HasNewest, EitherNewest}
 
 -- ---- a body that is written
 
@@ -98,101 +98,151 @@ kept_above {layout} {slot} maybe none = same_above layout (λ j low high. maybe.
 
 -- ---- the whole store while a snapshot is written into the other slot
 
-module _ {format : Format} {layout : Layout} {old image : Image} {slot : Slot} {newest last : ℕ} {before body : List ℕ} (above : newest ≤ last)
-    (has : HasNewest format layout slot newest before last old) (maybe : MaybeSnapshot layout old (other slot) (last + 1) body image) where
+module _ {layout : Layout} {old image : Image} (slot : Slot) {later : ℕ} {body : List ℕ} (maybe : MaybeSnapshot layout old (other slot) later body image) where
   log_same : (j : ℕ) → first_log_sector layout ≤ j → image j ≡ old j
   log_same j low = maybe.outside j (inr (behind_slot layout (other slot) j low))
 
-  first_same : image 0 ≡ superblock format layout
-  first_same = maybe.outside 0 (inl (before_slot layout (other slot))) ∙ has.first
+  first_same : (format : Format) → old 0 ≡ superblock format layout → image 0 ≡ superblock format layout
+  first_same format is = maybe.outside 0 (inl (before_slot layout (other slot))) ∙ is
 
+  above_same : {last : ℕ} → IsNoneAbove layout old last → IsNoneAbove layout image last
+  above_same none = same_above layout (λ j low high. log_same j low) none
+
+  all_same : (format : Format) (newest : ℕ) → all_records format layout newest image ≡ all_records format layout newest old
+  all_same format newest = same_all format layout newest old image (λ j low high. log_same j low)
+
+  module _ {newest : ℕ} {before : List ℕ} (snapshot : IsNewest layout old slot newest before) where
+    snapshot_same : image (slot_start layout (other slot)) ≡ old (slot_start layout (other slot)) → IsNewest layout image slot newest before
+    snapshot_same same = kept_newest snapshot maybe.outside same
+
+    snapshot_new : newest < later → later < 2 ^ 64 → length body ≤ body_limit layout → IsSnapshot layout image (other slot) later body → IsNewest layout image (other slot) later body
+    snapshot_new above small fits there = new_newest snapshot (home_same snapshot maybe.outside) above small fits there
+
+module _ {format : Format} {layout : Layout} {old image : Image} {slot : Slot} {newest last : ℕ} {before body : List ℕ} (above : newest ≤ last)
+    (has : HasNewest format layout slot newest before last old) (maybe : MaybeSnapshot layout old (other slot) (last + 1) body image) where
   -- no log sector is of the next generation
   next_above : IsNoneAbove layout image last
-  next_above = same_above layout (λ j low high. log_same j low) has.none_later
+  next_above = above_same slot maybe has.none_later
 
-  snapshot_same : image (slot_start layout (other slot)) ≡ old (slot_start layout (other slot)) → IsNewest layout image slot newest before
-  snapshot_same same = kept_newest has.snapshot maybe.outside same
-
-  -- with the whole snapshot, nothing of its generation stands in the log
-  new_store : last + 1 < 2 ^ 64 → length body ≤ body_limit layout → IsSnapshot layout image (other slot) (last + 1) body → IsStore format layout image (other slot) (last + 1) body []
-  new_store small fits snapshot = record {
-    first = first_same;
-    newest = new_newest has.snapshot (home_same has.snapshot maybe.outside) (omega (arith, above)) small fits snapshot;
-    records_are = sym (none_counts format layout (last + 1) last image (top_fits format (last + 1) small) (omega arith) next_above);
-    none_later = above_later layout (let low = below_top format (last + 1) in omega (arith, low)) next_above;
+  -- the whole snapshot is the newest
+  renewed : last + 1 < 2 ^ 64 → length body ≤ body_limit layout → IsSnapshot layout image (other slot) (last + 1) body → HasNewest format layout (other slot) (last + 1) body last image
+  renewed small fits there = record {
+    first = first_same slot maybe format has.first;
+    snapshot = snapshot_new slot maybe has.snapshot (omega (arith, above)) small fits there;
+    none_later = next_above;
   }
+
+  -- and nothing of its generation stands in the log
+  new_store : last + 1 < 2 ^ 64 → length body ≤ body_limit layout → IsSnapshot layout image (other slot) (last + 1) body → IsStore format layout image (other slot) (last + 1) body []
+  new_store small fits there =
+      let now = renewed small fits there in
+      record {
+        first = now.first;
+        newest = now.snapshot;
+        records_are = sym (none_counts format layout (last + 1) last image (omega arith) next_above);
+        none_later = above_later layout (let low = below_top format (last + 1) in omega (arith, low)) next_above;
+      }
 
   -- What a crash leaves meanwhile has the newest snapshot and the log of before, or the new snapshot and no record.
   either_newest : {past : Past} → IsImage past old → last + 1 < 2 ^ 64 → length body ≤ body_limit layout → EitherNewest format layout past slot newest before last body image
   either_newest {past} was small fits = ⊎_elim {C = EitherNewest format layout past slot newest before last body image}
-      (λ same. inl (record { from = old; was = was; first = first_same; snapshot = snapshot_same same; log = log_same }))
-      (λ snapshot. inr (new_store small fits snapshot)) maybe.inside
-
--- a store has its newest snapshot, and none of a later generation
-has_newest : {layout : Layout} {image : Image} {slot : Slot} {generation : ℕ} {body : List ℕ} {records : List (List ℕ)} → IsStore current layout image slot generation body records
-    → HasNewest current layout slot generation body generation image
-has_newest store = record { first = store.first; snapshot = store.newest; none_later = store.none_later }
+      (λ same. inl (record { from = old; was = was; first = first_same slot maybe format has.first; snapshot = snapshot_same slot maybe has.snapshot same; log = log_same slot maybe }))
+      (λ there. inr (new_store small fits there)) maybe.inside
 
 module _ {layout : Layout} {old image : Image} {slot : Slot} {generation : ℕ} {before body : List ℕ} {records : List (List ℕ)} (store : IsStore current layout old slot generation before records)
     (maybe : MaybeSnapshot layout old (other slot) (generation + 1) body image) where
-  same : generation ≤ generation
-  same = omega arith
-
   kept_store : image (slot_start layout (other slot)) ≡ old (slot_start layout (other slot)) → IsStore current layout image slot generation before records
-  kept_store beside = record {
-    first = first_same same (has_newest store) maybe;
-    newest = snapshot_same same (has_newest store) maybe beside;
-    records_are = store.records_are ∙ sym (same_all current layout generation old image (λ j low high. log_same same (has_newest store) maybe j low));
-    none_later = next_above same (has_newest store) maybe;
+  kept_store same = record {
+    first = first_same slot maybe current store.first;
+    newest = snapshot_same slot maybe store.newest same;
+    records_are = store.records_are ∙ sym (all_same slot maybe current generation);
+    none_later = above_same slot maybe store.none_later;
   }
 
-  -- What a crash leaves meanwhile is the store as it was, or with the new snapshot and no record.
-  pub either_store : generation + 1 < 2 ^ 64 → length body ≤ body_limit layout
-      → IsStore current layout image slot generation before records ⊎ IsStore current layout image (other slot) (generation + 1) body []
-  either_store last fits = ⊎_elim (λ beside. inl (kept_store beside)) (λ snapshot. inr (new_store same (has_newest store) maybe last fits snapshot)) maybe.inside
+  -- with the whole snapshot the records beside it count
+  next_store : generation + 1 < 2 ^ 64 → length body ≤ body_limit layout → IsSnapshot layout image (other slot) (generation + 1) body
+      → IsStore current layout image (other slot) (generation + 1) body (all_records current layout (generation + 1) old)
+  next_store last fits there = record {
+    first = first_same slot maybe current store.first;
+    newest = snapshot_new slot maybe store.newest (omega arith) last fits there;
+    records_are = sym (all_same slot maybe current (generation + 1));
+    none_later = above_later layout (top_later current generation (generation + 1) (omega arith)) (above_same slot maybe store.none_later);
+  }
+
+  -- the log goes on where it did
+  end_same : {number next : ℕ} → IsLogEnd layout (generation + 1) old (records_of current layout (generation + 1) old) number next
+      → IsLogEnd layout (generation + 1) image (records_of current layout (generation + 1) image) number next
+  end_same {number} {next} end =
+      let within = area_within current layout (generation + 1) in
+      let place = end.place in
+      subst (λ (l : List (List ℕ)). IsLogEnd layout (generation + 1) image l number next)
+      (sym (same_log current layout (generation + 1) old image (λ j low high. log_same slot maybe j low)))
+      (record {
+        count = end.count;
+        place = end.place;
+        within = end.within;
+        free = λ theirs j low high is. end.free theirs j low high (subst (IsOf theirs) (log_same slot maybe j (omega (arith, low, place, within.0))) is);
+      })
 
 -- ---- the same of whole runs of calls
 
 module _ {format : Format} {layout : Layout} (past : Past) {slot : Slot} {newest last : ℕ} {before : List ℕ} (above : newest ≤ last)
     (all : Images past (HasNewest format layout slot newest before last)) where
   -- while a snapshot is written into the other slot
-  pub during_newest : {new : Past} {body : List ℕ} → last + 1 < 2 ^ 64 → length body ≤ body_limit layout
-      → During past new (AfterSnapshot layout past (other slot) (last + 1) body) → During past new (EitherNewest format layout past slot newest before last body)
-  during_newest {new} {body} small fits run = weaker past new _ _ (λ image m. either_newest above (all m.from m.was) m.maybe m.was small fits) run
+  pub during_newest : {new : Past} {body : List ℕ} → last + 1 < 2 ^ 64 → length body ≤ body_limit layout → IsImage past (seen past)
+      → During past new (AfterSeal layout past (other slot) (last + 1) body) → During past new (EitherNewest format layout past slot newest before last body)
+  during_newest {new} {body} small fits is run = weaker past new _ _
+      (λ image m. ⊎_elim {C = EitherNewest format layout past slot newest before last body image}
+      (λ was. let has = all image was in inl (record { from = image; was = was; first = has.first; snapshot = has.snapshot; log = λ j low. refl }))
+      (λ maybe. either_newest above (all (seen past) is) maybe is small fits) m) run
+
+  -- and behind it
+  pub renewed_newest : (new : Past) {body : List ℕ} → last + 1 < 2 ^ 64 → length body ≤ body_limit layout → IsImage past (seen past)
+      → MaybeSnapshot layout (seen past) (other slot) (last + 1) body (seen new) → IsSnapshot layout (seen new) (other slot) (last + 1) body → IsSettled new
+      → Images new (HasNewest format layout (other slot) (last + 1) body last)
+  renewed_newest new {body} small fits is maybe there done image at =
+      subst (HasNewest format layout (other slot) (last + 1) body last) (sym (done image at)) (renewed above (all (seen past) is) maybe small fits there)
 
 module _ {layout : Layout} (past : Past) {slot : Slot} {newest last : ℕ} {before : List ℕ} (above : newest ≤ last) (all : Images past (HasNewest current layout slot newest before last)) where
-  -- and behind it
+  -- where the log then goes on
   pub goes_on_newest : {new : Past} {body : List ℕ} → last + 1 < 2 ^ 64 → length body ≤ body_limit layout → IsImage past (seen past)
       → MaybeSnapshot layout (seen past) (other slot) (last + 1) body (seen new) → IsSnapshot layout (seen new) (other slot) (last + 1) body → IsSettled new
       → GoesOn layout new (other slot) (last + 1) body [] (last + 1) 0 (log_start layout (last + 1))
-  goes_on_newest {new} {body} small fits is maybe snapshot done =
+  goes_on_newest {new} {body} small fits is maybe there done =
       let none : IsNoneAbove layout (seen new) last = next_above above (all (seen past) is) maybe in
       record {
         counts = counts_own current (last + 1);
-        store = λ image at. subst (λ i. IsStore current layout i (other slot) (last + 1) body []) (sym (done image at)) (new_store above (all (seen past) is) maybe small fits snapshot);
+        store = λ image at. subst (λ i. IsStore current layout i (other slot) (last + 1) body []) (sym (done image at)) (new_store above (all (seen past) is) maybe small fits there);
         above = λ image at. subst (λ (i : Image). IsNoneAbove layout i (last + 1)) (sym (done image at)) (above_later layout (omega arith) none);
         end = λ image at. subst (λ i. IsLogEnd layout (last + 1) i (records_of current layout (last + 1) i) 0 (log_start layout (last + 1))) (sym (done image at))
-            (log_anew layout (last + 1) last (seen new) small (omega arith) none);
+            (log_anew layout (last + 1) last (seen new) (omega arith) none);
       }
 
 module _ {layout : Layout} (past : Past) {slot : Slot} {generation : ℕ} {before : List ℕ} (stores : Images past (HasStore layout slot generation before)) where
-  -- a read gives no record of the next generation
-  none_new : generation + 1 < 2 ^ 64 → IsImage past (seen past) → all_records current layout (generation + 1) (seen past) ≡ []
-  none_new last is = none_counts current layout (generation + 1) generation (seen past) (top_fits current (generation + 1) last) (omega arith) (stores (seen past) is).none_later
-
   -- while a snapshot is written into the other slot
   pub during_other : {new : Past} {body : List ℕ} → generation + 1 < 2 ^ 64 → length body ≤ body_limit layout → IsImage past (seen past)
-      → During past new (AfterSnapshot layout past (other slot) (generation + 1) body) → During past new (EitherSnapshot layout past slot generation before body)
+      → During past new (AfterSeal layout past (other slot) (generation + 1) body) → During past new (EitherSnapshot layout past slot generation before body)
   during_other {new} {body} last fits is run = weaker past new _ _
-      (λ image m. ⊎_elim {C = EitherSnapshot layout past slot generation before body image} (λ kept. inl (record { from = m.from; was = m.was; store = kept }))
-      (λ done. inr (subst (λ (l : List (List ℕ)). IsStore current layout image (other slot) (generation + 1) body l) (sym (none_new last is)) done))
-      (either_store (stores m.from m.was) m.maybe last fits)) run
+      (λ image m. ⊎_elim {C = EitherSnapshot layout past slot generation before body image}
+      (λ was. inl (record { from = image; was = was; store = stores image was }))
+      (λ maybe. ⊎_elim {C = EitherSnapshot layout past slot generation before body image}
+      (λ same. inl (record { from = seen past; was = is; store = kept_store (stores (seen past) is) maybe same }))
+      (λ there. inr (next_store (stores (seen past) is) maybe last fits there)) maybe.inside) m) run
 
   -- and behind it
   pub goes_on_other : {new : Past} {body : List ℕ} → generation + 1 < 2 ^ 64 → length body ≤ body_limit layout → IsImage past (seen past)
       → MaybeSnapshot layout (seen past) (other slot) (generation + 1) body (seen new) → IsSnapshot layout (seen new) (other slot) (generation + 1) body → IsSettled new
-      → GoesOn layout new (other slot) (generation + 1) body [] (generation + 1) 0 (log_start layout (generation + 1))
-  goes_on_other = goes_on_newest past (omega arith) (λ image is. has_newest (stores image is))
+      → (number next : ℕ) → IsLogEnd layout (generation + 1) (seen past) (records_of current layout (generation + 1) (seen past)) number next
+      → GoesOn layout new (other slot) (generation + 1) body (all_records current layout (generation + 1) (seen past)) (generation + 1) number next
+  goes_on_other {new} {body} last fits is maybe there done number next end =
+      let store = stores (seen past) is in
+      record {
+        counts = counts_own current (generation + 1);
+        store = λ image at. subst (λ i. IsStore current layout i (other slot) (generation + 1) body (all_records current layout (generation + 1) (seen past))) (sym (done image at))
+            (next_store store maybe last fits there);
+        above = λ image at. subst (λ (i : Image). IsNoneAbove layout i (generation + 1)) (sym (done image at)) (above_same slot maybe store.none_later);
+        end = λ image at. subst (λ i. IsLogEnd layout (generation + 1) i (records_of current layout (generation + 1) i) number next) (sym (done image at)) (end_same store maybe end);
+      }
 
 -- ---- parts of a body, and then its header
 
@@ -209,23 +259,25 @@ module _ {layout : Layout} {past : Past} {slot : Slot} {image : Image} (b : IsBe
   all_beside generation = same_all current layout generation b.from image (λ j low high. log_beside j low)
 
   -- and so are sector 0 and the newest snapshot
+  beside_snapshot : {newest : ℕ} {before : List ℕ} → IsNewest layout b.from slot newest before → IsNewest layout image slot newest before
+  beside_snapshot snapshot =
+      kept_newest snapshot (λ j out. b.same j (⊎_elim (λ low. inl (omega (arith, low))) (λ high. inr high) out)) (b.same (slot_start layout (other slot)) (inl (omega arith)))
+
   beside_newest : {format : Format} {newest last : ℕ} {before : List ℕ} → HasNewest format layout slot newest before last b.from → HasNewest format layout slot newest before last image
   beside_newest has = record {
     first = b.same 0 (inl (omega arith)) ∙ has.first;
-    snapshot = kept_newest has.snapshot (λ j out. b.same j (⊎_elim (λ low. inl (omega (arith, low))) (λ high. inr high) out)) (b.same (slot_start layout (other slot)) (inl (omega arith)));
+    snapshot = beside_snapshot has.snapshot;
     none_later = same_above layout (λ j low high. log_beside j low) has.none_later;
   }
 
   -- so it is the same store
   beside_store : {newest : ℕ} {before : List ℕ} → HasStore layout slot newest before b.from → IsStore current layout image slot newest before (all_records current layout newest b.from)
-  beside_store {newest} store =
-      let has = beside_newest (has_newest store) in
-      record {
-        first = has.first;
-        newest = has.snapshot;
-        records_are = sym (all_beside newest);
-        none_later = same_above layout (λ j low high. log_beside j low) store.none_later;
-      }
+  beside_store {newest} store = record {
+    first = b.same 0 (inl (omega arith)) ∙ store.first;
+    newest = beside_snapshot store.newest;
+    records_are = sym (all_beside newest);
+    none_later = same_above layout (λ j low high. log_beside j low) store.none_later;
+  }
 
 module _ {layout : Layout} {old mid : Past} {slot : Slot} (parts : During old mid (IsBeside layout old slot)) where
   module _ {generation : ℕ} {before : List ℕ} (stores : Images old (HasStore layout slot generation before)) where

@@ -9,7 +9,7 @@ use Rattle.um_model.specs.declared.layout.Layout.{Layout}
 use Rattle.um_model.specs.declared.layout.Slot.{Slot}
 use Rattle.um_laws.proofs.StoreLaws.{before_slot}
 use Rattle.um_model.specs.Store.{slot_start, other, body_limit, sector_count, header_sector}
-use Rattle.um_slot.specs.Snapshots.{body_sector, part_run, IsWritten, IsBeside, IsSnapshot, MaybeSnapshot, AfterSnapshot}
+use Rattle.um_slot.specs.Snapshots.{body_sector, part_run, IsWritten, IsBeside, IsSnapshot, MaybeSnapshot, AfterSnapshot, AfterSeal}
 use Rattle.std.proofs.lemmas.List.FromFn.{length-map-range_with_len, get_or-map-range_with_len}
 
 -- a part of a body has so many sectors, each in its place
@@ -94,21 +94,22 @@ module _ (layout : Layout) (slot : Slot) (generation : ℕ) (body : List ℕ) wh
     done_maybe image laid = record { outside = λ j out. laid.outside j (header_beside j out); inside = inr (header_done image laid) }
 
   -- the sync before it
-  pub sealing : {T E : Type 0} (result : Result T E) (old mid : Past) → IsImage old (seen old) → Synced result old mid → During old mid (AfterSnapshot layout old slot generation body)
-  sealing result old mid is sync = during_sync result old mid (AfterSnapshot layout old slot generation body) sync
-      (record { from = seen old; was = is; maybe = as_it_was (seen old) }) (λ image at. record { from = image; was = at; maybe = as_it_was image })
+  pub sealing : {T E : Type 0} (result : Result T E) (old mid : Past) → IsImage old (seen old) → Synced result old mid → During old mid (AfterSeal layout old slot generation body)
+  sealing result old mid is sync = during_sync result old mid (AfterSeal layout old slot generation body) sync (inl is) (λ image at. inl at)
 
   -- and then the header
   pub sealed : (old mid new : Past) → IsImage old (seen old) → mid ≡ after synced old → IsWritten layout (seen old) slot body (sector_count (length body))
-      → During mid new (MaybeLaid (seen mid) start (header_sector generation (length body) ∷ [])) → During old new (AfterSnapshot layout old slot generation body)
+      → During mid new (MaybeLaid (seen mid) start (header_sector generation (length body) ∷ [])) → During old new (AfterSeal layout old slot generation body)
   sealed old mid new is sync all run =
       let result : Result (Unit {0}) (Unit {0}) = Ok tt in
-      followed old mid new (AfterSnapshot layout old slot generation body) (sealing result old mid is sync)
-      (weaker mid new _ _ (λ image maybe. record {
-        from = seen old;
-        was = is;
-        maybe = header_maybe (seen old) all image (subst (λ (p : Past). MaybeLaid (seen p) start (header_sector generation (length body) ∷ []) image) sync maybe);
-      }) run)
+      followed old mid new (AfterSeal layout old slot generation body) (sealing result old mid is sync)
+      (weaker mid new _ _ (λ image maybe.
+      inr (header_maybe (seen old) all image (subst (λ (p : Past). MaybeLaid (seen p) start (header_sector generation (length body) ∷ []) image) sync maybe))) run)
+
+  -- either way it is of an image of before
+  pub of_before : (past : Past) (image : Image) → IsImage past (seen past) → AfterSeal layout past slot generation body image → AfterSnapshot layout past slot generation body image
+  of_before past image is (inl was) = record { from = image; was = was; maybe = as_it_was image }
+  of_before past image is (inr maybe) = record { from = seen past; was = is; maybe = maybe }
 
 -- ---- both
 
@@ -134,10 +135,11 @@ module _ (layout : Layout) (home : Slot) (generation : ℕ) (body : List ℕ) wh
     inside = ⊎_elim (λ kept. inl (kept ∙ same (slot_start layout (other home)) (inl (omega arith)))) (λ there. inr there) maybe.inside;
   }
 
-  pub both_maybe : (old mid new : Past) → During old mid (IsBeside layout old home) → During mid new (AfterSnapshot layout mid (other home) generation body)
+  pub both_maybe : (old mid new : Past) → IsImage mid (seen mid) → During old mid (IsBeside layout old home) → During mid new (AfterSeal layout mid (other home) generation body)
       → During old new (AfterSnapshot layout old (other home) generation body)
-  both_maybe old mid new first second = followed old mid new (AfterSnapshot layout old (other home) generation body) (parts_maybe old mid first)
-      (weaker mid new _ _ (λ image m.
+  both_maybe old mid new is first second = followed old mid new (AfterSnapshot layout old (other home) generation body) (parts_maybe old mid first)
+      (weaker mid new _ _ (λ image after.
+      let m = of_before layout (other home) generation body mid image is after in
       let there = at_end old mid _ first m.from m.was in
       record { from = there.from; was = there.was; maybe = maybe_on there.from m.from image there.same m.maybe }) second)
 

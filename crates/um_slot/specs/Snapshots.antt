@@ -43,6 +43,10 @@ pub record AfterSnapshot (layout : Layout) (past : Past) (slot : Slot) (generati
   pub was : IsImage past from
   pub maybe : MaybeSnapshot layout from slot generation body image
 
+-- while a header is written behind a sync: an image of before, or what a read gave, with the snapshot there or not
+abbrev pub AfterSeal : Layout → Past → Slot → ℕ → List ℕ → Image → Type 0
+AfterSeal layout past slot generation body image = IsImage past image ⊎ MaybeSnapshot layout (seen past) slot generation body image
+
 -- a store with this newest snapshot, and the records that count in the image
 abbrev pub HasStore : Layout → Slot → ℕ → List ℕ → Image → Type 0
 HasStore layout slot generation body image = IsStore current layout image slot generation body (all_records current layout generation image)

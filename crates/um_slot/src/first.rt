@@ -13,6 +13,9 @@ const NAME: &[u8] = b"UMDISK";
 /// Those of a store of the first format.
 const NAME_ONE: &[u8] = b"UMDISK01";
 
+/// Those of a store of the second format.
+const NAME_TWO: &[u8] = b"UMDISK02";
+
 /// The byte of sector 0 at which the number of sectors of a slot begins, in four bytes.
 const SLOT_SECTORS_AT: usize = 8;
 
@@ -25,6 +28,7 @@ fn name_of(format: Format) -> &'static [u8]
 {
     match format {
         Format::One => NAME_ONE,
+        Format::Two => NAME_TWO,
     }
 }
 
@@ -52,7 +56,10 @@ fn read_format(sector: &Sector) -> Result<Format, Refusal>
     }
     let (name, _) = sector.split_at(NAME_ONE.len());
     if name == NAME_ONE {
-        Ok(Format::One)
+        return Ok(Format::One);
+    }
+    if name == NAME_TWO {
+        Ok(Format::Two)
     } else {
         Err(Refusal::OtherLayout)
     }

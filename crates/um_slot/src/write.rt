@@ -1,9 +1,9 @@
 ghost use Rattle.std.specs.Prelude.{◌≡◌, ◌⊎◌, ◌↔◌, ◌+◌, ◌-◌, ◌<◌, ◌≤◌, ◌^◌, min, ℕ, List, [], length, true, false, Ok, Err, Some, None, IfOk, IfErr, IfSome, OnOk, IsTrue};
 ghost use Rattle.um_model.specs.Disk.{Sector, seen, Images, During, IsSettled};
-ghost use Rattle.um_model.specs.Store.{current, other, slot_start, body_limit, log_start, sector_count, HasNoHeader, IsNewest, IsNoneAbove, GoesOn};
+ghost use Rattle.um_model.specs.Store.{current, other, slot_start, body_limit, first_log_sector, log_start, sector_count, records_of, all_records, HasNoHeader, IsNewest, IsNoneAbove, IsLogEnd, GoesOn};
 ghost use Rattle.um_model.specs.declared.layout.Format.{Format};
 ghost use Rattle.um_slot.specs.Snapshots.{HasStore, HasNewest, EitherNewest};
-ghost use Rattle.um_slot.specs.Snapshots.{IsWritten, IsBeside, IsSnapshot, MaybeSnapshot, AfterSnapshot, EitherSnapshot};
+ghost use Rattle.um_slot.specs.Snapshots.{IsWritten, IsBeside, IsSnapshot, MaybeSnapshot, AfterSnapshot, AfterSeal, EitherSnapshot};
 ghost use Rattle.um_model.specs.declared.layout.Slot.TheVariants.{A};
 ghost use Rattle.um_sector.specs.Refused.{CountsDevice};
 ghost use Rattle.um_sector.specs.Runs.{more};
@@ -94,9 +94,11 @@ pub fn write_part<D: Disk>(
 fn seal<D: Disk>(disk: &mut D, layout: Layout, to: Home, size: usize) -> Result<(), Refusal>
     requires fits { size ≤ body_limit layout }
     ensures during { IsTrue (D.honest disk.old) → (body : List ℕ) → length body ≡ size → IsWritten layout (seen (D.past disk.old)) to.slot body (sector_count size)
-        → During (D.past disk.old) (D.past disk.new) (AfterSnapshot layout (D.past disk.old) to.slot to.generation body) }
+        → During (D.past disk.old) (D.past disk.new) (AfterSeal layout (D.past disk.old) to.slot to.generation body) }
     ensures written { OnOk result (IsTrue (D.honest disk.old) → (body : List ℕ) → length body ≡ size → IsWritten layout (seen (D.past disk.old)) to.slot body (sector_count size)
         → IsSnapshot layout (seen (D.past disk.new)) to.slot to.generation body) }
+    ensures same { OnOk result (IsTrue (D.honest disk.old) → (j : ℕ) → (j < slot_start layout to.slot) ⊎ (slot_start layout to.slot + 1 ≤ j)
+        → seen (D.past disk.new) j ≡ seen (D.past disk.old) j) }
     ensures beside { OnOk result (IsTrue (D.honest disk.old) → (body : List ℕ) → length body ≡ size → IsWritten layout (seen (D.past disk.old)) to.slot body (sector_count size)
         → MaybeSnapshot layout (seen (D.past disk.old)) to.slot to.generation body (seen (D.past disk.new))) }
     ensures settled { OnOk result (IsTrue (D.honest disk.old) → IsSettled (D.past disk.new)) }
@@ -119,11 +121,11 @@ fn seal<D: Disk>(disk: &mut D, layout: Layout, to: Home, size: usize) -> Result<
 ///
 /// Where a read gives the whole body, and each image is that of a store whose newest snapshot is at `home`, each image that a crash leaves
 /// meanwhile is that of the store of an image of before, or of the store with this body and the records that a read gave beside it; after Ok
-/// it is the latter.
+/// it is the latter, and its log goes on where that of the generation behind `home` did.
 ///
 /// The generation at `home` may be above that of the newest snapshot, which stands in its slot: then no sector of the log is of a
 /// generation above it, meanwhile the newest snapshot and the log are those of an image of before, or this body stands there and no
-/// record counts, and after Ok it is the latter.
+/// record counts, and after Ok it is the latter. That is so in each format in which the store may be.
 ///
 /// E20 where the generation is 2^64 - 1, whatever the body, with nothing written; E16 where a disk call fails: it takes no memory. It
 /// makes at most three disk calls, and just so many where it answers a home.
@@ -139,7 +141,8 @@ pub fn finish<D: Disk>(
     ensures ok { IfOk result (λ to. IfSome to (λ to. IsTrue (D.honest disk.old) → (before body : List ℕ) → length body ≡ size
         → IsWritten layout (seen (D.past disk.old)) (other home.slot) body (sector_count size)
         → Images (D.past disk.old) (HasStore layout home.slot home.generation before)
-        → GoesOn layout (D.past disk.new) to.slot to.generation body [] to.generation 0 (log_start layout to.generation))) }
+        → (number next : ℕ) → IsLogEnd layout to.generation (seen (D.past disk.old)) (records_of current layout to.generation (seen (D.past disk.old))) number next
+        → GoesOn layout (D.past disk.new) to.slot to.generation body (all_records current layout to.generation (seen (D.past disk.old))) to.generation number next)) }
     ensures during_newest { IsTrue (D.honest disk.old) → (format : Format) (newest : ℕ) (before body : List ℕ) → newest ≤ home.generation → length body ≡ size
         → IsWritten layout (seen (D.past disk.old)) (other home.slot) body (sector_count size)
         → Images (D.past disk.old) (HasNewest format layout home.slot newest before home.generation)
@@ -148,6 +151,11 @@ pub fn finish<D: Disk>(
         → IsWritten layout (seen (D.past disk.old)) (other home.slot) body (sector_count size)
         → Images (D.past disk.old) (HasNewest current layout home.slot newest before home.generation)
         → GoesOn layout (D.past disk.new) to.slot to.generation body [] to.generation 0 (log_start layout to.generation))) }
+    ensures renewed { IfOk result (λ to. IfSome to (λ to. IsTrue (D.honest disk.old) → (format : Format) (newest : ℕ) (before body : List ℕ) → newest ≤ home.generation
+        → length body ≡ size → IsWritten layout (seen (D.past disk.old)) (other home.slot) body (sector_count size)
+        → Images (D.past disk.old) (HasNewest format layout home.slot newest before home.generation)
+        → Images (D.past disk.new) (HasNewest format layout to.slot to.generation body home.generation))) }
+    ensures log { IfOk result (λ to. IfSome to (λ _. IsTrue (D.honest disk.old) → (j : ℕ) → first_log_sector layout ≤ j → seen (D.past disk.new) j ≡ seen (D.past disk.old) j)) }
     ensures settled { IfOk result (λ to. IfSome to (λ _. IsTrue (D.honest disk.old) → IsSettled (D.past disk.new))) }
     ensures home { IfOk result (λ to. IfSome to (λ to. (to.slot ≡ other home.slot) × (to.generation ≡ home.generation + 1))) }
     ensures spent { (result ≡ Err Refusal.GenerationsSpent) ↔ (home.generation ≡ 2 ^ 64 - 1) }

@@ -44,7 +44,7 @@ fn tells(
     same!(rt, disk.syncs(), syncs);
 }
 
-/// A store whose service ended and was started again: five records of generation 2.
+/// A store whose service ended and was started again: five records of generation 3.
 fn restarted(rt: &(impl AllocGlobal + Abort)) -> Box<Keeper<Fuse<MemDisk>>> {
     let mut keeper = ended(rt);
     let tick = input(rt, 1_100_000, Event::Happened(Happening::Tick));
@@ -57,9 +57,9 @@ fn a_summary_tells_what_the_image_stands_for(rt: HostRuntime) {
     let mut disk = made(&rt);
     tells(&rt, &mut disk, 1, 0, 0, 1);
     let mut disk = disk_of(over(&rt, made(&rt)));
-    tells(&rt, &mut disk, 2, 0, 0, 1);
+    tells(&rt, &mut disk, 3, 0, 0, 1);
     let mut disk = disk_of(restarted(&rt)).into_inner();
-    tells(&rt, &mut disk, 2, 5, 1_100_000, 3);
+    tells(&rt, &mut disk, 3, 5, 1_100_000, 3);
     // and it is opened as if nobody had looked
     same!(&rt, files_on(&rt, disk), 1);
 }
@@ -79,21 +79,21 @@ fn a_torn_record_is_not_counted(rt: HostRuntime) {
     let mut keeper = over(&rt, made(&rt));
     take(&rt, &mut keeper, put_long(&rt, A, 600));
     let mut disk = disk_of(keeper);
-    tells(&rt, &mut disk, 2, 1, 0, 1);
+    tells(&rt, &mut disk, 3, 1, 0, 1);
     // its second part
-    disk.write(130, &filled(&[])).expect(&rt, "not written");
-    tells(&rt, &mut disk, 2, 0, 0, 1);
+    disk.write(386, &filled(&[])).expect(&rt, "not written");
+    tells(&rt, &mut disk, 3, 0, 0, 1);
 }
 
 #[test]
 fn a_failing_read_is_no_summary(rt: HostRuntime) {
-    // sector 0, both headers, the body, and the first sector of the log
+    // sector 0, both headers, the body, and the first record
     for call in 1..6 {
         let disk = disk_of(restarted(&rt)).into_inner();
         let mut fuse = Fuse::new(disk, call);
         is_refused!(&rt, inspect(rt.alloc(), &mut fuse), "E16 Device");
         let mut disk = fuse.into_inner();
-        tells(&rt, &mut disk, 2, 5, 1_100_000, 3);
+        tells(&rt, &mut disk, 3, 5, 1_100_000, 3);
     }
 }
 
@@ -101,7 +101,7 @@ fn a_failing_read_is_no_summary(rt: HostRuntime) {
 fn a_look_leaves_each_sector(rt: HostRuntime) {
     let mut before = disk_of(restarted(&rt)).into_inner();
     let mut disk = disk_of(restarted(&rt)).into_inner();
-    tells(&rt, &mut disk, 2, 5, 1_100_000, 3);
+    tells(&rt, &mut disk, 3, 5, 1_100_000, 3);
     for k in 0..641 {
         let sector = sector_at(&rt, &mut disk, k);
         same!(&rt, sector, sector_at(&rt, &mut before, k));

@@ -23,6 +23,8 @@ mod listing;
 mod log;
 mod marks;
 #[cfg(test)]
+mod midway;
+#[cfg(test)]
 mod older;
 #[cfg(test)]
 mod opening;
@@ -33,6 +35,8 @@ mod parts;
 #[cfg(test)]
 mod refusal;
 #[cfg(test)]
+mod rewriting;
+#[cfg(test)]
 mod sector;
 #[cfg(test)]
 mod slot;
@@ -40,6 +44,8 @@ mod slot;
 mod spelled;
 #[cfg(test)]
 mod state;
+#[cfg(test)]
+mod stepping;
 #[cfg(test)]
 mod submitting;
 #[cfg(test)]

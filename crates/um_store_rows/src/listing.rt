@@ -236,26 +236,34 @@ fn is_written_as(rt: &impl Abort, disk: &mut MemDisk, k: usize, wanted: (u8, u8,
     same!(rt, (sector[11], sector[18], sector[19]), wanted);
 }
 
-/// A keeper whose log has room for one record more.
+/// A keeper whose log has room for one record more: an area of it has 256 sectors.
 fn nearly_full(rt: &(impl AllocGlobal + Abort)) -> Box<Keeper<Fuse<MemDisk>>> {
     let mut keeper = opened(rt, 0);
-    for _ in 0..511 {
+    for _ in 0..255 {
         take(rt, &mut keeper, put(rt, A, ""));
     }
     keeper
 }
 
+/// Three files to put.
+const THREE: &[Coming] = &[Coming::Put(A), Coming::Put(B), Coming::Put(C)];
+
 #[test]
-fn a_list_goes_over_the_end_of_the_log(rt: HostRuntime) {
+fn a_list_goes_on_in_the_other_area(rt: HostRuntime) {
+    let calls = disk_of(nearly_full(&rt)).calls();
     let mut keeper = nearly_full(&rt);
-    let list = &[Coming::Put(A), Coming::Put(B), Coming::Put(C)];
-    is_answered(&rt, &mut keeper, list, "done; done; done; ");
-    let mut disk = disk_of(keeper).into_inner();
-    // record 511 of generation 2, then records 0 and 1 of generation 3
-    is_written_as(&rt, &mut disk, 640, (2, 1, 255));
-    is_written_as(&rt, &mut disk, 129, (3, 0, 0));
-    is_written_as(&rt, &mut disk, 130, (3, 0, 1));
-    is_written_as(&rt, &mut disk, 131, (2, 0, 2));
+    is_answered(&rt, &mut keeper, THREE, "done; done; done; ");
+    // the snapshot has begun, and none of it is written
+    same!(&rt, keeper.left(), 1);
+    let disk = disk_of(keeper);
+    // a record, a sync before the other area is gone on in, two records, a sync
+    same!(&rt, Some(disk.calls()), calls.checked_add(5));
+    let mut disk = disk.into_inner();
+    // record 255 of generation 3, then records 0 and 1 of generation 4
+    is_written_as(&rt, &mut disk, 640, (3, 0, 255));
+    is_written_as(&rt, &mut disk, 129, (4, 0, 0));
+    is_written_as(&rt, &mut disk, 130, (4, 0, 1));
+    same!(&rt, sector_at(&rt, &mut disk, 131), [0; 512]);
     same!(&rt, files_on(&rt, disk), 3);
 }
 
@@ -282,14 +290,15 @@ fn inputs_without_effect_take_no_room_in_the_log(rt: HostRuntime) {
     let before = disk_of(nearly_full(&rt));
     let mut keeper = nearly_full(&rt);
     is_answered(&rt, &mut keeper, IDLE, IDLE_DONE);
+    same!(&rt, keeper.left(), 0);
     let disk = disk_of(keeper);
-    // the record and a sync, and no snapshot
+    // the record and a sync, and no snapshot is begun
     same!(&rt, Some(disk.calls()), before.calls().checked_add(2));
     let mut disk = disk.into_inner();
     let syncs = before.into_inner().syncs().checked_add(1);
     same!(&rt, Some(disk.syncs()), syncs);
-    is_written_as(&rt, &mut disk, 640, (2, 1, 255));
-    is_written_as(&rt, &mut disk, 129, (2, 0, 0));
+    is_written_as(&rt, &mut disk, 640, (3, 0, 255));
+    same!(&rt, sector_at(&rt, &mut disk, 129), [0; 512]);
     same!(&rt, files_on(&rt, disk), 2);
 }
 

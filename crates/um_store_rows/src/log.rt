@@ -3,17 +3,25 @@ use crate::answers::{change, filled, sector_at};
 use std::fmt::Debug;
 use std::process::Abort;
 use um_asserts::{is_refused, same, same_at};
-use um_log::{Format, Layout, Log, Record, scan};
+use um_log::{Format, Layout, Log, Reader, Record, greatest, scan};
 use um_sector::{Disk, Fuse, MemDisk};
 
-/// The first sector of the log, of slots of 64 sectors.
+/// The first sector of generation 2's records, behind slots of 64 sectors.
 const START: usize = 129;
 
-/// An empty disk for a store of slots of 64 sectors and a log of 512, and its log of generation 2.
+/// That of generation 3's, in the other area.
+const OTHER: usize = 385;
+
+/// The log of a generation in a store of slots of 64 sectors and a log of 512.
+fn log_of(rt: &impl Abort, generation: u64) -> Log {
+    let layout = Layout::new(64, 512).expect(rt, "no layout");
+    Log::new(layout, generation)
+}
+
+/// An empty disk for that store, and its log of generation 2.
 fn empty(rt: &(impl AllocGlobal + Abort)) -> (MemDisk, Log) {
     let disk = MemDisk::new(rt.alloc(), 641).expect(rt, "no memory");
-    let layout = Layout::new(64, 512).expect(rt, "no layout");
-    (disk, Log::new(layout, 2))
+    (disk, log_of(rt, 2))
 }
 
 /// Appends these records.
@@ -47,7 +55,7 @@ fn has_records<D: Disk, R: Debug + Drop>(
     wanted: &[(usize, usize)],
     row: R,
 ) {
-    let records = scan(rt.alloc(), disk, Format::One, log.layout, log.generation).expect(
+    let records = scan(rt.alloc(), disk, Format::Two, log.layout, log.generation).expect(
         rt, "no scan",
     );
     let told = told(rt, &records);
@@ -170,30 +178,51 @@ fn fits_by_size(rt: &impl Abort, log: &Log) {
     let fits = [
         log.fits(0),
         log.fits(1),
-        log.fits(131_072),
-        log.fits(131_073),
+        log.fits(122_880),
+        log.fits(122_881),
     ];
     same!(rt, fits, [false, true, true, false]);
 }
 
-/// Asserts that the longest record fits into an empty log once.
+/// Asserts that the longest record fits into an empty area, all of which it takes: 256 sectors, behind which no record is written.
 fn fits_once(rt: &(impl AllocGlobal + Abort), disk: &mut MemDisk, log: &mut Log, long: &[u8]) {
+    let before = log.next;
     append(rt, disk, log, &[long]);
-    // 274 sectors of 512
-    same!(rt, log.next, START + 274);
+    same!(rt, log.next, log.layout.log_end(log.generation));
     does_not_fit(rt, disk, log, long);
+    does_not_fit(rt, disk, log, &[7]);
+    has_records(rt, disk, log, &[(before, 122_880)], before);
 }
 
 #[test]
-fn a_record_has_1_to_131_072_bytes_and_is_not_written_without_room(rt: HostRuntime) {
+fn a_record_has_1_to_122_880_bytes_and_is_not_written_without_room(rt: HostRuntime) {
     let (mut disk, mut log) = empty(&rt);
     fits_by_size(&rt, &log);
     does_not_fit(&rt, &mut disk, &mut log, &[]);
-    let long = vec![in rt.alloc(); 5u8; 131_072].expect(&rt, "no memory");
+    let long = vec![in rt.alloc(); 5u8; 122_880].expect(&rt, "no memory");
     fits_once(&rt, &mut disk, &mut log, &long);
-    append(&rt, &mut disk, &mut log, &[&[7]]);
-    let wanted = [(START, 131_072), (START + 274, 1)];
-    has_records(&rt, &mut disk, &log, &wanted, "the end");
+    same!(&rt, log.next, START + 256);
+    let mut next = log_of(&rt, 3);
+    fits_by_size(&rt, &next);
+    fits_once(&rt, &mut disk, &mut next, &long);
+    same!(&rt, next.next, OTHER + 256);
+    // those before stand as they did
+    has_records(&rt, &mut disk, &log, &[(START, 122_880)], "before");
+}
+
+#[test]
+fn two_generations_have_an_area_each_and_the_one_behind_takes_the_first_again(rt: HostRuntime) {
+    let (mut disk, mut log) = empty(&rt);
+    append(&rt, &mut disk, &mut log, &[&[7], &[7]]);
+    let mut next = log_of(&rt, 3);
+    append(&rt, &mut disk, &mut next, &[&[8; 481]]);
+    has_records(&rt, &mut disk, &log, &[(START, 1), (START + 1, 1)], 2);
+    has_records(&rt, &mut disk, &next, &[(OTHER, 481)], 3);
+    let mut behind = log_of(&rt, 4);
+    append(&rt, &mut disk, &mut behind, &[&[9; 480]]);
+    has_records(&rt, &mut disk, &log, &[], "over 2");
+    has_records(&rt, &mut disk, &next, &[(OTHER, 481)], "beside 3");
+    has_records(&rt, &mut disk, &behind, &[(START, 480)], 4);
 }
 
 /// Bytes of a record, and another value of each, with which it is none: generation, length 0, length above the limit, parts, a byte
@@ -222,5 +251,33 @@ fn is_none_with(rt: &(impl AllocGlobal + Abort), at: usize, byte: u8) {
 fn what_is_not_as_it_is_written_is_no_record(rt: HostRuntime) {
     for (at, byte) in NO_RECORDS {
         is_none_with(&rt, *at, *byte);
+    }
+}
+
+/// The sectors of a log of an odd number of sectors, in an order, and the generation that each says of itself: one of each area, then the
+/// one that is in neither.
+const SAYING: &[(usize, u8)] = &[(140, 4), (400, 5), (641, 6)];
+
+/// The greatest generation that the disk of a store tells, of whose newest snapshot the generation is 2.
+fn greatest_of(rt: &impl Abort, disk: &mut MemDisk, layout: Layout) -> Option<u64> {
+    let reader = Reader::new(Format::Two, layout, 2);
+    let following = reader.following().expect(rt, "no generation behind it");
+    let here = reader.remains(disk).expect(rt, "refused").greatest;
+    let behind = following.remains(disk).expect(rt, "refused").greatest;
+    let told = greatest(disk, Format::Two, layout, here, Some(behind));
+    told.expect(rt, "refused")
+}
+
+#[test]
+fn the_greatest_generation_of_the_whole_log_is_told(rt: HostRuntime) {
+    let layout = Layout::new(64, 513).expect(&rt, "no layout");
+    let mut disk = MemDisk::new(rt.alloc(), 642).expect(&rt, "no memory");
+    // the last that counts
+    same!(&rt, greatest_of(&rt, &mut disk, layout), Some(3));
+    for (sector, generation) in SAYING {
+        let says = filled(&[0x55, 0x4d, 0x4c, 0x47, 0, 0, 0, 0, 0, 0, 0, *generation]);
+        disk.write(*sector, &says).expect(&rt, "not written");
+        let told = greatest_of(&rt, &mut disk, layout);
+        same_at!(&rt, told, Some(*generation as u64), *sector);
     }
 }

@@ -1,11 +1,12 @@
-//! A store that a program of profile 1 made, as its file was: it opens to the state that it stands for, also behind a crash at any call of
-//! the open, and is read by profile 1 until its tree is loaded anew.
+//! A store of layout 1 that a program of profile 1 made, as its file was: it opens to the state that it stands for, also behind a crash at any call
+//! of the open, is of layout 2 then, and is read by profile 1 until its tree is loaded anew.
+use crate::answers::sector_at;
 use crate::inputs::{input, submit, take};
-use crate::keepers::{calls_of_open, crash, over};
+use crate::keepers::{calls_of_open, crash, disk_of, over};
 use crate::spelled::hex;
 use std::process::Abort;
 use um_asserts::{is_refused, same, unit};
-use um_keeper::Keeper;
+use um_keeper::{Keeper, inspect};
 use um_model::{JobMode, UnitVerb};
 use um_sector::{Disk, Fuse, MemDisk, Sector};
 use um_state::{Command, Event, Input};
@@ -76,7 +77,7 @@ fn stands(rt: &(impl AllocGlobal + Abort), disk: MemDisk) {
 }
 
 /// What a crash leaves of an open that a failing call ends.
-fn crashed(rt: &(impl AllocGlobal + Abort), disk: Fuse<MemDisk>, pick: usize) -> MemDisk {
+pub fn crashed(rt: &(impl AllocGlobal + Abort), disk: Fuse<MemDisk>, pick: usize) -> MemDisk {
     match Keeper::open(rt.alloc(), disk) {
         Ok(_) => rt.abort(),
         Err((refusal, disk)) => {
@@ -85,6 +86,22 @@ fn crashed(rt: &(impl AllocGlobal + Abort), disk: Fuse<MemDisk>, pick: usize) ->
             crash(rt, disk, &[pick])
         }
     }
+}
+
+#[test]
+fn an_older_store_is_of_layout_2_behind_an_opening(rt: HostRuntime) {
+    let mut disk = disk_of(over(&rt, older(&rt)));
+    // UMDISK02, slots of 64 sectors, a log of 512
+    same!(
+        &rt,
+        sector_at(&rt, &mut disk, 0),
+        sector_of(&rt, "554d4449534b30320000004000000200")
+    );
+    // generation 3 in slot A, a body of the state's 231 bytes
+    let header = "554d534c4f543031000000000000000300000000000000e7";
+    same!(&rt, sector_at(&rt, &mut disk, 1), sector_of(&rt, header));
+    let told = inspect(rt.alloc(), &mut disk).expect(&rt, "not read");
+    same!(&rt, (told.generation, told.records), (3, 0));
 }
 
 /// Asserts that a crash at this call of an open leaves the state, whether the call was made or not.
@@ -102,8 +119,8 @@ fn an_older_store_opens_to_its_state_behind_any_crash(rt: HostRuntime) {
     // its first sync and its first read
     leaves_the_state(&rt, 1);
     leaves_the_state(&rt, 2);
-    // the body, its sync, the header, its sync: each write is there, or isn't
-    for back in 0..4 {
+    // the body, its sync, the header, its sync, sector 0, its sync: each write is there, or isn't
+    for back in 0..6 {
         let fails = calls.checked_sub(back).expect(&rt, "no call");
         leaves_the_state(&rt, fails);
     }

@@ -6,7 +6,8 @@ use crate::keepers::{
 };
 use std::process::Abort;
 use um_asserts::{is_refused, same};
-use um_keeper::{Keeper, inspect};
+use um_keeper::{Keeper, create, inspect};
+use um_model::Layout;
 use um_sector::{Disk, Fuse, MemDisk, Sector};
 
 /// Writes a sector.
@@ -39,7 +40,7 @@ fn change(rt: &impl Abort, disk: &mut MemDisk, damage: &Damage) {
     write(rt, disk, k, &sector);
 }
 
-/// A store that was opened once, generation 2 in slot B, with these changes.
+/// A store that was opened once, generation 3 in slot B, with these changes.
 fn changed(rt: &(impl AllocGlobal + Abort), changes: &[Damage]) -> MemDisk {
     let mut disk = disk_of(over(rt, made(rt)));
     for each in changes {
@@ -63,9 +64,9 @@ fn refuses<D: Disk>(rt: &(impl AllocGlobal + Abort), disk: D, wanted: &str) -> D
 #[test]
 fn a_new_store_has_its_layout_and_one_snapshot(rt: HostRuntime) {
     let mut disk = made(&rt);
-    // UMDISK01, slots of 64 sectors, a log of 512
+    // UMDISK02, slots of 64 sectors, a log of 512
     let first = [
-        0x55, 0x4d, 0x44, 0x49, 0x53, 0x4b, 0x30, 0x31, 0, 0, 0, 0x40, 0, 0, 2, 0,
+        0x55, 0x4d, 0x44, 0x49, 0x53, 0x4b, 0x30, 0x32, 0, 0, 0, 0x40, 0, 0, 2, 0,
     ];
     has_layout(&rt, &mut disk, 0, &first);
     // UMSLOT01, generation 1, a body of 37 bytes
@@ -86,14 +87,26 @@ fn a_new_store_has_its_layout_and_one_snapshot(rt: HostRuntime) {
     refuses(&rt, made_on(&rt, 0), "E19 NotFormatted");
 }
 
-/// What a sector of the log holds that spells no input: generation 2, record 0, part 0 of 1, a length of 1, and that byte.
+/// What a sector of the log holds that spells no input: generation 3, record 0, part 0 of 1, a length of 1, and that byte.
 const NO_INPUT: &[u8] = &[
-    0x55, 0x4d, 0x4c, 0x47, 0, 0, 0, 0, 0, 0, 0, 2, 0, 0, 0, 0, 0, 0, 0, 0, 0, 0, 0, 0, 0, 0, 0, 1,
+    0x55, 0x4d, 0x4c, 0x47, 0, 0, 0, 0, 0, 0, 0, 3, 0, 0, 0, 0, 0, 0, 0, 0, 0, 0, 0, 0, 0, 0, 0, 1,
     0, 0, 0, 1, 9,
 ];
 
-/// What a sector of the log holds that says generation 3, of no whole record.
-const LATER: &[u8] = &[0x55, 0x4d, 0x4c, 0x47, 0, 0, 0, 0, 0, 0, 0, 3];
+/// The same of generation 4.
+const NO_NEXT_INPUT: &[u8] = &[
+    0x55, 0x4d, 0x4c, 0x47, 0, 0, 0, 0, 0, 0, 0, 4, 0, 0, 0, 0, 0, 0, 0, 0, 0, 0, 0, 0, 0, 0, 0, 1,
+    0, 0, 0, 1, 9,
+];
+
+/// What a sector of the log holds that says generation 5, of no whole record.
+const LATER: &[u8] = &[0x55, 0x4d, 0x4c, 0x47, 0, 0, 0, 0, 0, 0, 0, 5];
+
+/// The generation before the last one.
+const BEFORE_LAST: &[u8] = &[255, 255, 255, 255, 255, 255, 255, 254];
+
+/// The one before that.
+const TWO_BEFORE: &[u8] = &[255, 255, 255, 255, 255, 255, 255, 253];
 
 /// What is changed, and how the open is refused.
 const REFUSED: &[(&[Damage], &str)] = &[
@@ -101,14 +114,25 @@ const REFUSED: &[(&[Damage], &str)] = &[
     (&[(0, 0, &[0; 16])], "E19 NotFormatted"),
     (&[(0, 11, &[63])], "E18 Damaged 0"),
     (&[(0, 7, b"9")], "E22 OtherLayout"),
+    (&[(0, 7, b"3")], "E22 OtherLayout"),
+    (&[(0, 7, b"0")], "E22 OtherLayout"),
     // without a header slot A is named
     (&[(1, 0, &[0; 24]), (65, 0, &[0; 24])], "E18 Damaged 1"),
     // a body that spells no state, a record that spells no input
     (&[(66, 0, &[9])], "E18 Damaged 66"),
-    (&[(129, 0, NO_INPUT)], "E18 Damaged 129"),
+    (&[(385, 0, NO_INPUT)], "E18 Damaged 385"),
+    // and one of the next generation, in the other area, also behind one of this generation
+    (&[(129, 0, NO_NEXT_INPUT)], "E18 Damaged 129"),
+    (
+        &[(129, 0, NO_NEXT_INPUT), (385, 0, NO_INPUT)],
+        "E18 Damaged 385",
+    ),
     // in the last generation a body that spells no state is told first
     (&[(65, 8, &[255; 8]), (66, 0, &[9])], "E18 Damaged 66"),
     (&[(65, 8, &[255; 8])], "E20 GenerationsSpent"),
+    // the next generation may be in the log of a header before the last one
+    (&[(65, 8, BEFORE_LAST)], "E20 GenerationsSpent"),
+    (&[(65, 8, BEFORE_LAST), (66, 0, &[9])], "E18 Damaged 66"),
     (
         &[(640, 4, &[255; 8]), (640, 0, b"UMLG")],
         "E20 GenerationsSpent",
@@ -143,16 +167,54 @@ fn what_is_refused_is_named_and_left_as_it_was(rt: HostRuntime) {
     }
 }
 
+/// Asserts that such a store is opened in the state that it stands for, and what its slot A holds then.
+fn opens_above(rt: &(impl AllocGlobal + Abort), changes: &[Damage], header: &[u8]) {
+    let mut disk = disk_of(over(rt, changed(rt, changes)));
+    has_layout(rt, &mut disk, 1, header);
+    same!(rt, files_on(rt, disk), 0);
+}
+
+/// UMSLOT01, generation 6, a body of 37 bytes.
+const SIXTH: &[u8] = &[
+    0x55, 0x4d, 0x53, 0x4c, 0x4f, 0x54, 0x30, 0x31, 0, 0, 0, 0, 0, 0, 0, 6, 0, 0, 0, 0, 0, 0, 0,
+    0x25,
+];
+
+/// The same of the last generation.
+const LAST: &[u8] = &[
+    0x55, 0x4d, 0x53, 0x4c, 0x4f, 0x54, 0x30, 0x31, 255, 255, 255, 255, 255, 255, 255, 255, 0, 0,
+    0, 0, 0, 0, 0, 0x25,
+];
+
 #[test]
 fn an_image_with_a_later_sector_is_opened_above_it(rt: HostRuntime) {
-    let mut disk = disk_of(over(&rt, changed(&rt, &[(640, 0, LATER)])));
-    // UMSLOT01, generation 4, a body of 37 bytes
-    let header = [
-        0x55, 0x4d, 0x53, 0x4c, 0x4f, 0x54, 0x30, 0x31, 0, 0, 0, 0, 0, 0, 0, 4, 0, 0, 0, 0, 0, 0,
-        0, 0x25,
-    ];
-    has_layout(&rt, &mut disk, 1, &header);
-    same!(&rt, files_on(&rt, disk), 0);
+    // in either area
+    opens_above(&rt, &[(640, 0, LATER)], SIXTH);
+    opens_above(&rt, &[(384, 0, LATER)], SIXTH);
+}
+
+#[test]
+fn the_last_generation_is_written_and_not_opened(rt: HostRuntime) {
+    let mut disk = disk_of(over(&rt, changed(&rt, &[(65, 8, TWO_BEFORE)])));
+    has_layout(&rt, &mut disk, 1, LAST);
+    looks_alike(&rt, &mut disk, "E20 GenerationsSpent");
+    refuses(&rt, disk, "E20 GenerationsSpent");
+}
+
+/// A store that was opened once, with a log of 513 sectors: the last one is behind both areas.
+fn odd(rt: &(impl AllocGlobal + Abort)) -> MemDisk {
+    let mut disk = MemDisk::new(rt.alloc(), 642).expect(rt, "no memory");
+    let layout = Layout::new(64, 513).expect(rt, "no layout");
+    create(rt.alloc(), &mut disk, layout).expect(rt, "not created");
+    disk_of(over(rt, disk))
+}
+
+#[test]
+fn the_odd_sector_of_a_log_is_looked_at(rt: HostRuntime) {
+    let mut disk = odd(&rt);
+    change(&rt, &mut disk, &(641, 0, LATER));
+    let mut disk = disk_of(over(&rt, disk));
+    has_layout(&rt, &mut disk, 1, SIXTH);
 }
 
 /// A disk whose store has one file, in its log.

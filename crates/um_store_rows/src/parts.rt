@@ -155,9 +155,13 @@ fn a_fault_at_each_call_leaves_the_snapshot_before_or_the_new_one(rt: HostRuntim
     }
 }
 
-/// Writes a part of a snapshot behind generation 2, into slot A.
-fn begins_third(rt: &(impl AllocGlobal + Abort), disk: &mut MemDisk) {
-    let written = write_part(disk, small(rt), B2, &body_of(rt, SIZE), 0, 16);
+/// Writes a part of a snapshot beside generation 3, into slot A.
+fn begins_in_slot_a(rt: &(impl AllocGlobal + Abort), disk: &mut MemDisk) {
+    let home = Home {
+        slot: Slot::B,
+        generation: 3,
+    };
+    let written = write_part(disk, small(rt), home, &body_of(rt, SIZE), 0, 16);
     same!(rt, written.expect(rt, "not written"), true);
     same!(rt, sector_at(rt, disk, 17), filled(&[8; 512]));
 }
@@ -181,15 +185,15 @@ fn parts_without_a_header_are_written_over_by_the_next_open(rt: HostRuntime) {
     take(&rt, &mut keeper, put(&rt, A, ""));
     let state = spell(rt.alloc(), keeper.state()).expect(&rt, "no memory");
     let mut disk = disk_of(keeper);
-    begins_third(&rt, &mut disk);
+    begins_in_slot_a(&rt, &mut disk);
     let again = over(&rt, disk);
     let opened = again.opened();
     same!(
         &rt,
         (opened.generation, opened.records, files_in(&again)),
-        (2, 1, 1)
+        (3, 1, 1)
     );
-    has_in_slot_a(&rt, &mut disk_of(again), 3, &state);
+    has_in_slot_a(&rt, &mut disk_of(again), 5, &state);
 }
 
 /// The first snapshot on a disk that counts its calls.

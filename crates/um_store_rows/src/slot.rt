@@ -67,29 +67,48 @@ pub const OLD: Stored = (A1, 37, 7);
 /// What is stored behind it: a body of two sectors.
 const NEW: Stored = (B2, 513, 8);
 
-/// Bytes of sector 0, and another value of each, with which it is refused so: another name; another layout; an unused byte; slots of
-/// 63 sectors.
+/// Bytes of sector 0, and another value of each, with which it is refused so: another name; another layout, which is neither 1 nor 2; an
+/// unused byte; slots of 63 sectors.
 const ILL: &[(usize, u8, &str)] = &[
     (0, 0, "E19 NotFormatted"),
-    (7, 50, "E22 OtherLayout"),
+    (7, 51, "E22 OtherLayout"),
     (16, 1, "E18 Damaged 0"),
     (11, 63, "E18 Damaged 0"),
 ];
 
-/// Asserts where the parts of the small store lie.
+/// Asserts where the parts of the small store lie: the records of an even generation in the first area of the log, those of an odd one in
+/// the second.
 fn has_places(rt: &impl Abort, layout: Layout) {
-    let log = (layout.log_start(1), layout.log_end(1));
-    let told = (log, layout.sectors(), layout.record_limit(1));
-    same!(rt, told, ((129, 641), 641, 131_072));
+    let odd = (layout.log_start(1), layout.log_end(1));
+    let even = (layout.log_start(2), layout.log_end(2));
+    let told = (odd, even, layout.sectors(), layout.record_limit(1));
+    same!(rt, told, ((385, 641), (129, 385), 641, 122_880));
 }
 
-/// Asserts that the sector tells the layout of the small store.
-fn tells_layout(rt: &impl Abort, sector_0: &Sector) {
-    let (format, read) = read_superblock(sector_0).expect(rt, "no layout");
+/// Asserts where they lay in layout 1: those of each generation in the whole log.
+fn had_places(rt: &impl Abort, layout: Layout) {
+    for generation in &[1, 2] {
+        let start = layout.area_start(Format::One, *generation);
+        let end = layout.area_end(Format::One, *generation);
+        let told = (start, end, Format::One.longest());
+        same_at!(rt, told, (129, 641, 131_072), *generation);
+    }
+}
+
+/// Asserts that a log of an odd number of sectors has one that is in neither area.
+fn leaves_one_over(rt: &impl Abort) {
+    let layout = Layout::new(64, 513).expect(rt, "no layout");
+    let told = (layout.log_end(2), layout.log_end(3), layout.sectors());
+    same!(rt, told, (385, 641, 642));
+}
+
+/// Asserts that the sector tells the format and the layout of the small store.
+fn tells_layout(rt: &impl Abort, sector_0: &Sector, format: Format) {
+    let (told, read) = read_superblock(sector_0).expect(rt, "no layout");
     same!(
         rt,
-        (format, read.slot_sectors, read.log_sectors),
-        (Format::One, 64, 512)
+        (told, read.slot_sectors, read.log_sectors),
+        (format, 64, 512)
     );
 }
 
@@ -105,12 +124,27 @@ fn is_ill_with(rt: &(impl AllocGlobal + Abort), sector_0: &Sector, at: usize, by
 #[test]
 fn sector_0_is_written_by_its_layout_and_tells_it(rt: HostRuntime) {
     has_places(&rt, small(&rt));
+    leaves_one_over(&rt);
+    let sector_0 = superblock(Format::Two, small(&rt));
+    let wanted = [
+        0x55, 0x4d, 0x44, 0x49, 0x53, 0x4b, 0x30, 0x32, 0, 0, 0, 0x40, 0, 0, 2, 0,
+    ];
+    same!(&rt, sector_0, filled(&wanted));
+    tells_layout(&rt, &sector_0, Format::Two);
+    for (at, byte, why) in ILL {
+        is_ill_with(&rt, &sector_0, *at, *byte, why);
+    }
+}
+
+#[test]
+fn sector_0_of_layout_1_is_read_too(rt: HostRuntime) {
+    had_places(&rt, small(&rt));
     let sector_0 = superblock(Format::One, small(&rt));
     let wanted = [
         0x55, 0x4d, 0x44, 0x49, 0x53, 0x4b, 0x30, 0x31, 0, 0, 0, 0x40, 0, 0, 2, 0,
     ];
     same!(&rt, sector_0, filled(&wanted));
-    tells_layout(&rt, &sector_0);
+    tells_layout(&rt, &sector_0, Format::One);
     for (at, byte, why) in ILL {
         is_ill_with(&rt, &sector_0, *at, *byte, why);
     }

@@ -13,11 +13,11 @@ use um_sector::{Disk, Fuse, MemDisk, Sector};
 use um_state::{Command, Event, Happening};
 use um_wire::spell;
 
-/// The first sector of the log, of slots of 64 sectors.
-const START: usize = 129;
+/// The first sector of the area of generation 3, of slots of 64 sectors and a log of 512.
+const START: usize = 385;
 
 /// A service that is started again after its delay, of a tenth of a second.
-const AGAIN: &str = "[Service]\nExecStart=/bin/sleep 9\nRestart=on-failure\n";
+pub const AGAIN: &str = "[Service]\nExecStart=/bin/sleep 9\nRestart=on-failure\n";
 
 /// Takes an event at the moment, and tells how many processes it asks for.
 fn take_at<D: Disk>(
@@ -30,7 +30,7 @@ fn take_at<D: Disk>(
 }
 
 /// The event that starts a unit.
-fn start_of(unit: UnitName) -> Event {
+pub fn start_of(unit: UnitName) -> Event {
     Event::Commanded(Command::ForUnit {
         verb: UnitVerb::Start,
         unit,
@@ -38,19 +38,24 @@ fn start_of(unit: UnitName) -> Event {
     })
 }
 
-/// A keeper whose service ended with code 1 at a second: four records.
-pub fn ended(rt: &(impl AllocGlobal + Abort)) -> Box<Keeper<Fuse<MemDisk>>> {
-    let mut keeper = opened(rt, 0);
-    take(rt, &mut keeper, put(rt, A, AGAIN));
+/// Lets a keeper's service end with code 1 at a second: four records.
+pub fn end_service<D: Disk>(rt: &(impl AllocGlobal + Abort), keeper: &mut Keeper<D>) {
+    take(rt, keeper, put(rt, A, AGAIN));
     let reload = Event::Commanded(Command::DaemonReload);
-    take_at(rt, &mut keeper, 0, reload);
+    take_at(rt, keeper, 0, reload);
     let unit = unit!(rt, "a.service");
-    same!(rt, take_at(rt, &mut keeper, 0, start_of(unit)), 1);
+    same!(rt, take_at(rt, keeper, 0, start_of(unit)), 1);
     let end = Event::Happened(Happening::ProcessEnded {
         number: 1,
         end: End::Code(1),
     });
-    same!(rt, take_at(rt, &mut keeper, 1_000_000, end), 0);
+    same!(rt, take_at(rt, keeper, 1_000_000, end), 0);
+}
+
+/// A keeper whose service ended so.
+pub fn ended(rt: &(impl AllocGlobal + Abort)) -> Box<Keeper<Fuse<MemDisk>>> {
+    let mut keeper = opened(rt, 0);
+    end_service(rt, &mut keeper);
     keeper
 }
 
@@ -85,13 +90,13 @@ fn a_tick_is_a_record_where_it_restarts_and_else_no_disk_call(rt: HostRuntime) {
     let mut disk = disk_of(opened_again(&rt, ticked(&rt, 1_100_000, 1)));
     // its name, generation, number, part, parts, length and bytes
     let written = [
-        0x55, 0x4d, 0x4c, 0x47, 0, 0, 0, 0, 0, 0, 0, 2, 0, 0, 0, 0, 0, 0, 0, 4, 0, 0, 0, 0, 0, 0,
+        0x55, 0x4d, 0x4c, 0x47, 0, 0, 0, 0, 0, 0, 0, 3, 0, 0, 0, 0, 0, 0, 0, 4, 0, 0, 0, 0, 0, 0,
         0, 1, 0, 0, 0, 10, 0x02, 0x11, 0, 0, 0, 0, 0, 0x10, 0xc8, 0xe0,
     ];
     has_layout(&rt, &mut disk, START + 4, &written);
 }
 
-/// A keeper of two files, each in a record of generation 2.
+/// A keeper of two files, each in a record of generation 3.
 fn filed(rt: &(impl AllocGlobal + Abort)) -> Box<Keeper<Fuse<MemDisk>>> {
     let mut keeper = opened(rt, 0);
     take(rt, &mut keeper, put(rt, A, ""));
@@ -119,10 +124,10 @@ fn finds(
 
 #[test]
 fn behind_a_checkpoint_nothing_is_replayed(rt: HostRuntime) {
-    finds(&rt, filed(&rt), 2, 2);
+    finds(&rt, filed(&rt), 3, 2);
     let mut keeper = filed(&rt);
     keeper.checkpoint().expect(&rt, "no checkpoint");
-    finds(&rt, keeper, 3, 0);
+    finds(&rt, keeper, 4, 0);
 }
 
 /// The lowest bytes of the generation and the number in a sector of the log.
@@ -131,14 +136,22 @@ fn lowest_bytes(sector: &Sector) -> (u8, u8) {
 }
 
 #[test]
-fn a_full_log_makes_a_checkpoint_first(rt: HostRuntime) {
+fn behind_a_full_area_a_snapshot_begins_and_the_other_area_is_gone_on_in(rt: HostRuntime) {
     let mut keeper = opened(&rt, 0);
-    for _ in 0..513 {
+    for _ in 0..256 {
         take(&rt, &mut keeper, put(&rt, A, ""));
     }
-    let mut disk = disk_of(keeper).into_inner();
-    let sector = sector_at(&rt, &mut disk, START);
-    same!(&rt, lowest_bytes(&sector), (3, 0));
+    same!(&rt, keeper.left(), 0);
+    take(&rt, &mut keeper, put(&rt, A, ""));
+    same!(&rt, keeper.left(), 1);
+    // a record and a sync each
+    let disk = disk_of(keeper);
+    same!(&rt, calls_since(&rt, &disk), 514);
+    let mut disk = disk.into_inner();
+    let last = sector_at(&rt, &mut disk, START + 255);
+    same!(&rt, lowest_bytes(&last), (3, 255));
+    let first = sector_at(&rt, &mut disk, 129);
+    same!(&rt, lowest_bytes(&first), (4, 0));
     same!(&rt, files_on(&rt, disk), 1);
 }
 
@@ -193,9 +206,9 @@ fn a_failed_checkpoint_wants_the_store_opened_again(rt: HostRuntime) {
     wants_opening(&rt, &mut keeper);
     let again = over(&rt, disk_of(keeper));
     same!(&rt, again.state().clock(), Moment::FIRST);
-    // generation 3 was written and is read: the next one is 4, in slot B
+    // generation 4 was written and is read: the next one is 6, in slot B
     let header = [
-        0x55, 0x4d, 0x53, 0x4c, 0x4f, 0x54, 0x30, 0x31, 0, 0, 0, 0, 0, 0, 0, 4, 0, 0, 0, 0, 0, 0,
+        0x55, 0x4d, 0x53, 0x4c, 0x4f, 0x54, 0x30, 0x31, 0, 0, 0, 0, 0, 0, 0, 6, 0, 0, 0, 0, 0, 0,
         0, 0x25,
     ];
     has_layout(&rt, &mut disk_of(again), 65, &header);

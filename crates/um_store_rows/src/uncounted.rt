@@ -21,7 +21,7 @@ fn tells(rt: &(impl AllocGlobal + Abort), disk: MemDisk, wanted: OpenedStore) {
     same!(rt, over(rt, disk).opened(), wanted);
 }
 
-/// A store of generation 2 with four records from sector 129 on: files, of which the third takes the two sectors 131 and 132.
+/// A store of generation 3 with four records from sector 385 on: files, of which the third takes the two sectors 387 and 388.
 fn four(rt: &(impl AllocGlobal + Abort)) -> MemDisk {
     let mut keeper = opened(rt, 0);
     take(rt, &mut keeper, put(rt, A, "1"));
@@ -36,13 +36,13 @@ fn behind_a_damaged_sector_whole_records_are_counted(rt: HostRuntime) {
     // the name, and then the number of the second record: with number 9 it is a whole one itself
     for (at, byte, count) in [(0, 0, 2), (19, 9, 3)] {
         let mut disk = four(&rt);
-        change(&rt, &mut disk, 130, at, byte);
+        change(&rt, &mut disk, 386, at, byte);
         let cut_off = Some(Uncounted {
-            sector: 130,
+            sector: 386,
             records: count,
         });
         let wanted = OpenedStore {
-            generation: 2,
+            generation: 3,
             records: 1,
             cut_off,
             damaged: None,
@@ -54,13 +54,13 @@ fn behind_a_damaged_sector_whole_records_are_counted(rt: HostRuntime) {
 #[test]
 fn the_sector_of_a_later_part_is_told(rt: HostRuntime) {
     let mut disk = four(&rt);
-    disk.write(132, &filled(&[])).expect(&rt, "not written");
+    disk.write(388, &filled(&[])).expect(&rt, "not written");
     let cut_off = Some(Uncounted {
-        sector: 132,
+        sector: 388,
         records: 1,
     });
     let wanted = OpenedStore {
-        generation: 2,
+        generation: 3,
         records: 2,
         cut_off,
         damaged: None,
@@ -70,7 +70,7 @@ fn the_sector_of_a_later_part_is_told(rt: HostRuntime) {
 
 #[test]
 fn beside_a_damaged_header_later_records_are_counted(rt: HostRuntime) {
-    // slot B's header, of generation 2
+    // slot B's header, of generation 3
     let mut disk = four(&rt);
     change(&rt, &mut disk, 65, 500, 1);
     let damaged = Some(Uncounted {

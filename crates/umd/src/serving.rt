@@ -36,6 +36,9 @@ const LEAST_POLL: u64 = 1000;
 /// So many milliseconds are slept at most while a count of lines waits to be told.
 const COUNTING: u64 = 100;
 
+/// So many milliseconds are slept at most while a snapshot goes out, a part of it behind each turn, so that it ends also where nobody asks.
+const WRITING: u64 = 5;
+
 /// A block of so many bytes is taken, and given back, before anything is served. From then on the system's allocator keeps twice as much that is
 /// free; before, it would give back what is past 128 KiB behind each turn, and take it anew in the next.
 const BLOCK: usize = 1 << 19;
@@ -138,9 +141,11 @@ impl<'a, R: Files + Net + Clock, E: Eprint> Loop<'a, R, E> {
             .keep(self.system, self.alloc, self.lines, gate, now);
     }
 
-    /// How long is slept at most: shorter where a count is to be told once its second is over.
+    /// How long is slept at most: shorter where a snapshot goes out, or a count is to be told once its second is over.
     fn longest<D: Disk, C: Children + News>(&self, manager: &Manager<D, C>) -> Duration {
-        if manager.children().is_counting() {
+        if manager.left() > 0 {
+            Duration::from_millis(WRITING)
+        } else if manager.children().is_counting() {
             Duration::from_millis(COUNTING)
         } else {
             Duration::MAX
@@ -189,7 +194,8 @@ impl<'a, R: Files + Net + Clock, E: Eprint> Loop<'a, R, E> {
     }
 
     /// Sleeps until the next deadline, a byte, a client, or news of the processes that are live: a runner wakes the manager, and once a second it is
-    /// looked for news of which nobody told. No round is needed before: it would take nothing, and its fates would tell nothing new.
+    /// looked for news of which nobody told. No round is needed before: it would take nothing, and its fates would tell nothing new. While a snapshot
+    /// goes out a round comes behind each wait.
     fn sleep<D: Disk, C: Children + News>(&mut self, manager: &Manager<D, C>, is_live: bool) {
         for _ in 0..PARTS {
             self.mind(manager);
@@ -197,7 +203,10 @@ impl<'a, R: Files + Net + Clock, E: Eprint> Loop<'a, R, E> {
             let wait = pause(is_open, self.clock.moment(), self.deadline).min(self.longest(
                 manager,
             ));
-            if self.wait(wait) || !is_live || manager.children().has_news() || self.is_due() {
+            if self.wait(wait) || !is_live || manager.left() > 0 {
+                return;
+            }
+            if manager.children().has_news() || self.is_due() {
                 return;
             }
         }

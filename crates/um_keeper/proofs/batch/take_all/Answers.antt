@@ -12,7 +12,6 @@ use Rattle.um_state.specs.declared.input.Input.{Input}
 use Rattle.um_keeper.specs.Answering.{Answer, Answered, AreAnswered, all_answered, where_step, taken, IsIdle, NeedsRecord, at_record, NeedNoRecord, HasNoRecord, HaveNoRecord, most_calls, most_snapshot_calls}
 use Rattle.um_keeper.specs.Keeping.{IsBegun, record_calls}
 use Rattle.um_keeper.specs.Underway.{UnderwayIn, TakesUnsynced, owed}
-use Rattle.um_keeper.specs.declared.ahead.Ahead.{Ahead}
 use Rattle.um_keeper.proofs.Batching.{appended, answered_more, same_length, taken_more, idle_left, need_no_record, no_record_left, no_record_more}
 use Rattle.um_keeper.proofs.Results.{err_from}
 use Rattle.um_keeper.proofs.Taking.{unsynced_none, unsynced_without, unsynced_with, unsynced_same, unsynced_still, spent_all, spent_meant}
@@ -79,8 +78,8 @@ loop-input-init g c =
       idle = λ here. (refl, refl, refl, here);
       unrecorded = λ rest here. (refl, refl, refl, subst (λ l. HaveNoRecord (state_in first) all (l ++ rest)) none here);
       clean = λ is. (tt, refl);
-      takes = subst (λ l. TakesUnsynced (D.honest c.args.disk.now) (sync_count past) (sync_count past) (size_in first) a.log a.log (D.calls c.args.disk.now) (D.calls c.args.disk.now)
-          (state_in first) [] l (state_in first)) (sym none) (unsynced_none (D.honest c.args.disk.now) (sync_count past) (size_in first) a.log (D.calls c.args.disk.now) (state_in first));
+      takes = subst (λ l. TakesUnsynced (D.honest c.args.disk.now) (sync_count past) (sync_count past) (size_in first) a a (D.calls c.args.disk.now) (D.calls c.args.disk.now)
+          (state_in first) [] l (state_in first)) (sym none) (unsynced_none (D.honest c.args.disk.now) (sync_count past) (size_in first) a (D.calls c.args.disk.now) (state_in first));
       calls = let clean = ap owed c.requires.synced in omega (arith, clean);
       held = c.requires.held;
       sized = refl;
@@ -149,7 +148,7 @@ loop-input-preserved g c =
       takes = elim told.either [
         | inl none ↦
             let same = told.unrecorded none in
-            unsynced_still (ap (λ d. sync_count (D.past d)) same.0) (ap (λ (x : Ahead). x.log) same.1) (ap (λ d. D.calls d) same.0) same.2
+            unsynced_still (ap (λ d. sync_count (D.past d)) same.0) same.1 (ap (λ d. D.calls d) same.0) same.2
             (unsynced_same further c.note.ensures.items (unsynced_without input answer inv.takes inv.layout none told.spent))
         | inr some ↦ unsynced_same further c.note.ensures.items (unsynced_with inv.takes inv.layout call.grows
             (subst (λ n. Answered n (state_in at.engine) input answer (state_in made.engine)) inv.sized told.ok) some
@@ -209,7 +208,7 @@ returns-clause-takes g c =
     let at = c.loop-input in
     let first = c.args.engine.now in
     let past = D.past c.args.disk.now in
-    subst (λ l. TakesUnsynced (D.honest c.args.disk.now) (sync_count past) (sync_count (D.past at.disk)) (size_in first) c.args.ahead.now.log at.ahead.log
+    subst (λ l. TakesUnsynced (D.honest c.args.disk.now) (sync_count past) (sync_count (D.past at.disk)) (size_in first) c.args.ahead.now at.ahead
     (D.calls c.args.disk.now) (D.calls at.disk) (state_in first) (map input_of l) at.answers.items (state_in at.engine)) (take_all at.input-index c.args.inputs.now c.loop-input-test.false) at.invariant.takes
 
 pub returns-clause-calls : goal.returns-clause-calls
@@ -240,7 +239,8 @@ returns-in_err-answer-clause-stopped g c =
       fails = at_record (subst (λ n. NeedsRecord n (state_in at.engine) input) inv.sized c.in_err-answer.ensures.fault);
       few = λ room.
           let (none, next, calls) = inv.takes.takes.fits (omega (arith, room)) in
-          let same_end : log_end at.ahead.log.layout at.ahead.log.generation ≡ log_end a.log.layout a.log.generation = ap (λ (z : Layout). log_end z 0) inv.layout in
+          let still : at.ahead.log.generation ≡ a.log.generation = omega (arith, inv.takes.takes.risen_by, none) in
+          let same_end : log_end at.ahead.log.layout at.ahead.log.generation ≡ log_end a.log.layout a.log.generation = λ k. log_end (inv.layout k) (still k) in
           let last = c.in_err-answer.ensures.few (omega (arith, room, same_end, next)) in
           omega (arith, calls, last);
     })

@@ -29,7 +29,7 @@ invariant-loop-input g l =
       unrecorded : (rest : List Answer) → HaveNoRecord (state_in first) all (l.answers.items ++ rest)
           → (l.disk ≡ l.fn.disk) × (l.ahead ≡ l.fn.ahead) × (state_in l.engine ≡ state_in first) × HaveNoRecord (state_in first) left rest;
       clean : l.ahead.unsynced ≡ false → HaveNoRecord (state_in first) front l.answers.items × (state_in l.engine ≡ state_in first);
-      takes : TakesUnsynced (D.honest l.fn.disk) (sync_count (D.past l.fn.disk)) (sync_count (D.past l.disk)) (size_in first) l.fn.ahead.log l.ahead.log
+      takes : TakesUnsynced (D.honest l.fn.disk) (sync_count (D.past l.fn.disk)) (sync_count (D.past l.disk)) (size_in first) l.fn.ahead l.ahead
           (D.calls l.fn.disk) (D.calls l.disk) (state_in first) front l.answers.items (state_in l.engine);
       calls : D.calls l.disk + owed l.ahead.unsynced + most_calls layout left ≤ D.calls l.fn.disk + most_calls layout all;
       held : MayHold l.ahead.log.layout (size_in l.engine) (state_in l.engine);

@@ -8,14 +8,14 @@ use Rattle.um_model.specs.Store.{part_count}
 use Rattle.um_state.specs.View.{input_of}
 use Rattle.um_keeper.specs.Answering.{Answered, accepted, where_step, record_sectors, state_before_all}
 use Rattle.um_keeper.specs.Keeping.{IsBegun}
-use Rattle.um_keeper.specs.Underway.{UnderwayIn, IsFreeAt}
+use Rattle.um_keeper.specs.Underway.{UnderwayIn, IsFreeAt, is_renewing}
 use Rattle.um_sector.specs.Unsynced.{sync_count}
 use Rattle.um_keeper.specs.declared.ahead.Ahead.{Ahead}
 use Rattle.um_keeper.proofs.Batching.{answered_refused, back_append, done_answered}
-use Rattle.um_keeper.proofs.Kept.{calls_at_most, rises_at_most}
+use Rattle.um_keeper.proofs.Judged.{finish_most, rises_at_most, underway_refused, cause_of, step_on}
 use Rattle.um_keeper.proofs.Results.{the_other}
 use Rattle.um_keeper.proofs.Spent.{free_at_more}
-use Rattle.um_keeper.proofs.Underway.{still_longer, underway_stayed, underway_refused, cause_of, step_on}
+use Rattle.um_keeper.proofs.Underway.{still_longer, underway_stayed}
 use Rattle.um_wire.specs.declared.refusal.Refusal.TheVariants.{Device}
 use Rattle.um_keeper.proofs.batch.take_one.Goals as goal
 
@@ -37,7 +37,7 @@ pub returns-then-is_idle-clause-either : goal.returns-then-is_idle-clause-either
 returns-then-is_idle-clause-either g c = inl (c.is_idle.ensures.lacks c.if-is_idle.true)
 
 pub returns-then-is_idle-clause-rises : goal.returns-then-is_idle-clause-rises
-returns-then-is_idle-clause-rises g c = inl (refl, omega arith)
+returns-then-is_idle-clause-rises g c = inl (refl, refl, omega arith)
 
 -- ---- one that is accepted
 
@@ -54,10 +54,10 @@ returns-in-Ok-clause-back g c =
     ap (λ l. state_before_all l after) c.keep.ensures.items ∙ back_append before (_ ∷ []) after ∙ ap (state_before_all before) c.in-Ok.ensures.back
 
 pub returns-in-Ok-clause-rises : goal.returns-in-Ok-clause-rises
-returns-in-Ok-clause-rises g c = rises_at_most c.args.ahead.now.log c.take_step.new.ahead.log c.requires.held c.in-Ok.ensures.rises
+returns-in-Ok-clause-rises g c = rises_at_most c.args.ahead.now c.take_step.new.ahead c.in-Ok.ensures.rises
 
 pub returns-in-Ok-clause-calls : goal.returns-in-Ok-clause-calls
-returns-in-Ok-clause-calls g c = calls_at_most c.requires.held _ _ _ c.take_step.ensures.calls
+returns-in-Ok-clause-calls g c = let few = finish_most c.args.ahead.now in omega (arith, c.take_step.ensures.calls, few)
 
 -- ---- one at which the disk failed
 
@@ -65,7 +65,7 @@ pub returns-then-is_fault-clause-fault : goal.returns-then-is_fault-clause-fault
 returns-then-is_fault-clause-fault g c = c.take_step.ensures.fault (c.in-Err.is ∙ ap Err (c.is_fault.ensures.0 c.if-is_fault.true))
 
 pub returns-then-is_fault-clause-calls : goal.returns-then-is_fault-clause-calls
-returns-then-is_fault-clause-calls g c = calls_at_most c.requires.held _ _ _ c.take_step.ensures.calls
+returns-then-is_fault-clause-calls g c = let few = finish_most c.args.ahead.now in omega (arith, c.take_step.ensures.calls, few)
 
 -- ---- one that is refused
 
@@ -96,7 +96,7 @@ returns-else-is_fault-clause-under g c h s before under =
     (subst (λ d. UnderwayIn s l (D.past d) c.args.ahead.now (state_in c.args.engine.now)) (sym same.0) (underway_refused c.in-Err.refusal under cause)))
 
 pub returns-else-is_fault-clause-calls : goal.returns-else-is_fault-clause-calls
-returns-else-is_fault-clause-calls g c = calls_at_most c.requires.held _ _ _ c.take_step.ensures.calls
+returns-else-is_fault-clause-calls g c = let few = finish_most c.args.ahead.now in omega (arith, c.take_step.ensures.calls, few)
 
 pub returns-else-is_fault-clause-free : goal.returns-else-is_fault-clause-free
 returns-else-is_fault-clause-free g c from free =
@@ -115,7 +115,7 @@ pub returns-else-is_fault-clause-rises : goal.returns-else-is_fault-clause-rises
 returns-else-is_fault-clause-rises g c =
     let same = the_other (λ d. false≢true (sym c.if-is_fault.false ∙ c.is_fault.ensures.1 d)) c.in-Err.ensures.kept in
     let calls = ap (λ d. g.D.Disk.calls d) same.0 in
-    inl (ap (λ (a : Ahead). a.log.generation) same.1, omega (arith, calls))
+    inl (ap (λ (a : Ahead). a.log.generation) same.1, ap (λ (a : Ahead). is_renewing a) same.1, omega (arith, calls))
 
 pub returns-else-is_fault-clause-either : goal.returns-else-is_fault-clause-either
 returns-else-is_fault-clause-either g c = inl tt

@@ -8,7 +8,8 @@ use Rattle.um_keeper.specs.Underway.{UnderwayIn}
 use Rattle.um_wire.specs.declared.refusal.Refusal.TheVariants.{Device}
 use Rattle.um_keeper.proofs.Offered.{own_or_memory}
 use Rattle.um_keeper.proofs.Results.{err_same, err_is, if_ok_from, ok_from, ok_always}
-use Rattle.um_keeper.proofs.Underway.{still_longer, underway_stayed, step_on, owed_most}
+use Rattle.um_keeper.proofs.Underway.{still_longer, underway_stayed}
+use Rattle.um_keeper.proofs.Judged.{step_on, owed_most}
 use Rattle.um_keeper.proofs.batch.take_step.Goals as goal
 
 pub returns-in_err-next-clause-during : goal.returns-in_err-next-clause-during
@@ -44,7 +45,7 @@ pub returns-clause-during : goal.returns-clause-during
 returns-clause-during g c h s before under = still_longer under (input_of c.args.input.now ∷ [])
 
 pub returns-clause-rises : goal.returns-clause-rises
-returns-clause-rises g c = inl (refl, omega arith)
+returns-clause-rises g c = inl (refl, refl, omega arith)
 
 pub returns-clause-either : goal.returns-clause-either
 returns-clause-either g c = inl (c.in_ok-next.ensures.effect.0 (sym c.has_effect.ensures ∙ c.if-has_effect.false))

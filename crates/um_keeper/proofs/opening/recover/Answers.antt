@@ -1,10 +1,12 @@
-use Rattle.std.proofs.Common.{◌≡◌, ◌∙◌, ◌-◌, ◌^◌, inl, inr, sym, subst}
+use Rattle.std.proofs.Common.{IsTrue, ◌≡◌, ◌⊎◌, ◌∙◌, ◌-◌, ◌^◌, ◌<◌, ℕ, Option, Some, None, inl, inr, sym, subst}
 use Rattle.um_engine.specs.Engine.{state_in}
-use Rattle.um_model.specs.Disk.{seen, IsSettled, after, synced}
+use Rattle.um_model.specs.Disk.{Image, seen, IsSettled, after, synced}
+use Rattle.um_model.specs.declared.layout.Format.{Format}
+use Rattle.um_model.specs.declared.layout.Layout.{Layout}
 use Rattle.um_laws.proofs.DiskLaws.{settled_after_sync}
 use Rattle.um_model.specs.Store.{top}
 use Rattle.um_log.specs.Greatest.{IsGreatest}
-use Rattle.um_keeper.specs.Opening.{IsUnread, IsUntaken, unread, spent, IsFound, IsRead, StaysFor}
+use Rattle.um_keeper.specs.Opening.{IsUnread, unread, spent, IsLast, IsFound, IsRead, StaysFor}
 use Rattle.um_keeper.proofs.Results.{err_same, if_ok_from, if_err_from, if_err_all, or_more}
 use Rattle.um_keeper.proofs.Reopening.{sync_unwritten, stays_of, next_of}
 use Rattle.um_keeper.proofs.opening.recover.Goals as goal
@@ -19,8 +21,8 @@ pub returns-in_err-found-clause-unwritten : goal.returns-in_err-found-clause-unw
 returns-in_err-found-clause-unwritten g c =
     if_err_all c.from_residual-in_err-found.result _ (λ e h. inl (inr (c.take_up.ensures.past (c.sync.ensures.honest ∙ h) ∙ c.in_ok-sync.ensures.past h)))
 
-pub returns-then-found-clause-unwritten : goal.returns-then-found-clause-unwritten
-returns-then-found-clause-unwritten g c h = inl (inr (c.take_up.ensures.past (c.sync.ensures.honest ∙ h) ∙ c.in_ok-sync.ensures.past h))
+pub returns-in_default-clause-unwritten : goal.returns-in_default-clause-unwritten
+returns-in_default-clause-unwritten g c h = inl (inr (c.take_up.ensures.past (c.sync.ensures.honest ∙ h) ∙ c.in_ok-sync.ensures.past h))
 
 pub returns-in_err-found-clause-err : goal.returns-in_err-found-clause-err
 returns-in_err-found-clause-err g c =
@@ -30,23 +32,31 @@ returns-in_err-found-clause-err g c =
     (subst (λ p. IsUnread (g.D.Disk.size c.sync.new.self) (seen p) c.in_err-found.field-0.0) (c.in_ok-sync.ensures.past h) (fails (c.sync.ensures.honest ∙ h)))))
     c.in_err-found.ensures.err)
 
+-- why no next generation is left
+spent_last : (layout : Layout) (image : Image) (format f : Format) (newest : ℕ) (greatest : Option ℕ) → f ≡ format → IsLast layout image (top format newest) greatest
+    → (greatest ≡ None) ⊎ (greatest ≡ Some (2 ^ 64 - 1)) → (2 ^ 64 - 1 < top f newest) ⊎ IsGreatest layout image (top f newest) (2 ^ 64 - 1)
+spent_last layout image format f newest greatest is last (inl none) =
+    inl (subst (λ (z : Format). 2 ^ 64 - 1 < top z newest) (sym is) (subst (IsLast layout image (top format newest)) none last))
+spent_last layout image format f newest greatest is last (inr some) =
+    inr (subst (λ (z : Format). IsGreatest layout image (top z newest) (2 ^ 64 - 1)) (sym is) (subst (IsLast layout image (top format newest)) some last))
+
 -- what was taken up, of the disk as it was given
-pub returns-then-found-clause-err : goal.returns-then-found-clause-err
-returns-then-found-clause-err g c = inr (λ h.
+pub returns-in_default-clause-err : goal.returns-in_default-clause-err
+returns-in_default-clause-err g c = inr (λ h.
     let p0 = g.D.Disk.past c.args.disk.now in
     let found = c.in_ok-found.found in
     let h1 = c.sync.ensures.honest ∙ h in
     let synced_it : g.D.Disk.past c.sync.new.self ≡ after synced p0 = c.in_ok-sync.ensures.past h in
-    let is : IsFound (g.D.Disk.size c.args.disk.now) (seen p0) found.layout found.home.slot found.home.generation found.greatest (state_in found.engine) =
-    subst (λ n. IsFound n (seen p0) found.layout found.home.slot found.home.generation found.greatest (state_in found.engine)) c.sync.ensures.size
-    (subst (λ p. IsFound (g.D.Disk.size c.sync.new.self) (seen p) found.layout found.home.slot found.home.generation found.greatest (state_in found.engine)) synced_it (c.in_ok-found.ensures.found h1)) in
+    let is : IsFound (g.D.Disk.size c.args.disk.now) (seen p0) found.format found.layout found.home.slot found.home.generation found.greatest (state_in found.engine) =
+    subst (λ n. IsFound n (seen p0) found.format found.layout found.home.slot found.home.generation found.greatest (state_in found.engine)) c.sync.ensures.size
+    (subst (λ p. IsFound (g.D.Disk.size c.sync.new.self) (seen p) found.format found.layout found.home.slot found.home.generation found.greatest (state_in found.engine)) synced_it (c.in_ok-found.ensures.found h1)) in
     spent (record {
       layout = found.layout;
       slot = found.home.slot;
       generation = found.home.generation;
       state = state_in found.engine;
       taken = is.taken;
-      last = subst (λ n. IsGreatest found.layout (seen p0) (top is.taken.has.format found.home.generation) n) c.if-found.true is.greatest_is;
+      last = spent_last found.layout (seen p0) found.format is.taken.has.format found.home.generation found.greatest is.format_is is.greatest_is (c.before_last.ensures.none c.in_default.is);
     }))
 
 -- ---- the state is written
@@ -57,15 +67,18 @@ returns-clause-stays g c =
     (λ held facts h.
     let p0 = g.D.Disk.past c.args.disk.now in
     let found = c.in_ok-found.found in
+    let greatest = c.in-Some.greatest in
+    let found_is = λ (h : IsTrue (g.D.Disk.honest c.sync.new.self)). subst (λ (o : Option ℕ). IsFound (g.D.Disk.size c.sync.new.self) (seen (g.D.Disk.past c.sync.new.self)) found.format found.layout found.home.slot found.home.generation o (state_in found.engine))
+    c.in-Some.ensures.some.0 (c.in_ok-found.ensures.found h) in
     let h1 = c.sync.ensures.honest ∙ h in
     let h2 = c.take_up.ensures.honest ∙ h1 in
     let synced_it : g.D.Disk.past c.sync.new.self ≡ after synced p0 = c.in_ok-sync.ensures.past h in
     let same = c.take_up.ensures.past h1 ∙ synced_it in
     subst (λ l. StaysFor l (state_in held.engine) p0 (g.D.Disk.past c.renew.new.disk)) (sym facts.2)
     (subst (λ s. StaysFor found.layout s p0 (g.D.Disk.past c.renew.new.disk)) (sym facts.0)
-    (stays_of (g.D.Disk.size c.take_up.new.disk) found.layout found.home.slot found.home.generation found.greatest (state_in found.engine) p0 (g.D.Disk.past c.take_up.new.disk) (g.D.Disk.past c.renew.new.disk) same
-    (subst (λ n. IsFound n (seen p0) found.layout found.home.slot found.home.generation found.greatest (state_in found.engine)) (sym c.take_up.ensures.size)
-    (subst (λ p. IsFound (g.D.Disk.size c.sync.new.self) (seen p) found.layout found.home.slot found.home.generation found.greatest (state_in found.engine)) synced_it (c.in_ok-found.ensures.found h1)))
+    (stays_of (g.D.Disk.size c.take_up.new.disk) found.format found.layout found.home.slot found.home.generation (Some greatest) (state_in found.engine) p0 (g.D.Disk.past c.take_up.new.disk) (g.D.Disk.past c.renew.new.disk) same
+    (subst (λ n. IsFound n (seen p0) found.format found.layout found.home.slot found.home.generation (Some greatest) (state_in found.engine)) (sym c.take_up.ensures.size)
+    (subst (λ p. IsFound (g.D.Disk.size c.sync.new.self) (seen p) found.format found.layout found.home.slot found.home.generation (Some greatest) (state_in found.engine)) synced_it (found_is h1)))
     (c.renew.ensures.during h2))))
     c.renew.ensures.held
 
@@ -75,6 +88,9 @@ returns-clause-unwritten g c =
     (λ e lost h.
     let p0 = g.D.Disk.past c.args.disk.now in
     let found = c.in_ok-found.found in
+    let greatest = c.in-Some.greatest in
+    let found_is = λ (h : IsTrue (g.D.Disk.honest c.sync.new.self)). subst (λ (o : Option ℕ). IsFound (g.D.Disk.size c.sync.new.self) (seen (g.D.Disk.past c.sync.new.self)) found.format found.layout found.home.slot found.home.generation o (state_in found.engine))
+    c.in-Some.ensures.some.0 (c.in_ok-found.ensures.found h) in
     let h1 = c.sync.ensures.honest ∙ h in
     let h2 = c.take_up.ensures.honest ∙ h1 in
     let synced_it : g.D.Disk.past c.sync.new.self ≡ after synced p0 = c.in_ok-sync.ensures.past h in
@@ -85,9 +101,9 @@ returns-clause-unwritten g c =
         layout = found.layout;
         state = state_in found.engine;
         stays =
-            stays_of (g.D.Disk.size c.take_up.new.disk) found.layout found.home.slot found.home.generation found.greatest (state_in found.engine) p0 (g.D.Disk.past c.take_up.new.disk) (g.D.Disk.past c.renew.new.disk) same
-            (subst (λ n. IsFound n (seen p0) found.layout found.home.slot found.home.generation found.greatest (state_in found.engine)) (sym c.take_up.ensures.size)
-            (subst (λ p. IsFound (g.D.Disk.size c.sync.new.self) (seen p) found.layout found.home.slot found.home.generation found.greatest (state_in found.engine)) synced_it (c.in_ok-found.ensures.found h1)))
+            stays_of (g.D.Disk.size c.take_up.new.disk) found.format found.layout found.home.slot found.home.generation (Some greatest) (state_in found.engine) p0 (g.D.Disk.past c.take_up.new.disk) (g.D.Disk.past c.renew.new.disk) same
+            (subst (λ n. IsFound n (seen p0) found.format found.layout found.home.slot found.home.generation (Some greatest) (state_in found.engine)) (sym c.take_up.ensures.size)
+            (subst (λ p. IsFound (g.D.Disk.size c.sync.new.self) (seen p) found.format found.layout found.home.slot found.home.generation (Some greatest) (state_in found.engine)) synced_it (found_is h1)))
             (c.renew.ensures.during h2);
       },
     ))
@@ -99,14 +115,17 @@ returns-clause-ok g c =
     (λ held keeps h.
     let p0 = g.D.Disk.past c.args.disk.now in
     let found = c.in_ok-found.found in
+    let greatest = c.in-Some.greatest in
+    let found_is = λ (h : IsTrue (g.D.Disk.honest c.sync.new.self)). subst (λ (o : Option ℕ). IsFound (g.D.Disk.size c.sync.new.self) (seen (g.D.Disk.past c.sync.new.self)) found.format found.layout found.home.slot found.home.generation o (state_in found.engine))
+    c.in-Some.ensures.some.0 (c.in_ok-found.ensures.found h) in
     let h1 = c.sync.ensures.honest ∙ h in
     let h2 = c.take_up.ensures.honest ∙ h1 in
     let synced_it : g.D.Disk.past c.sync.new.self ≡ after synced p0 = c.in_ok-sync.ensures.past h in
     let same = c.take_up.ensures.past h1 ∙ synced_it in
     keeps h2 (subst IsSettled (sym same) (settled_after_sync p0))
-    (subst (λ n. IsFound n (seen (g.D.Disk.past c.take_up.new.disk)) found.layout found.home.slot found.home.generation found.greatest (state_in found.engine)) (sym c.take_up.ensures.size)
-    (subst (λ p. IsFound (g.D.Disk.size c.sync.new.self) (seen p) found.layout found.home.slot found.home.generation found.greatest (state_in found.engine))
-    (sym (c.take_up.ensures.past h1)) (c.in_ok-found.ensures.found h1))))
+    (subst (λ n. IsFound n (seen (g.D.Disk.past c.take_up.new.disk)) found.format found.layout found.home.slot found.home.generation (Some greatest) (state_in found.engine)) (sym c.take_up.ensures.size)
+    (subst (λ p. IsFound (g.D.Disk.size c.sync.new.self) (seen p) found.format found.layout found.home.slot found.home.generation (Some greatest) (state_in found.engine))
+    (sym (c.take_up.ensures.past h1)) (found_is h1))))
     c.renew.ensures.ok
 
 pub returns-clause-taken : goal.returns-clause-taken
@@ -115,13 +134,16 @@ returns-clause-taken g c =
     (λ held facts h.
     let p0 = g.D.Disk.past c.args.disk.now in
     let found = c.in_ok-found.found in
+    let greatest = c.in-Some.greatest in
+    let found_is = λ (h : IsTrue (g.D.Disk.honest c.sync.new.self)). subst (λ (o : Option ℕ). IsFound (g.D.Disk.size c.sync.new.self) (seen (g.D.Disk.past c.sync.new.self)) found.format found.layout found.home.slot found.home.generation o (state_in found.engine))
+    c.in-Some.ensures.some.0 (c.in_ok-found.ensures.found h) in
     let h1 = c.sync.ensures.honest ∙ h in
     let h2 = c.take_up.ensures.honest ∙ h1 in
     let synced_it : g.D.Disk.past c.sync.new.self ≡ after synced p0 = c.in_ok-sync.ensures.past h in
-    next_of (g.D.Disk.size c.args.disk.now) (seen p0) found.layout held.log.layout found.home.slot held.home.slot found.home.generation found.greatest held.home.generation (state_in found.engine) (state_in held.engine)
+    next_of (g.D.Disk.size c.args.disk.now) (seen p0) found.format found.layout held.log.layout found.home.slot held.home.slot found.home.generation greatest held.home.generation (state_in found.engine) (state_in held.engine)
     facts.0 facts.2 facts.3 facts.4
-    (subst (λ n. IsFound n (seen p0) found.layout found.home.slot found.home.generation found.greatest (state_in found.engine)) c.sync.ensures.size
-    (subst (λ p. IsFound (g.D.Disk.size c.sync.new.self) (seen p) found.layout found.home.slot found.home.generation found.greatest (state_in found.engine)) synced_it (c.in_ok-found.ensures.found h1))))
+    (subst (λ n. IsFound n (seen p0) found.format found.layout found.home.slot found.home.generation (Some greatest) (state_in found.engine)) c.sync.ensures.size
+    (subst (λ p. IsFound (g.D.Disk.size c.sync.new.self) (seen p) found.format found.layout found.home.slot found.home.generation (Some greatest) (state_in found.engine)) synced_it (found_is h1))))
     c.renew.ensures.held
 
 pub returns-clause-opened : goal.returns-clause-opened
@@ -130,6 +152,9 @@ returns-clause-opened g c =
     (λ held facts h.
     let p0 = g.D.Disk.past c.args.disk.now in
     let found = c.in_ok-found.found in
+    let greatest = c.in-Some.greatest in
+    let found_is = λ (h : IsTrue (g.D.Disk.honest c.sync.new.self)). subst (λ (o : Option ℕ). IsFound (g.D.Disk.size c.sync.new.self) (seen (g.D.Disk.past c.sync.new.self)) found.format found.layout found.home.slot found.home.generation o (state_in found.engine))
+    c.in-Some.ensures.some.0 (c.in_ok-found.ensures.found h) in
     let h1 = c.sync.ensures.honest ∙ h in
     let synced_it : g.D.Disk.past c.sync.new.self ≡ after synced p0 = c.in_ok-sync.ensures.past h in
     subst (λ l. IsRead l (seen p0) held.opened) (sym facts.2)

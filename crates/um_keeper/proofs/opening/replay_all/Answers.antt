@@ -1,4 +1,4 @@
-use Rattle.std.proofs.Common.{◌∙◌, sym}
+use Rattle.std.proofs.Common.{◌∙◌}
 use Rattle.um_model.specs.Disk.{seen}
 use Rattle.um_keeper.proofs.Replaying.{behind_same}
 use Rattle.um_keeper.proofs.Results.{if_ok_all_four}

@@ -1,32 +1,17 @@
-use Rattle.std.proofs.Common.{IsTrue, ◌≡◌, ◌↔◌, ◌∙◌, ◌+◌, ◌≤◌, ⊎_elim, inl, inr, ℕ, List, length, Ok, refl, sym, ap, subst, arith}
+use Rattle.std.proofs.Common.{IsTrue, ◌≡◌, ◌↔◌, ◌∙◌, ◌+◌, ◌≤◌, ⊎_elim, inl, inr, ℕ, List, Ok, refl, sym, ap, subst}
 use Rattle.std.specs.Prelude.{IfSome}
 use Rattle.um_engine.specs.Engine.{state_in, size_in}
 use Rattle.um_model.specs.Disk.{Past, Image, seen}
 use Rattle.um_model.specs.Store as sectors
-use Rattle.um_wire.specs.declared.refusal.Refusal.{Refusal}
 use Rattle.um_wire.specs.declared.refusal.Refusal.TheVariants.{Damaged}
-use Rattle.um_model.specs.Machine.{State}
 use Rattle.um_model.specs.declared.layout.Format.{Format}
-use Rattle.um_model.specs.declared.layout.Format.TheVariants.{One}
 use Rattle.um_model.specs.declared.layout.Layout.{Layout}
-use Rattle.um_log.specs.Greatest.{IsGreatest}
-use Rattle.um_keeper.specs.Opening.{HasLayout, all_placed, IsStart, Replays, IsNoInput, IsUnread, IsBehind, no_state, no_input}
+use Rattle.um_keeper.specs.Opening.{HasLayout, all_placed, IsStart, Replays, IsNoInput, IsUnread, IsLast, AreRead, no_state, no_input}
 use Rattle.um_keeper.proofs.Results.{err_same, or_more}
-use Rattle.um_keeper.proofs.Telling.{remain_there, cut_off_told, damaged_told}
+use Rattle.um_keeper.proofs.Telling.{damaged_told}
 use Rattle.um_slot.specs.Reading.{IsDamaged}
 use Rattle.um_keeper.proofs.Reopening.{newest_there, header_unread}
 use Rattle.um_keeper.proofs.opening.take_up.Goals as goal
-
--- of the first format the records of the newest snapshot's own generation are all that count
-all_of : (format : Format) (layout : Layout) (newest : ℕ) (image : Image) → sectors.records_of format layout newest image ≡ sectors.all_records format layout newest image
-all_of One layout newest image = refl
-
-placed_of : (format : Format) (layout : Layout) (newest : ℕ) (image : Image)
-    → sectors.placed (sectors.area_start format layout newest) (sectors.records_of format layout newest image) ≡ all_placed format layout newest image
-placed_of One layout newest image = refl
-
-top_of : (format : Format) (newest : ℕ) → newest ≡ sectors.top format newest
-top_of One newest = refl
 
 -- sector 0 that tells them
 abbrev has_layout : (count : ℕ) (image : Image) (format : Format) (layout : Layout) → image 0 ≡ sectors.superblock format layout → sectors.store_sectors layout ≤ count → HasLayout count image layout
@@ -57,26 +42,10 @@ returns-in_default-clause-err g c = inr (λ h.
     (newest_there (g.D.Disk.past c.args.disk.now) (g.D.Disk.past c.read_layout.new.disk) layout home.slot home.generation c.in_ok-snapshot.snapshot.body.items (c.read_layout.ensures.past h) newest)
     (λ s starts. c.start_of.ensures.none (c.in_ok-engine.was ∙ ap Ok c.in_default.is) s (subst (λ (b : List ℕ). IsStart layout b s) (sym c.deref.ensures.value) starts))))
 
--- what was replayed of the log, of the disk as it was given
-module _ (format f : Format) (layout l : Layout) (generation n : ℕ) (old new : Past) (by : f ≡ format) (on : l ≡ layout) (of : n ≡ generation) (same : new ≡ old) where
-  records_same : sectors.records_of f l n (seen new) ≡ sectors.records_of format layout generation (seen old)
-  records_same = λ k. sectors.records_of (by k) (on k) (of k) (seen (same k))
-
-  pub no_input_there : (e : Refusal) → IsNoInput (sectors.placed (sectors.area_start f l n) (sectors.records_of f l n (seen new))) e
-      → IsNoInput (all_placed format layout generation (seen old)) e
-  no_input_there e fails =
-      subst (λ places. IsNoInput places e) (placed_of format layout generation (seen old))
-      (subst (λ places. IsNoInput places e) (λ k. sectors.placed (sectors.area_start (by k) (on k) (of k)) (records_same k)) fails)
-
-  pub replays_there : (size : ℕ) (s t : State) → Replays size (sectors.records_of f l n (seen new)) s t → Replays size (sectors.all_records format layout generation (seen old)) s t
-  replays_there size s t = subst (λ (r : List (List ℕ)). Replays size r s t) (records_same ∙ all_of format layout generation (seen old))
-
-  pub count_there : (number next : ℕ) → IsBehind f l n (seen new) number next → number ≡ length (sectors.all_records format layout generation (seen old))
-  count_there number next b = b.count ∙ ap (λ (r : List (List ℕ)). length r) (records_same ∙ all_of format layout generation (seen old))
-
 pub returns-clause-err : goal.returns-clause-err
 returns-clause-err g c =
     or_more (λ fails h.
+    let format = c.in_ok-format.format in
     let layout = c.in_ok-format.layout in
     let home = c.in_ok-snapshot.snapshot.home in
     let p0 = g.D.Disk.past c.args.disk.now in
@@ -87,8 +56,7 @@ returns-clause-err g c =
     no_input (has_layout (g.D.Disk.size c.args.disk.now) (seen (g.D.Disk.past c.args.disk.now)) c.in_ok-format.format c.in_ok-format.layout (c.in_ok-format.ensures.ok h) c.in_ok-format.ensures.room)
     (newest_there p0 (g.D.Disk.past c.read_layout.new.disk) layout home.slot home.generation c.in_ok-snapshot.snapshot.body.items (c.read_layout.ensures.past h) newest)
     (subst (λ (b : List ℕ). IsStart layout b (state_in c.in-Some.engine)) c.deref.ensures.value starts)
-    (no_input_there c.in_ok-format.format c.new-reader.result.format layout c.new-reader.result.layout home.generation c.new-reader.result.generation p0 (g.D.Disk.past c.newest.new.disk) c.new-reader.ensures.of.0 c.new-reader.ensures.of.1 c.new-reader.ensures.of.2
-    (c.newest.ensures.past h1 ∙ c.read_layout.ensures.past h) c.in-Err.refusal (fails h2)))
+    (subst (λ (p : Past). IsNoInput (all_placed format layout home.generation (seen p)) c.in-Err.refusal) (c.newest.ensures.past h1 ∙ c.read_layout.ensures.past h) (fails h2)))
     c.in-Err.ensures.err
 
 pub returns-in-Ok-clause-found : goal.returns-in-Ok-clause-found
@@ -96,17 +64,13 @@ returns-in-Ok-clause-found g c h =
     let format = c.in_ok-format.format in
     let layout = c.in_ok-format.layout in
     let home = c.in_ok-snapshot.snapshot.home in
-    let reader = c.new-reader.result in
-    let of = c.new-reader.ensures.of in
     let p0 = g.D.Disk.past c.args.disk.now in
-    let p2 = g.D.Disk.past c.newest.new.disk in
     let h1 = c.read_layout.ensures.honest ∙ h in
     let h2 = c.newest.ensures.honest ∙ h1 in
     let same = c.newest.ensures.past h1 ∙ c.read_layout.ensures.past h in
     let engine = c.in-Some.engine in
     let starts = subst (λ o. IfSome o (λ e. IsStart layout c.deref.result.now (state_in e))) c.in-Some.is c.in_ok-engine.ensures.start in
     let size = subst (λ o. IfSome o (λ e. size_in e ≡ sectors.body_limit layout)) c.in-Some.is c.in_ok-engine.ensures.sized in
-    let remains = remain_there format reader.format layout reader.layout home.generation reader.generation p0 p2 of.0 of.1 of.2 same c.in-Ok.remains (c.in-Ok.ensures.remains h2) in
     record {
       taken = record {
         has = has_layout (g.D.Disk.size c.args.disk.now) (seen p0) format layout (c.in_ok-format.ensures.ok h) c.in_ok-format.ensures.room;
@@ -114,11 +78,11 @@ returns-in-Ok-clause-found g c h =
         newest = subst (λ (p : Past). sectors.IsNewest layout (seen p) home.slot home.generation c.in_ok-snapshot.snapshot.body.items) (c.read_layout.ensures.past h) (c.in_ok-snapshot.ensures.ok h1);
         start = state_in engine;
         starts = subst (λ (b : List ℕ). IsStart layout b (state_in engine)) c.deref.ensures.value starts;
-        replays = subst (λ (n : ℕ). Replays n (sectors.all_records format layout home.generation (seen p0)) (state_in engine) (state_in c.replay_all.new.engine)) size
-            (replays_there format reader.format layout reader.layout home.generation reader.generation p0 p2 of.0 of.1 of.2 same
-            (size_in engine) (state_in engine) (state_in c.replay_all.new.engine) (c.in-Ok.ensures.ok h2));
+        replays = subst (λ (n : ℕ). Replays n (sectors.all_records format layout home.generation (seen p0)) (state_in engine) (state_in c.read_records.new.engine)) size
+            (subst (λ (p : Past). Replays (size_in engine) (sectors.all_records format layout home.generation (seen p)) (state_in engine) (state_in c.read_records.new.engine)) same (c.in-Ok.ensures.ok h2));
       };
-      greatest_is = subst (λ (n : ℕ). IsGreatest layout (seen p0) n c.in-Ok.remains.greatest) (top_of format home.generation) remains.greatest;
+      format_is = refl;
+      greatest_is = subst (λ (p : Past). IsLast layout (seen p) (sectors.top format home.generation) c.in-Ok.greatest) same (c.in-Ok.ensures.greatest h2);
     }
 
 pub returns-in-Ok-clause-read : goal.returns-in-Ok-clause-read
@@ -127,14 +91,12 @@ returns-in-Ok-clause-read g c h =
     let layout = c.in_ok-format.layout in
     let snapshot = c.in_ok-snapshot.snapshot in
     let home = snapshot.home in
-    let reader = c.new-reader.result in
-    let of = c.new-reader.ensures.of in
+    let read = c.in-Ok.read in
     let p0 = g.D.Disk.past c.args.disk.now in
-    let p2 = g.D.Disk.past c.newest.new.disk in
     let h1 = c.read_layout.ensures.honest ∙ h in
     let h2 = c.newest.ensures.honest ∙ h1 in
     let same = c.newest.ensures.past h1 ∙ c.read_layout.ensures.past h in
-    let remains = remain_there format reader.format layout reader.layout home.generation reader.generation p0 p2 of.0 of.1 of.2 same c.in-Ok.remains (c.in-Ok.ensures.remains h2) in
+    let are = subst (λ (p : Past). AreRead format layout home.generation (seen p) read.records read.here read.behind) same (c.in-Ok.ensures.read h2) in
     record {
       format = format;
       first = c.in_ok-format.ensures.ok h;
@@ -142,9 +104,9 @@ returns-in-Ok-clause-read g c h =
       is_newest = newest_there p0 (g.D.Disk.past c.read_layout.new.disk) layout home.slot home.generation snapshot.body.items (c.read_layout.ensures.past h)
           (c.in_ok-snapshot.ensures.ok h1);
       generation_is = refl;
-      records_are = count_there format reader.format layout reader.layout home.generation reader.generation p0 p2 of.0 of.1 of.2 same c.replay_all.new.reader.number c.replay_all.new.reader.next (c.in-Ok.ensures.all h2);
-      cut_off_is = cut_off_told format layout home.generation (seen p0) c.in-Ok.remains remains c.cut_off_of.result c.cut_off_of.ensures.some c.cut_off_of.ensures.none;
-      damaged_is = damaged_told format layout home.generation (seen p0) c.in-Ok.remains remains home.slot snapshot.is_other_damaged
+      records_are = are.count;
+      cut_off_is = c.cut_off_of.ensures format home.generation (seen p0) are;
+      damaged_is = damaged_told format layout home.generation (seen p0) c.later_of.result (c.later_of.ensures format home.generation (seen p0) are) home.slot snapshot.is_other_damaged
           (subst (λ (p : Past). IsTrue snapshot.is_other_damaged ↔ IsDamaged layout (seen p (sectors.slot_start layout (sectors.other home.slot)))) (c.read_layout.ensures.past h)
           (c.in_ok-snapshot.ensures.damaged h1)) c.damaged_of.result c.damaged_of.ensures.some c.damaged_of.ensures.none;
     }

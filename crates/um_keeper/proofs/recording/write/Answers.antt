@@ -1,18 +1,24 @@
-use Rattle.std.proofs.Common.{◌∙◌, ◌++◌, ◌+◌, ◌≤◌, ◌∷◌, [], ℕ, List, Ok, length, refl, ap, subst, arith}
+use Rattle.std.proofs.Common.{◌≡◌, ◌∙◌, ◌++◌, ◌+◌, ◌≤◌, ◌∷◌, [], ℕ, List, Ok, length, refl, sym, ap, subst, arith}
 use Rattle.um_laws.proofs.DiskLaws.{weaker}
 use Rattle.um_model.specs.Disk.{During}
-use Rattle.um_model.specs.Store.{part_count}
+use Rattle.um_model.specs.Store.{body_limit, part_count, log_end}
+use Rattle.um_model.specs.declared.layout.Layout.{Layout}
 use Rattle.um_log.specs.Ahead.{HasSome, GoesOnAhead}
 use Rattle.um_state.specs.View.{input_of}
-use Rattle.um_keeper.proofs.Batching.{begun_longer}
-use Rattle.um_keeper.proofs.Kept.{held_at}
+use Rattle.um_keeper.proofs.Aside.{written_room}
+use Rattle.um_keeper.proofs.Judged.{step_on}
+use Rattle.um_keeper.proofs.Kept.{begun_longer, held_at}
 use Rattle.um_keeper.proofs.Spent.{free_behind}
 use Rattle.um_keeper.proofs.Taking.{rises_more}
-use Rattle.um_keeper.proofs.Underway.{still_longer, then_begun, during_recorded, underway_recorded, step_on}
+use Rattle.um_keeper.proofs.Underway.{still_longer, then_begun, during_recorded, underway_recorded}
 use Rattle.um_keeper.proofs.recording.write.Goals as goal
 
 pub invariant_of-ahead : goal.invariant_of-ahead
-invariant_of-ahead g c = record { same = c.write.ensures.of.1 ∙ c.make_room.new.ahead.same }
+invariant_of-ahead g c = record {
+  same = c.write.ensures.of.1 ∙ c.make_room.new.ahead.same;
+  early = c.make_room.new.ahead.early;
+  short = subst (λ (l : Layout). length c.make_room.new.ahead.aside.body.items ≤ body_limit l) (sym c.write.ensures.of.0) c.make_room.new.ahead.short;
+}
 
 pub returns-in_err-bytes-clause-during : goal.returns-in_err-bytes-clause-during
 returns-in_err-bytes-clause-during g c h next planned s taken under = still_longer under (input_of c.args.input.now ∷ [])
@@ -46,7 +52,11 @@ returns-in-Ok-true-clause-under g c h next planned s taken under =
     let new = g.D.Disk.past c.write.new.disk in
     let h1 = c.make_room.ensures.honest ∙ h in
     let here = c.in_ok-make_room.ensures.ok h s taken under in
-    underway_recorded here c.in_ok-bytes.ensures.fits (step_on (held_at c.requires.held c.make_room.ensures.layout refl refl) planned.step refl) c.write.ensures.of.0
+    let size : c.len.result ≡ length c.deref.result.now = omega (arith, c.len.ensures, ap length c.deref.ensures.value) in
+    let done = c.in-Ok-true.is ∙ ap Ok c.in-Ok-true.field-0-test in
+    underway_recorded here c.in_ok-bytes.ensures.fits (step_on (held_at c.requires.held c.make_room.ensures.layout refl refl) planned.step refl) c.write.ensures.of.0 c.write.ensures.of.1
+    (written_room a.log.layout a.aside.body.items a.aside.written a.aside.going a.aside.none a.short) (part_count (length c.deref.result.now))
+    (subst (λ n. a.log.next + part_count n ≤ log_end a.log.layout a.log.generation) size c.in_ok-make_room.ensures.fits.within) (c.write.ensures.read done h1)
     (subst (λ (b : List ℕ). GoesOnAhead log.layout new a.home.slot a.home.generation here.body here.records (here.more ++ b ∷ []) log.generation log.number log.next) (c.deref.ensures.value ∙ c.in_ok-bytes.ensures.bytes)
     (c.write.ensures.ok (c.in-Ok-true.is ∙ ap Ok c.in-Ok-true.field-0-test) h1 a.home.slot a.home.generation here.body here.records here.more here.ahead))
 
@@ -69,5 +79,5 @@ returns-in-Ok-true-clause-filled g c from free =
     (c.make_room.ensures.free from free)
 
 pub returns-in-Ok-true-clause-rises : goal.returns-in-Ok-true-clause-rises
-returns-in-Ok-true-clause-rises g c = rises_more c.args.ahead.now.log c.make_room.new.ahead.log c.write.new.self _ _ c.in_ok-make_room.ensures.rises c.write.ensures.of.1
+returns-in-Ok-true-clause-rises g c = rises_more c.args.ahead.now c.make_room.new.ahead _ _ c.in_ok-make_room.ensures.rises c.write.ensures.of.1 refl
     (subst (λ (b : List ℕ). g.D.Disk.calls c.write.new.disk ≤ g.D.Disk.calls c.make_room.new.disk + part_count (length b)) (c.deref.ensures.value ∙ c.in_ok-bytes.ensures.bytes) c.write.ensures.calls)

@@ -7,6 +7,7 @@ use Rattle.um_manager.proofs.Adoption.{adopted, unadopted_calls}
 use Rattle.um_manager.proofs.FewLive.{few_live}
 use Rattle.um_manager.proofs.Placing.{same_err, device_alone}
 use Rattle.um_wire.specs.declared.refusal.Refusal.TheVariants.{Device}
+use Rattle.um_manager.specs.Frames.{KeepsStore}
 use Rattle.um_manager.specs.Opening.{Ends}
 use Rattle.um_manager.specs.Places.{place_in, log_in}
 use Rattle.um_manager.specs.Stores.{Submits}
@@ -66,3 +67,13 @@ returns-in_err-submit-clause-adopts g c =
     (now_in old heard c.args.marks.now [] (D.past (disk_in old))) (now_in new grown c.submit.new.marks [] (D.past (disk_in new)))) (sym same) c.submit.ensures.submits)
     (same ∙ c.in_err-submit.was ∙ ap Err (subst (λ r. IfErr r (λ e. e ≡ Device)) c.in_err-submit.was alone))
     (subst IsTrue (sym c.claim_live.ensures.children.honest)) (λ x. x) c.submit.ensures.frame.children.whole
+
+pub returns-in_err-submit-clause-frame : goal.returns-in_err-submit-clause-frame
+returns-in_err-submit-clause-frame g c =
+    let same : c.from_residual.result ≡ c.submit.result = same_err c.from_residual.result c.submit.result _ c.from_residual.ensures.1 c.in_err-submit.was in
+    let claimed = c.claim_live.ensures.children in
+    let frame = c.submit.ensures.frame in
+    record {
+      store = subst (λ r. KeepsStore {T = Unit} g.D.Disk r c.args.keeper.now c.submit.new.keeper) (sym same) frame.store;
+      children = record { honest = frame.children.honest ∙ claimed.honest; whole = λ is. claimed.whole (frame.children.whole is) };
+    }

@@ -1,4 +1,4 @@
-use Rattle.std.proofs.Common.{◌≡◌, ◌≢◌, ℕ, List, ◌∷◌, [], Ok, Err, refl, sym, subst}
+use Rattle.std.proofs.Common.{◌≡◌, ◌≢◌, ◌∙◌, ℕ, List, ◌∷◌, [], Ok, Err, refl, sym, subst}
 use Rattle.std.specs.Bool.{IsTrue}
 use Rattle.um_keeper.specs.Keepers.{disk_in, state_in, size_in, has_failed}
 use Rattle.um_fates.specs.Live.{AreLive}
@@ -8,7 +8,8 @@ use Rattle.um_manager.specs.Turns.{now_in}
 use Rattle.um_manager.proofs.Beginning.{refuses_boot, if_err_same}
 use Rattle.um_manager.proofs.Booting.{live_after}
 use Rattle.um_manager.proofs.Offering.{trusts, not_begun}
-use Rattle.um_manager.proofs.Placing.{same_place, same_failed}
+use Rattle.um_manager.proofs.Placing.{same_place, same_failed, answered_no_device, handed_on, handed_back, ok_no_device, failed_on}
+use Rattle.std.proofs.lemmas.Result.{err_from_is_err_and}
 use Rattle.um_manager.proofs.opening.begin.Goals as goal
 
 pub adopt-requires-clause-live : goal.adopt-requires-clause-live
@@ -98,3 +99,30 @@ returns-in_err-adopt-clause-refuses g c =
         count_is = refl;
       }),
     )
+
+pub returns-in_err-adopt-clause-frame : goal.returns-in_err-adopt-clause-frame
+returns-in_err-adopt-clause-frame g c =
+    let boot = c.offer_boot.ensures.store in
+    let frame = c.adopt.ensures.frame in
+    let (y, err, same) = err_from_is_err_and c.from_residual-in_err-adopt.result c.from_residual-in_err-adopt.ensures.1 in
+    record {
+      store = record {
+        place = record { layout = frame.store.place.layout ∙ boot.place.layout; size = frame.store.place.size ∙ boot.place.size; opened = frame.store.place.opened ∙ boot.place.opened };
+        disk = frame.store.disk ∙ boot.disk;
+        failed = failed_on (same_failed c.in_ok-offer_boot.was boot.failed) (handed_on err same c.in_err-adopt.was) (handed_back err same c.in_err-adopt.was) frame.store.failed;
+      };
+      children = frame.children;
+    }
+
+pub returns-clause-frame : goal.returns-clause-frame
+returns-clause-frame g c =
+    let boot = c.offer_boot.ensures.store in
+    let frame = c.adopt.ensures.frame in
+    record {
+      store = record {
+        place = record { layout = frame.store.place.layout ∙ boot.place.layout; size = frame.store.place.size ∙ boot.place.size; opened = frame.store.place.opened ∙ boot.place.opened };
+        disk = frame.store.disk ∙ boot.disk;
+        failed = failed_on (same_failed c.in_ok-offer_boot.was boot.failed) (λ device. absurd (answered_no_device c.in_ok-adopt.was device)) (λ device. absurd (ok_no_device device)) frame.store.failed;
+      };
+      children = frame.children;
+    }

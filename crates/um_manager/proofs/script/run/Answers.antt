@@ -1,4 +1,4 @@
-use Rattle.std.proofs.Common.{◌≡◌, ◌∙◌, ◌∷◌, ◌+◌, drop, Ok, ap, sym, subst, inl, inr, rules}
+use Rattle.std.proofs.Common.{◌≡◌, ◌∙◌, ◌∷◌, ◌+◌, drop, true, Result, Ok, Err, ap, sym, subst, inl, inr, rules}
 use Rattle.std.specs.Bool.{IsTrue}
 use Rattle.std.proofs.lemmas.List.{drop_more}
 use Rattle.um_keeper.specs.Keepers.{disk_in, has_failed}
@@ -8,8 +8,9 @@ use Rattle.um_manager.specs.Turns.{Turned, now_in}
 use Rattle.um_manager.proofs.Placing.{same_place, same_failed, same_err, refused_not_ok, counted_ok, works, all_worked, last_reopen}
 use Rattle.um_manager.proofs.Turning.{not_refused, turned_less}
 use Rattle.um_sector.specs.Refused.{CountsDevice, IsLost}
-use Rattle.um_wire.specs.declared.refusal.Refusal.TheVariants.{Reopen}
-use Rattle.std.specs.Prelude.{◌⊎◌, IfErr}
+use Rattle.um_wire.specs.declared.refusal.Refusal.{Refusal}
+use Rattle.um_wire.specs.declared.refusal.Refusal.TheVariants.{Device, Reopen}
+use Rattle.std.specs.Prelude.{◌⊎◌, ◌↔◌, IfErr}
 use Rattle.um_manager.proofs.script.run.Goals as goal
 
 pub loop-step-preserved : goal.loop-step-preserved
@@ -95,3 +96,21 @@ pub returns-in_err-turn-clause-reopen : goal.returns-in_err-turn-clause-reopen
 returns-in_err-turn-clause-reopen g c =
     last_reopen c.args.steps.now c.loop-step.step-index (same_err c.from_residual.result c.turn.result _ c.from_residual.ensures.1 c.in_err-turn.was) c.loop-step.invariant.failed c.loop-step-test.true
     c.turn.ensures.reopen
+
+pub returns-in_err-turn-clause-frame : goal.returns-in_err-turn-clause-frame
+returns-in_err-turn-clause-frame g c =
+    let first = c.args.keeper.now in
+    let new = c.turn.new.keeper in
+    let inv = c.loop-step.invariant in
+    let same : c.from_residual.result ≡ c.turn.result = same_err c.from_residual.result c.turn.result _ c.from_residual.ensures.1 c.in_err-turn.was in
+    let store = c.turn.ensures.frame.store in
+    let children = c.turn.ensures.frame.children in
+    record {
+      store = record {
+        place = record { layout = store.place.layout ∙ inv.place.layout; size = store.place.size ∙ inv.place.size; opened = store.place.opened ∙ inv.place.opened };
+        disk = store.disk ∙ inv.disk;
+        failed = subst (λ (r : Result Unit Refusal). (has_failed new ≡ true) ↔ ((has_failed first ≡ true) ⊎ (r ≡ Err Device))) (sym same)
+            (subst (λ b. (has_failed new ≡ true) ↔ ((b ≡ true) ⊎ (c.turn.result ≡ Err Device))) inv.failed store.failed);
+      };
+      children = record { honest = children.honest ∙ inv.honest; whole = λ is. inv.whole (children.whole is) };
+    }

@@ -2,29 +2,18 @@ use Rattle.std.proofs.Common.{◌≡◌, ◌∙◌, ◌++◌, ℕ, length, map, 
 use Rattle.std.proofs.lemmas.List.{length-map}
 use Rattle.um_model.specs.Machine.{Refusal}
 use Rattle.um_keeper.specs.Answering.{all_asked}
-use Rattle.um_keeper.specs.Keepers.{disk_in, state_in, log_generation_in, next_in, has_failed}
-use Rattle.um_keeper.specs.declared.keeper.Keeper.{Keeper}
-use Rattle.um_sector.specs.declared.disk.Disk as disk
+use Rattle.um_keeper.specs.Keepers.{disk_in, state_in, has_failed}
 use Rattle.um_state.specs.View.{input_of, reply_of}
 use Rattle.um_wire.specs.Refusal.{refused_of}
 use Rattle.um_fates.specs.Fates.{inputs_in}
 use Rattle.um_manager.specs.Orders.{Carries}
-use Rattle.um_manager.specs.Places.{LogEnd, place_in, log_in}
+use Rattle.um_manager.specs.Places.{place_in, log_in}
 use Rattle.um_manager.specs.Replies.{reply_in}
 use Rattle.um_manager.specs.Stores.{refusal_of}
 use Rattle.um_manager.specs.Turns.{Holds}
 use Rattle.um_manager.proofs.Offering.{ok_not_err, length-told, trusts, untrusted, answers_of, failed_answered, failed_denied, submitted_all, refused_reopen, denied_all}
 use Rattle.um_manager.proofs.Offering.{answered_refused, answered_counts, answered_reopen, denied_refused, denied_counts, denied_reopen}
 use Rattle.um_manager.proofs.submitting.submit.Goals as goal
-
--- the log ends as before, behind as many calls
-abbrev at_end : ℕ → ℕ → ℕ → LogEnd
-at_end generation next calls = record { generation = generation; next = next; calls = calls }
-
-log_same : {D : Type 0} {d : disk.Ghosts D} (old new : Keeper D d) → log_generation_in new ≡ log_generation_in old → next_in new ≡ next_in old → disk_in new ≡ disk_in old → log_in new ≡ log_in old
-log_same {d = d} old new generation next same =
-    ap (λ n. at_end n (next_in new) (d.calls (disk_in new))) generation ∙ ap (λ n. at_end (log_generation_in old) n (d.calls (disk_in new))) next
-    ∙ ap (λ x. at_end (log_generation_in old) (next_in old) (d.calls x)) same
 
 pub carry_all-requires : goal.carry_all-requires
 carry_all-requires g c =
@@ -61,7 +50,7 @@ returns-in-Ok-clause-submits g c =
     (g.C.Children.past c.carry_all.new.children) c.args.marks.now c.carry_all.new.marks (D.past (disk_in old)) (D.past (disk_in new)) (log_in old) (log_in new) (map reply_of c.carry_all.new.replies.items)
     (g.C.Children.honest c.args.children.now) (g.C.Children.whole c.carry_all.new.children)
     c.faults.ensures
-    c.in-Ok.ensures.ok c.in-Ok.ensures.fell c.in-Ok.ensures.told c.in-Ok.ensures.order (λ from free. c.in-Ok.ensures.spent from (record { start = free.start; behind = free.behind })) c.in-Ok.ensures.few_calls (c.carry_all.ensures.replies ∙ ap (λ l. map reply_of l ++ map reply_in c.in-Ok.answers.items) c.requires.empty)
+    c.in-Ok.ensures.ok c.in-Ok.ensures.fell c.in-Ok.ensures.told c.in-Ok.ensures.order (λ from free. c.in-Ok.ensures.spent from (record { start = free.start; behind = free.behind })) c.in-Ok.ensures.few_calls c.in-Ok.ensures.begins (c.carry_all.ensures.replies ∙ ap (λ l. map reply_of l ++ map reply_in c.in-Ok.answers.items) c.requires.empty)
     (subst (λ units. Carries (g.C.Children.honest c.args.children.now) (g.C.Children.whole c.carry_all.new.children) units (g.C.Children.past c.args.children.now)
     (g.C.Children.past c.carry_all.new.children) c.args.marks.now c.carry_all.new.marks (all_asked c.in-Ok.answers.items))
     (c.units.ensures ∙ ap (λ s. s.units) c.state.ensures) c.carry_all.ensures.carries)
@@ -95,7 +84,7 @@ returns-in-Err-clause-submits g c =
     ∙ ap (λ n. replicate n (Refusal (refused_of (refusal_of f)))) (count ∙ sym (length-map c.args.inputs.items input_of)))
     (λ so. untrusted honest (refused_reopen c.submit_all.result c.in-Err.refusal f c.in-Err.is c.fault_of-fault.ensures c.submit_all.ensures.reopen so))
     same
-    (log_same old new c.in-Err.ensures.still.0 c.in-Err.ensures.still.1 c.in-Err.ensures.unwritten)
+    (c.in-Err.ensures.still.0, ap D.calls c.in-Err.ensures.unwritten)
     (λ t.
     let (h, w) = trusts honest (has_failed old) t in
     subst (λ x. Holds place (state_in old) x) same (subst (λ y. Holds place y (D.past (disk_in new))) c.in-Err.ensures.state (c.submit_all.ensures.stored (c.in-Err.ensures.failed ∙ w) h)))

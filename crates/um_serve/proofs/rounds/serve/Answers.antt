@@ -1,4 +1,7 @@
-use Rattle.std.proofs.Common.{◌≡◌, ◌∙◌, ◌+◌, ◌≤◌, ◌∷◌, ◌++◌, [], length, length-append, Ok, Err, refl, sym, subst, inl, rules, arith}
+use Rattle.std.proofs.Common.{◌≡◌, ◌∙◌, ◌+◌, ◌≤◌, ◌∷◌, ◌++◌, [], length, length-append, true, Result, Ok, Err, refl, sym, subst, inl, inr, rules, arith}
+use Rattle.std.specs.Prelude.{◌⊎◌, ◌↔◌}
+use Rattle.um_wire.specs.declared.refusal.Refusal.{Refusal}
+use Rattle.um_wire.specs.declared.refusal.Refusal.TheVariants.{Device}
 use Rattle.std.specs.Bool.{IsTrue}
 use Rattle.um_keeper.specs.Keepers.{disk_in, layout_in, has_failed}
 use Rattle.um_manager.proofs.Beginning.{opened_place}
@@ -9,7 +12,7 @@ use Rattle.um_serve.proofs.JoinLaws.{round_less, serves_less, joined}
 use Rattle.um_serve.proofs.GotLaws.{followed}
 use Rattle.um_serve.proofs.LifeLaws.{rounds_live_on}
 use Rattle.um_serve.proofs.RoundLaws.{round_of, last_of, same_place, same_failed, all_rounds, last_round}
-use Rattle.um_manager.proofs.Placing.{counted_ok, works}
+use Rattle.um_manager.proofs.Placing.{counted_ok, works, ok_no_device}
 use Rattle.um_sector.specs.Refused.{CountsDevice}
 use Rattle.um_serve.proofs.rounds.serve.Goals as goal
 
@@ -181,3 +184,32 @@ returns-in-Err-clause-client g c = λ k follows.
     let later = trust (g.C.Children.honest c.args.manager.now.children) (g.C.Children.whole m.children) (g.G.Gate.honest c.args.gate.now.gate) (g.G.Gate.whole c.round.new.self.gate) (g.M.Moments.honest c.args.clock.now) (g.M.Moments.whole c.round.new.clock) in
     let all = returns-in-Err-clause-serves g c in
     followed follows later _ all.0 _ ended all.2
+
+pub returns-in-Err-clause-frame : goal.returns-in-Err-clause-frame
+returns-in-Err-clause-frame g c =
+    let first = c.args.manager.now.keeper in
+    let new = c.round.new.manager.keeper in
+    let inv = c.loop.invariant in
+    let store = c.round.ensures.frame.store in
+    let children = c.round.ensures.frame.children in
+    record {
+      store = record {
+        place = record { layout = store.place.layout ∙ inv.place.layout; size = store.place.size ∙ inv.place.size; opened = store.place.opened ∙ inv.place.opened };
+        disk = store.disk ∙ inv.disk;
+        failed = subst (λ (r : Result Unit Refusal). (has_failed new ≡ true) ↔ ((has_failed first ≡ true) ⊎ (r ≡ Err Device))) c.in-Err.is
+            (subst (λ b. (has_failed new ≡ true) ↔ ((b ≡ true) ⊎ (c.round.result ≡ Err Device))) inv.failed store.failed);
+      };
+      children = record { honest = children.honest ∙ inv.honest; whole = λ is. inv.whole (children.whole is) };
+    }
+
+pub returns-clause-frame : goal.returns-clause-frame
+returns-clause-frame g c =
+    let inv = c.loop.invariant in
+    record {
+      store = record {
+        place = inv.place;
+        disk = inv.disk;
+        failed = ((λ is. inl (sym inv.failed ∙ is)), (λ is. elim is [ inl was ↦ inv.failed ∙ was | inr device ↦ absurd (ok_no_device device) ]));
+      };
+      children = record { honest = inv.honest; whole = inv.whole };
+    }

@@ -63,3 +63,12 @@ returns-clause-beside g c h body long all =
     (subst (λ (p : Past). IsLaid (seen p) (slot_start layout to.slot) (header_sector to.generation (length body) ∷ []) (seen new)) (c.in_ok-sync.ensures.past h)
     (moved (λ n run. IsLaid (seen mid) n run (seen new)) c.slot_start.ensures (c.header_sector.ensures ∙ ap (header_sector to.generation) (sym long))
     (c.in_ok-write_run_synced.ensures.ok (c.sync.ensures.honest ∙ h))))
+
+pub returns-clause-same : goal.returns-clause-same
+returns-clause-same g c h j out =
+    let layout = c.args.layout in
+    let to = c.args.to in
+    let mid = g.D.Disk.past c.sync.new.self in
+    let new = g.D.Disk.past c.write_run_synced.new.disk in
+    (subst (λ (p : Past). IsLaid (seen p) (slot_start layout to.slot) (header_sector to.generation c.args.size ∷ []) (seen new)) (c.in_ok-sync.ensures.past h)
+    (moved (λ n run. IsLaid (seen mid) n run (seen new)) c.slot_start.ensures c.header_sector.ensures (c.in_ok-write_run_synced.ensures.ok (c.sync.ensures.honest ∙ h)))).outside j out

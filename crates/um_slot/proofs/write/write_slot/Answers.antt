@@ -2,7 +2,7 @@ use Rattle.std.proofs.Common.{◌≡◌, ◌+◌, ◌∙◌, min, ℕ, length, r
 use Rattle.um_model.specs.Disk.{seen, During}
 use Rattle.um_model.specs.Store.{other, sector_count}
 use Rattle.um_model.specs.declared.layout.Slot.{Slot}
-use Rattle.um_slot.specs.Snapshots.{IsWritten, IsSnapshot, MaybeSnapshot, AfterSnapshot}
+use Rattle.um_slot.specs.Snapshots.{IsWritten, IsSnapshot, MaybeSnapshot, AfterSeal}
 use Rattle.um_slot.proofs.Writing.{parts_maybe, both_maybe, both_beside, none_written}
 use Rattle.um_slot.proofs.write.write_slot.Goals as goal
 
@@ -25,9 +25,9 @@ returns-in_err-seal-clause-during g c h =
     let whole : IsWritten layout (seen mid) (other last.slot) body (sector_count (length body)) =
     subst (IsWritten layout (seen mid) (other last.slot) body) full (c.in_ok-write_next.ensures.written h (none_written layout (seen old) (other last.slot) body)) in
     let there = subst (λ (s : Slot). IsWritten layout (seen mid) s body (sector_count (length body))) (sym turned.0) whole in
-    both_maybe layout last.slot (last.generation + 1) body old mid new (c.write_next.ensures.during h)
-    (subst (λ (n : ℕ). During mid new (AfterSnapshot layout mid (other last.slot) n body)) turned.1
-    (subst (λ (s : Slot). During mid new (AfterSnapshot layout mid s to.generation body)) turned.0 (c.seal.ensures.during h1 body refl there)))
+    both_maybe layout last.slot (last.generation + 1) body old mid new (g.met.D.Disk.seen_is_image c.write_next.new.disk h1) (c.write_next.ensures.during h)
+    (subst (λ (n : ℕ). During mid new (AfterSeal layout mid (other last.slot) n body)) turned.1
+    (subst (λ (s : Slot). During mid new (AfterSeal layout mid s to.generation body)) turned.0 (c.seal.ensures.during h1 body refl there)))
 
 pub returns-clause-during : goal.returns-clause-during
 returns-clause-during g c h =
@@ -44,9 +44,9 @@ returns-clause-during g c h =
     let whole : IsWritten layout (seen mid) (other last.slot) body (sector_count (length body)) =
     subst (IsWritten layout (seen mid) (other last.slot) body) full (c.in_ok-write_next.ensures.written h (none_written layout (seen old) (other last.slot) body)) in
     let there = subst (λ (s : Slot). IsWritten layout (seen mid) s body (sector_count (length body))) (sym turned.0) whole in
-    both_maybe layout last.slot (last.generation + 1) body old mid new (c.write_next.ensures.during h)
-    (subst (λ (n : ℕ). During mid new (AfterSnapshot layout mid (other last.slot) n body)) turned.1
-    (subst (λ (s : Slot). During mid new (AfterSnapshot layout mid s to.generation body)) turned.0 (c.seal.ensures.during h1 body refl there)))
+    both_maybe layout last.slot (last.generation + 1) body old mid new (g.met.D.Disk.seen_is_image c.write_next.new.disk h1) (c.write_next.ensures.during h)
+    (subst (λ (n : ℕ). During mid new (AfterSeal layout mid (other last.slot) n body)) turned.1
+    (subst (λ (s : Slot). During mid new (AfterSeal layout mid s to.generation body)) turned.0 (c.seal.ensures.during h1 body refl there)))
 
 pub returns-clause-written : goal.returns-clause-written
 returns-clause-written g c h =

@@ -1,3 +1,4 @@
+use Rattle.std.proofs.Common.{◌∙◌}
 use Rattle.um_engine.specs.Engine.{state_in}
 use Rattle.um_keeper.proofs.Kept.{stores}
 use Rattle.um_keeper.proofs.Offered.{opening_leaves, some_stores}
@@ -16,7 +17,7 @@ pub returns-in-Ok-clause-stands : goal.returns-in-Ok-clause-stands
 returns-in-Ok-clause-stands g c h = (c.in-Ok.ensures.stays h).stands
 
 pub returns-in-Ok-clause-stored : goal.returns-in-Ok-clause-stored
-returns-in-Ok-clause-stored g c h = stores (c.in-Ok.ensures.ok h)
+returns-in-Ok-clause-stored g c h = stores (g.met.D.Disk.seen_is_image c.recover.new.disk (c.recover.ensures.honest ∙ h)) (c.in-Ok.ensures.ok h)
 
 pub returns-in-Ok-clause-sized : goal.returns-in-Ok-clause-sized
 returns-in-Ok-clause-sized g c = c.in-Ok.ensures.kept.size_is

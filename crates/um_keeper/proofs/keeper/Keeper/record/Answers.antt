@@ -5,7 +5,7 @@ use Rattle.um_keeper.proofs.Kept.{still, not_begun, record_short, room_begun, ro
 use Rattle.um_keeper.proofs.keeper.Keeper.record.Goals as goal
 
 pub returns-in-Err-clause-during : goal.returns-in-Err-clause-during
-returns-in-Err-clause-during g c h = not_begun (input_of c.args.input.now ∷ []) (c.args.self.now.kept c.requires.working h)
+returns-in-Err-clause-during g c h = not_begun (input_of c.args.input.now ∷ []) (g.met.D.Disk.seen_is_image c.args.self.now.disk h) (c.args.self.now.kept c.requires.working h)
 
 pub make_room-requires-clause-short : goal.make_room-requires-clause-short
 make_room-requires-clause-short g c =
@@ -20,7 +20,7 @@ returns-in-Ok-make_room-clause-during g c h = room_and_record (input_of c.args.i
     c.make_room.ensures.place.layout (ap (λ s. s.state) c.make_room.ensures.state)
 
 pub returns-in-Err-clause-kept : goal.returns-in-Err-clause-kept
-returns-in-Err-clause-kept g c = inr (λ h. still (c.args.self.now.kept c.requires.working h))
+returns-in-Err-clause-kept g c = inr (λ h. still (g.met.D.Disk.seen_is_image c.args.self.now.disk h) (c.args.self.now.kept c.requires.working h))
 
 pub returns-in-Ok-make_room-clause-kept : goal.returns-in-Ok-make_room-clause-kept
 returns-in-Ok-make_room-clause-kept g c = if_err_from c.append.result _ _ (λ e device. inl device) c.append.ensures.refused

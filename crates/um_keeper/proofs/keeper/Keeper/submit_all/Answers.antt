@@ -3,19 +3,17 @@ use Rattle.std.proofs.lemmas.Bool.{true≢false}
 use Rattle.std.proofs.lemmas.List.{length-map}
 use Rattle.um_engine.specs.Engine as machine
 use Rattle.um_engine.specs.declared.engine.Back.{Back}
-use Rattle.um_model.specs.Disk.{Past, During}
-use Rattle.um_model.specs.Machine.{State}
+use Rattle.um_model.specs.Disk.{During}
 use Rattle.um_model.specs.Standing.{Standing}
 use Rattle.um_model.specs.Store.{body_limit, log_end}
-use Rattle.um_model.specs.declared.layout.Layout.{Layout}
-use Rattle.um_model.specs.declared.layout.Slot.{Slot}
 use Rattle.um_sector.specs.Unsynced.{sync_count}
 use Rattle.um_state.specs.View.{input_of}
 use Rattle.um_state.specs.declared.input.Input.{Input}
-use Rattle.um_keeper.specs.Answering.{Answer, AreAnswered, FellBack, FellThere, NeedNoRecord, HaveNoRecord, Recorded, AreSpentAt, AreSpentAsMeant, as_told, TakesCalls, denied, taken, state_before_all}
+use Rattle.um_keeper.specs.Answering.{Answer, AreAnswered, FellBack, FellThere, NeedNoRecord, HaveNoRecord, Recorded, AreSpentAt, AreSpentAsMeant, as_told, TakesCalls, BeginsOne, denied, taken, state_before_all}
 use Rattle.um_keeper.specs.Keepers.{disk_in, standing_in, state_in, size_in, layout_in, log_generation_in, next_in}
 use Rattle.um_keeper.specs.Keeping.{IsBegun}
 use Rattle.um_keeper.proofs.Batching.{numbers_asked, denied_new, no_fault, need_no_record, fell_whole, fell_back, fell_there, fell_told, fell_during, fell_unrecorded}
+use Rattle.um_keeper.proofs.Judged.{idle_left}
 use Rattle.um_keeper.proofs.Kept.{stores, stores_at, keeps_for}
 use Rattle.um_keeper.proofs.Offered.{each_stays, fell_stays, list_goes_on}
 use Rattle.um_keeper.proofs.Results.{of_first}
@@ -24,10 +22,10 @@ use Rattle.um_wire.specs.declared.refusal.Refusal.TheVariants.{Device}
 use Rattle.um_keeper.proofs.keeper.Keeper.submit_all.Goals as goal
 
 pub returns-in_err-backs-clause-stored : goal.returns-in_err-backs-clause-stored
-returns-in_err-backs-clause-stored g c f h = stores (c.args.self.now.kept f h)
+returns-in_err-backs-clause-stored g c f h = stores (g.met.D.Disk.seen_is_image c.args.self.now.disk h) (c.args.self.now.kept f h)
 
 pub returns-in_err-answers-clause-stored : goal.returns-in_err-answers-clause-stored
-returns-in_err-answers-clause-stored g c f h = stores (c.args.self.now.kept f h)
+returns-in_err-answers-clause-stored g c f h = stores (g.met.D.Disk.seen_is_image c.args.self.now.disk h) (c.args.self.now.kept f h)
 
 pub returns-in-Ok-clause-told : goal.returns-in-Ok-clause-told
 returns-in-Ok-clause-told g c = ((λ f. absurd (true≢false (sym f ∙ c.if-self.false))), (λ has. absurd (no_fault c.in-Ok.ensures.ok has)))
@@ -41,7 +39,7 @@ invariant_of-self-clause-kept g c f h =
     keeps_for (c.in-Ok.ensures.kept early (c.args.self.now.kept f early)) c.record_all.ensures.size refl
 
 pub returns-in-Ok-clause-stored : goal.returns-in-Ok-clause-stored
-returns-in-Ok-clause-stored g c f h = stores_at (c.in-Ok.ensures.kept h (c.args.self.now.kept c.if-self.false h)) c.record_all.ensures.layout
+returns-in-Ok-clause-stored g c f h = stores_at (g.met.D.Disk.seen_is_image c.record_all.new.disk (c.record_all.ensures.honest ∙ h)) (c.in-Ok.ensures.kept h (c.args.self.now.kept c.if-self.false h)) c.record_all.ensures.layout
 
 pub returns-in-Ok-clause-life : goal.returns-in-Ok-clause-life
 returns-in-Ok-clause-life g c s before h come =
@@ -101,6 +99,13 @@ returns-in-Ok-clause-few_calls g c works =
     let calls = g.D.Disk.calls in
     subst (λ i. TakesCalls (layout_in first) (next_in first) (log_generation_in first) c.record_all.new.ahead.log.generation (calls (disk_in first)) (calls c.record_all.new.disk)
     (size_in first) (state_in first) (map input_of i) c.record_all.new.answers.items (machine.state_in c.record_all.new.engine)) c.deref.ensures.value c.in-Ok.ensures.few_calls
+
+pub returns-in-Ok-clause-begins : goal.returns-in-Ok-clause-begins
+returns-in-Ok-clause-begins g c works none rose =
+    let first = c.args.self.now in
+    let calls = g.D.Disk.calls in
+    subst (λ i. BeginsOne (calls (disk_in first)) (calls c.record_all.new.disk) (size_in first) (state_in first) (map input_of i) c.record_all.new.answers.items
+    (machine.state_in c.record_all.new.engine)) c.deref.ensures.value (c.in-Ok.ensures.begins (idle_left first.ahead none) rose)
 
 -- ---- where the disk failed
 

@@ -7,10 +7,10 @@ use Rattle.um_keeper.proofs.Offered.{own_or_memory}
 use Rattle.um_keeper.proofs.keeper.Keeper.take_step.Goals as goal
 
 pub returns-in_err-next-clause-during : goal.returns-in_err-next-clause-during
-returns-in_err-next-clause-during g c h = not_begun (input_of c.args.input.now ∷ []) (c.args.self.now.kept c.requires.working h)
+returns-in_err-next-clause-during g c h = not_begun (input_of c.args.input.now ∷ []) (g.met.D.Disk.seen_is_image c.args.self.now.disk h) (c.args.self.now.kept c.requires.working h)
 
 pub returns-in_err-next-clause-stored : goal.returns-in_err-next-clause-stored
-returns-in_err-next-clause-stored g c f h = stores (c.args.self.now.kept f h)
+returns-in_err-next-clause-stored g c f h = stores (g.met.D.Disk.seen_is_image c.args.self.now.disk h) (c.args.self.now.kept f h)
 
 pub returns-in_err-next-clause-refused : goal.returns-in_err-next-clause-refused
 returns-in_err-next-clause-refused g c =
@@ -20,16 +20,16 @@ pub returns-then-has_effect-clause-order : goal.returns-then-has_effect-clause-o
 returns-then-has_effect-clause-order g c = if_ok c.record.result (λ receipt is. new_numbers c.in_ok-next.ensures.ok is.1 (ap (λ (x : Standing). x.state) is.2)) c.record.ensures.ok
 
 pub returns-then-has_effect-clause-stored : goal.returns-then-has_effect-clause-stored
-returns-then-has_effect-clause-stored g c f h = stores_at (c.record.new.self.kept f (c.record.ensures.honest ∙ h)) c.record.ensures.place.layout
+returns-then-has_effect-clause-stored g c f h = stores_at (g.met.D.Disk.seen_is_image c.record.new.self.disk (c.record.ensures.honest ∙ h)) (c.record.new.self.kept f (c.record.ensures.honest ∙ h)) c.record.ensures.place.layout
 
 pub returns-clause-during : goal.returns-clause-during
-returns-clause-during g c h = not_begun (input_of c.args.input.now ∷ []) (c.args.self.now.kept c.requires.working h)
+returns-clause-during g c h = not_begun (input_of c.args.input.now ∷ []) (g.met.D.Disk.seen_is_image c.args.self.now.disk h) (c.args.self.now.kept c.requires.working h)
 
 pub returns-clause-stored : goal.returns-clause-stored
-returns-clause-stored g c f h = stores_for (c.args.self.now.kept f h) (ap (λ s. s.state) c.commit-reply.ensures.state ∙ (c.in_ok-next.ensures.nothing (sym c.has_effect.ensures ∙ c.if-has_effect.false)).0)
+returns-clause-stored g c f h = stores_for (g.met.D.Disk.seen_is_image c.args.self.now.disk h) (c.args.self.now.kept f h) (ap (λ s. s.state) c.commit-reply.ensures.state ∙ (c.in_ok-next.ensures.nothing (sym c.has_effect.ensures ∙ c.if-has_effect.false)).0)
 
 pub returns-in_err-next-clause-kept : goal.returns-in_err-next-clause-kept
-returns-in_err-next-clause-kept g c = if_err_all c.from_residual.result _ (λ e. inr (λ h. still (c.args.self.now.kept c.requires.working h)))
+returns-in_err-next-clause-kept g c = if_err_all c.from_residual.result _ (λ e. inr (λ h. still (g.met.D.Disk.seen_is_image c.args.self.now.disk h) (c.args.self.now.kept c.requires.working h)))
 
 -- the reply is that of the plan
 pub returns-then-has_effect-clause-accepted : goal.returns-then-has_effect-clause-accepted

@@ -2,8 +2,7 @@ use Rattle.std.proofs.Common.{IsTrue, ◌≡◌, ◌⊎◌, ◌∙◌, ◌+◌, 
 use Rattle.std.proofs.lemmas.Bool.{cases_eq, cases_lt}
 use Rattle.um_model.specs.Disk.{Image, Sector, Past, seen}
 use Rattle.um_model.specs.Store.{first_log_sector, area_start, area_end, store_sectors, part_count, part_of, sectors_of, AreRecords, stops, goes_on, IsOf}
-use Rattle.um_laws.proofs.CountedLaws.{whole_log}
-use Rattle.um_laws.proofs.StoreLaws.{log_generation}
+use Rattle.um_laws.proofs.StoreLaws.{area_within, log_generation}
 use Rattle.um_model.specs.declared.layout.Format.{Format}
 use Rattle.um_model.specs.declared.layout.Layout.{Layout}
 use Rattle.um_log.specs.Following.{Follows, StopsBefore}
@@ -59,7 +58,7 @@ loop-j-preserved g c =
     (c.in_ok-read.ensures.value (c.loop-j.invariant.honest ∙ h) ∙ ap (λ (p : Past). seen p c.loop-j.j) (c.loop-j.invariant.past h)) (c.loop-j.invariant.followed h) in
     let next : suc c.loop-j.j ≡ c.loop-j.j + 1 = omega arith in
     let low = c.loop-j.invariant.low in
-    let place = whole_log reader.format reader.layout reader.generation in
+    let place = area_within reader.format reader.layout reader.generation in
     let is : IsTrue (g.D.Disk.honest c.args.disk.now) → c.read.new.sector ≡ image c.loop-j.j = λ h. c.in_ok-read.ensures.value (c.loop-j.invariant.honest ∙ h) ∙ ap (λ (p : Past). seen p c.loop-j.j) (c.loop-j.invariant.past h) in
     record {
       least = omega (arith, c.loop-j.invariant.least, c.greater-greatest.ensures.least.0);
@@ -99,12 +98,11 @@ of_records {generation = generation} {image} last number at (bytes ∷ records) 
 pub returns-clause-greatest : goal.returns-clause-greatest
 returns-clause-greatest g c h records are place =
     let reader = c.args.self.now in
-    let whole = whole_log reader.format reader.layout reader.generation in
     record {
       least = c.loop-j.invariant.least;
       none_later = λ theirs j low high is. ⊎_elim
-          (λ early. let same = of_records (omega (arith, c.fits-self)) 0 (area_start reader.format reader.layout reader.generation) records are theirs j (omega (arith, low, whole.0)) (omega (arith, early, place)) is in let least = c.loop-j.invariant.least in omega (arith, same, least))
-          (λ behind. let most = c.loop-j.invariant.most h theirs j behind (omega (arith, high, whole.1, c.loop-j-test.false, c.area_end-j-end.ensures)) is in omega (arith, most))
+          (λ early. let same = of_records (omega (arith, c.fits-self)) 0 (area_start reader.format reader.layout reader.generation) records are theirs j low (omega (arith, early, place)) is in let least = c.loop-j.invariant.least in omega (arith, same, least))
+          (λ behind. let most = c.loop-j.invariant.most h theirs j behind (omega (arith, high, c.loop-j-test.false, c.area_end-j-end.ensures)) is in omega (arith, most))
           (cases_lt j reader.next);
       stands = c.loop-j.invariant.stands h;
     }
@@ -115,7 +113,7 @@ returns-clause-stop g c h records are count place room =
     let image = seen (g.D.Disk.past c.args.disk.now) in
     let most = c.loop-j.auto.j-end (omega (arith, reader.high, c.area_end-j-end.ensures)) in
     let end : c.loop-j.j ≡ area_end reader.format reader.layout reader.generation = omega (arith, c.loop-j-test.false, c.area_end-j-end.ensures, most) in
-    stops_at reader.format reader.layout reader.generation image reader.number reader.next c.loop-j.stop room
+    stops_at reader.format reader.layout reader.generation image reader.number reader.next c.loop-j.stop (omega (arith, c.fits-self)) room
     (subst (λ n. StopsBefore reader.format reader.layout reader.generation image reader.number reader.next n c.loop-j.stop) end (c.loop-j.invariant.stops h))
     (nothing_behind reader.format reader.layout reader.generation image records are reader.number reader.next count place)
 

@@ -1,6 +1,5 @@
 use Rattle.std.specs.Prelude.{◌≡◌, ◌+◌, ◌^◌, ◌<◌, ◌++◌, ◌∷◌, [], ℕ, length}
 use Rattle.std.proofs.Common.{subst, arith}
-use Rattle.um_model.specs.Disk.{seen}
 use Rattle.um_log.specs.Appending.{record_run}
 use Rattle.um_model.specs.Store.{part_count, GoesOn}
 use Rattle.um_log.proofs.Appending.{record_count, before_elsewhere, during_elsewhere, read_elsewhere}

@@ -1,5 +1,0 @@
-use Rattle.um_keeper.proofs.Reopening.{one_up}
-use Rattle.um_keeper.proofs.laws.a_store_goes_up_by_one_generation.Goals as goal
-
-pub returns : goal.returns
-returns c = one_up
