@@ -39,9 +39,10 @@ ok_no_device p = cc
 -- a store has failed behind two calls where it had, or where the second answers E16
 pub failed_on : {A B : Type 0} {r : Result A Refusal} {t : Result B Refusal} {o m n : Bool} → m ≡ o → (t ≡ Err Device → r ≡ Err Device) → (r ≡ Err Device → t ≡ Err Device)
     → ((n ≡ true) ↔ ((m ≡ true) ⊎ (t ≡ Err Device))) → (n ≡ true) ↔ ((o ≡ true) ⊎ (r ≡ Err Device))
-failed_on still there back failed =
-    ((λ is. elim (failed.0 is) [ inl was ↦ inl (sym still ∙ was) | inr device ↦ inr (there device) ]),
-    (λ is. failed.1 (elim is [ inl was ↦ inl (still ∙ was) | inr device ↦ inr (back device) ])))
+failed_on still there back failed = (
+  (λ is. elim (failed.0 is) [ inl was ↦ inl (sym still ∙ was) | inr device ↦ inr (there device) ]),
+  (λ is. failed.1 (elim is [ inl was ↦ inl (still ∙ was) | inr device ↦ inr (back device) ])),
+)
 
 pub refused_not_ok : {r : Result Unit Refusal} {e : Refusal} → r ≡ Err e → r ≡ Ok tt → ⊥
 refused_not_ok p q = cc
