@@ -1,4 +1,4 @@
--- What words are read as, by what clap answered.
+-- How words are read, by clap's answers.
 use Rattle.std.proofs.Common.{◌≡◌, ◌≢◌, ◌⊎◌, ◌∷◌, ◌<◌, ◌≤◌, ◌^◌, arith, drop, sym, Option, Some, ℕ, List, [], Result, Ok, Err, IfOk, OnOk, inl, inr, true, refl, subst, ap, ◌∙◌}
 use Rattle.clap.proofs.OnLiterals.{clap_on_literals}
 use Rattle.clap.specs.Words.{App, app_of, Kinds, HasKind, IsAmong, Row, Rule, with_rule, fault_of, is_simple_and_free, is_simple, kind_of, matches_of}
@@ -94,14 +94,14 @@ told mistakes kind (Status line) among is = absurd is
 told mistakes kind (Verify line) among is = absurd is
 told mistakes kind (Topic line) among is = absurd is
 
--- a mistake is told
+-- a mistake is reported
 pub mistaken : {E : Type 0} (mistakes : Kinds) (Takes : Line → Type 0) (e : Error) (r : Result Line E) → HasKind mistakes e
     → IfOk r (IsToldAs (kind_of e)) → OnOk r (kind_of e ≢ OutOfMemory) → IfOk r (IsReadLine mistakes Takes)
 mistaken mistakes Takes e (Ok line) (inl memory) is other = absurd (other memory)
 mistaken mistakes Takes e (Ok line) (inr among) is other = inr (told mistakes (kind_of e) line among is)
 mistaken mistakes Takes e (Err f) has is other = tt
 
--- what words without a mistake ask for, by their rows
+-- the line that words without a mistake stand for, by their rows
 pub read : {E : Type 0} (mistakes : Kinds) (Takes : List Row → Line → Type 0) (rows found : List Row) (r : Result Line E) → mistakes ≡ []
     → found ≡ rows → IfOk r (Takes found) → IfOk r (IsReadLine mistakes (Takes rows))
 read mistakes Takes rows found (Ok line) none is takes = inl (none, subst (λ all. Takes all line) is takes)
@@ -124,16 +124,16 @@ mistaken_by app wanted words Takes e r is simple kinds told memory =
     let has = subst (λ a. is_simple_and_free a ≡ true → HasKind (fault_of a words) e) is kinds simple in
     mistaken (fault_of wanted words) Takes e r has told memory
 
--- a command with one argument more
+-- a command with one more argument
 pub added : (a b x : App) (r : Rule) → b ≡ with_rule a r → a ≡ x → b ≡ with_rule x r
 added a b x r is old = is ∙ ap (λ y. with_rule y r) old
 
--- the last argument of a command, where there is memory for it
+-- the last argument of a command, if there is memory for it
 pub added_last : (a x : App) (r : Rule) (result : Result Command AllocError) → IfOk result (λ c. app_of c ≡ with_rule a r) → a ≡ x → IfOk result (λ c. app_of c ≡ with_rule x r)
 added_last a x r (Ok c) is old = added a (app_of c) x r is old
 added_last a x r (Err refused) is old = is
 
--- a number outside the limits is none within them
+-- a number outside the limits is no number within them
 pub outside : (low high m : ℕ) (bytes : List ℕ) (text : Option (List ℕ)) → text ≡ Some bytes → bytes ≡ decimal m → m < 2 ^ 64 → high < 2 ^ 64
     → (m < low) ⊎ (high < m) → IsNoNumber low high text
 outside low high m bytes text some is below small (inl under) n least most same =
@@ -143,7 +143,7 @@ outside low high m bytes text some is below small (inr over) n least most same =
     let e : decimal m ≡ decimal n = cc in
     let eq = decimal_injective m n below (omega arith) e in omega arith
 
--- a number outside the refusals' is the word for none of them
+-- a number that no refusal has is no word for a refusal
 pub no_code : (m first : ℕ) (word digits : List ℕ) → word ≡ first ∷ digits → digits ≡ decimal m → m < 2 ^ 64 → (m < 1) ⊎ ((1 ≤ m) × (last_refusal < m))
     → IsNoCode word
 no_code m first word digits is said below (inl under) letter n fits least most same =
@@ -153,7 +153,7 @@ no_code m first word digits is said below (inr (not_under, over)) letter n fits 
     let e : decimal m ≡ decimal n = sym said ∙ ap (drop 1) (sym is ∙ same) in
     let eq = decimal_injective m n below (omega arith) e in omega arith
 
--- a word that has no help is told wrong
+-- a word that has no help is reported as wrong
 pub wrong_word : (word : List ℕ) → IsNoCode word → named (Some word) ≡ Nothing → topic_named word ≡ None → word ≢ codes "--help"
     → (word ∷ [] ≢ []) × (word ∷ [] ≢ codes "--help" ∷ []) × ((w : List ℕ) → word ∷ [] ≡ w ∷ [] → HasNoHelp w)
 wrong_word word code none topic other = (

@@ -1,4 +1,4 @@
--- The words of a runner are read in one way.
+-- A runner's words are read in only one way.
 use Rattle.std.proofs.Common.{◌≡◌, ◌<◌, ◌++◌, ℕ, ◌^◌, Bool, true, false, List, [], Some, length, slice_get, get_or, take, drop, codes, refl, sym, ap, ◌∙◌, arith, length-append}
 use Rattle.std.specs.Prelude.{decimal}
 use Rattle.std.proofs.lemmas.Fmt.{decimal_injective}
@@ -10,7 +10,7 @@ use Rattle.um_runner.specs.Jobs.{entries_of, words_of}
 use Rattle.um_runner.specs.Runner.{runner_words}
 use Rattle.um_runner.specs.RunnerLines.{TellsRunner, handed_words}
 
--- a runner's words have no `--help` in front
+-- a runner's words don't begin with `--help`
 no_help : (has_file : Bool) (words : List (List ℕ)) (folder : List ℕ) (number : ℕ) (entries command : List (List ℕ))
     → TellsRunner has_file folder number entries command words → slice_get words 0 ≡ Some (codes "--help") → ⊥
 no_help false words folder number entries command told help =
@@ -25,7 +25,7 @@ record AreOne (has_file has_file' : Bool) (folder folder' : List ℕ) (number nu
   entered : entries ≡ entries'
   commands : command ≡ command'
 
--- entries stand either among the words or in a file
+-- entries are either among the words or in a file
 not_both : (words : List (List ℕ)) (folder folder' : List ℕ) (number number' : ℕ) (entries command command' : List (List ℕ))
     → words ≡ runner_words folder number entries command → words ≡ handed_words folder' (decimal number') command' → ⊥
 not_both words folder folder' number number' entries command command' a b =

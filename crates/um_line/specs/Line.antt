@@ -1,6 +1,5 @@
--- What the words of a command line ask for: the words as clap reads them, and what each of its mistakes becomes.
--- No manual page has this: it is the program's own (docs/FORMATS.md, "The program").
--- The program stands on this file.
+-- What the words of a command line mean: the words as clap reads them, and the line for each of its mistakes. No
+-- manual page has this: it is the project's own (docs/FORMATS.md, "The program"). The program stands on this file.
 use Rattle.std.specs.Prelude.{⊤, ◌≡◌, ◌≢◌, ◌⊎◌, ◌↔◌, ◌<◌, ◌≤◌, ◌^◌, ℕ, List, [], ◌∷◌, Bool, true, Option, Some, None, map, option_map, slice_get, bytes_eq, codes, decimal, drop, length, if◌then◌else◌}
 use Rattle.clap.specs.Words.{App, Kinds, Row, Rule, IsAmong, all_of, fault_of, first_of, matches_of, new_app, new_rule, with_rule}
 use Rattle.clap.specs.Simple.{on_top}
@@ -24,41 +23,41 @@ use Rattle.um_runner.specs.Jobs.{entries_of, words_of}
 use Rattle.um_runner.specs.RunnerLines.{TellsRunner}
 use Rattle.um_sentences.specs.Sentences.{topic_named}
 
--- ---- what the words may be
+-- ---- the words that are allowed
 
--- an option that has to be given, with one value
+-- a required option with one value
 abbrev pub option_rule : List ℕ → Rule
 option_rule name = record (new_rule name) { long = Some name; required = true; value_names = 1 }
 
--- a word in its place that has to be given
+-- a required word in its place
 abbrev pub word_rule : List ℕ → Rule
 word_rule name = record (new_rule name) { required = true; value_names = 1 }
 
--- an option that may be left out
+-- an optional option
 abbrev pub optional_rule : List ℕ → Rule
 optional_rule name = record (new_rule name) { long = Some name; value_names = 1 }
 
--- a flag that may be left out
+-- an optional flag
 abbrev pub flag_rule : List ℕ → Rule
 flag_rule name = record (new_rule name) { long = Some name; action = Some SetTrue }
 
--- an option of one letter that may be left out
+-- an optional option of one letter
 abbrev pub letter_rule : List ℕ → ℕ → Rule
 letter_rule name letter = record (new_rule name) { short = Some letter; value_names = 1 }
 
--- a flag of one letter that may be left out
+-- an optional flag of one letter
 abbrev pub letter_flag_rule : List ℕ → ℕ → Rule
 letter_flag_rule name letter = record (new_rule name) { short = Some letter; action = Some SetTrue }
 
--- words of which one has to be given at least
+-- one or more words
 abbrev pub words_rule : List ℕ → Rule
 words_rule name = record (new_rule name) { required = true; value_names = 1; action = Some Append }
 
--- words that may all be left out
+-- any number of words
 abbrev pub any_words_rule : List ℕ → Rule
 any_words_rule name = record (new_rule name) { value_names = 1; action = Some Append }
 
--- the flag `--memory`, which has to be given
+-- the flag `--memory`, which is required
 abbrev pub memory_rule : Rule
 memory_rule = record (new_rule (codes "memory")) { long = Some (codes "memory"); required = true; action = Some SetTrue }
 
@@ -75,21 +74,23 @@ create_words =
 abbrev pub check_words : App
 check_words = with_rule (with_rule (new_app (codes "umd check")) (flag_rule (codes "units"))) (word_rule (codes "file"))
 
--- the words of `umd serve`: what is started behind a new boot may be left out, and where output is kept, and how much
+-- the words of `umd serve`: the unit that a new boot starts, the output folder and the size of an output file are
+-- optional
 abbrev pub serve_words : App
 serve_words =
     with_rule (with_rule (with_rule (with_rule (with_rule (with_rule (with_rule (with_rule (new_app (codes "umd serve")) (option_rule (codes "boot")))
     (option_rule (codes "socket"))) (option_rule (codes "dir"))) (option_rule (codes "runner"))) (optional_rule (codes "start")))
     (optional_rule (codes "output"))) (optional_rule (codes "output-size"))) (word_rule (codes "file"))
 
--- the words of `umd ctl`: the socket, two times, a mode and three flags that may be left out, and a verb with its arguments, or `sync` with its folder
+-- the words of `umd ctl`: optional are the socket, two times, a mode and three flags; then a verb with its arguments,
+-- or `sync` with its folder
 abbrev pub ctl_words : App
 ctl_words =
     with_rule (with_rule (with_rule (with_rule (with_rule (with_rule (with_rule (with_rule (new_app (codes "umd ctl")) (optional_rule (codes "socket")))
     (optional_rule (codes "retry"))) (optional_rule (codes "timeout"))) (optional_rule (codes "mode"))) (flag_rule (codes "wait")))
     (flag_rule (codes "dry-run"))) (flag_rule (codes "all"))) (words_rule (codes "word"))
 
--- the words of `umd status`: the socket, two times and two folders that may be left out, and units
+-- the words of `umd status`: optional are the socket, two times and two folders; then units
 abbrev pub status_words : App
 status_words =
     with_rule (with_rule (with_rule (with_rule (with_rule (with_rule (new_app (codes "umd status")) (optional_rule (codes "socket")))
@@ -100,7 +101,7 @@ status_words =
 abbrev pub verify_words : App
 verify_words = with_rule (new_app (codes "umd verify")) (words_rule (codes "path"))
 
--- the words of `umd logs`: where output is kept, how many lines, and two flags may be left out; and a unit
+-- the words of `umd logs`: optional are the output folder, the number of lines, and two flags; then a unit
 abbrev pub logs_words : App
 logs_words =
     with_rule (with_rule (with_rule (with_rule (with_rule (new_app (codes "umd logs")) (optional_rule (codes "output"))) (letter_rule (codes "lines") 110))
@@ -108,11 +109,11 @@ logs_words =
 
 -- ---- mistakes
 
--- the first mistake of the words, of which the first is the program's name; none where they are right
+-- the first mistake of the words, the program's name included; none if they are right
 abbrev pub mistakes_of : List (List ℕ) → Kinds
 mistakes_of = fault_of umd_words
 
--- asking for help or the version is a mistake in clap's words
+-- in clap's words a request for help or the version is a mistake
 abbrev pub IsTold : Kinds → Type 0
 IsTold mistakes = IsAmong DisplayHelp mistakes ⊎ IsAmong DisplayVersion mistakes
 
@@ -120,19 +121,19 @@ IsTold mistakes = IsAmong DisplayHelp mistakes ⊎ IsAmong DisplayVersion mistak
 abbrev pub IsMistake : Kinds → Type 0
 IsMistake mistakes = (kind : ErrorKind) × IsAmong kind mistakes × (kind ≢ DisplayHelp) × (kind ≢ DisplayVersion)
 
--- a mistake of this kind is told so
+-- this line reports a mistake of this kind
 abbrev pub IsToldAs : ErrorKind → Line → Type 0
 IsToldAs kind (Told text) = (kind ≡ DisplayHelp) ⊎ (kind ≡ DisplayVersion)
 IsToldAs kind (Wrong text) = (kind ≢ DisplayHelp) × (kind ≢ DisplayVersion)
 IsToldAs kind other = ⊥
 
--- what is told of words with these mistakes
+-- the line that reports these mistakes
 abbrev pub TellsMistake : Kinds → Line → Type 0
 TellsMistake mistakes (Told text) = IsTold mistakes
 TellsMistake mistakes (Wrong text) = IsMistake mistakes
 TellsMistake mistakes other = ⊥
 
--- words without a mistake ask for what their values say; else the mistake is told
+-- words without a mistake give the line of their values; otherwise the line reports the mistake
 abbrev pub IsReadLine : Kinds → (Line → Type 0) → Line → Type 0
 IsReadLine mistakes Takes line = ((mistakes ≡ []) × Takes line) ⊎ TellsMistake mistakes line
 
@@ -142,7 +143,7 @@ IsReadLine mistakes Takes line = ((mistakes ≡ []) × Takes line) ⊎ TellsMist
 abbrev pub IsNumber : (low high n : ℕ) → Option (List ℕ) → Type 0
 IsNumber low high n text = (text ≡ Some (decimal n)) × (low ≤ n) × (n ≤ high)
 
--- it is none
+-- it is no such number
 abbrev pub IsNoNumber : (low high : ℕ) → Option (List ℕ) → Type 0
 IsNoNumber low high text = (n : ℕ) → low ≤ n → n ≤ high → text ≢ Some (decimal n)
 
@@ -156,48 +157,48 @@ least_log = 512
 abbrev pub most_sectors : ℕ
 most_sectors = 2 ^ 20
 
--- the longest time that is waited, in seconds: a day
+-- the longest wait, in seconds: a day
 abbrev pub most_seconds : ℕ
 most_seconds = 86400
 
--- a time that may be left out: it was, or it is this number within its limits
+-- an optional time: it is absent, or it is this number within its limits
 abbrev pub IsTime : Option (List ℕ) → Option ℕ → Type 0
 IsTime text None = text ≡ None
 IsTime text (Some seconds) = IsNumber 1 most_seconds seconds text
 
--- a time was told, and is no number within its limits
+-- a time is given, and is no number within its limits
 abbrev pub IsNoTime : Option (List ℕ) → Type 0
 IsNoTime text = (text ≢ None) × IsNoNumber 1 most_seconds text
 
--- the bytes of a file of output that are kept, where nothing else is told
+-- the bytes of an output file that are kept by default
 abbrev pub usual_size : ℕ
 usual_size = 2 ^ 20
 
--- the least that may be told, and the most
+-- the least size that may be given, and the greatest
 abbrev pub least_size : ℕ
 least_size = 4096
 
 abbrev pub most_size : ℕ
 most_size = 2 ^ 24
 
--- a size that may be left out: it was, and is the usual one, or it is this number within its limits
+-- an optional size: it is absent, and the default is taken, or it is this number within its limits
 abbrev pub IsSize : Option (List ℕ) → ℕ → Type 0
 IsSize text size = ((text ≡ None) × (size ≡ usual_size)) ⊎ IsNumber least_size most_size size text
 
--- a size was told, and is no number within its limits
+-- a size is given, and is no number within its limits
 abbrev pub IsNoSize : Option (List ℕ) → Type 0
 IsNoSize text = (text ≢ None) × IsNoNumber least_size most_size text
 
--- the most lines of output that are asked for by a number
+-- the greatest number of output lines that can be requested
 abbrev pub most_lines : ℕ
 most_lines = 1000000
 
--- a number of lines that may be left out: it was, or it is this number within its limits
+-- an optional number of lines: it is absent, or it is this number within its limits
 abbrev pub IsCount : Option (List ℕ) → Option ℕ → Type 0
 IsCount text None = text ≡ None
 IsCount text (Some lines) = IsNumber 0 most_lines lines text
 
--- a number of lines was told, and is none within its limits
+-- a number of lines is given, and is no number within its limits
 abbrev pub IsNoCount : Option (List ℕ) → Type 0
 IsNoCount text = (text ≢ None) × IsNoNumber 0 most_lines text
 
@@ -215,29 +216,30 @@ abbrev pub IsMemory : Line → Type 0
 IsMemory Memory = ⊤
 IsMemory other = ⊥
 
--- what the words of the program itself ask for
+-- the line for the words of the program itself
 abbrev pub IsTopLine : List (List ℕ) → Line → Type 0
 IsTopLine words = IsReadLine (mistakes_of words) IsMemory
 
--- the words are no runner's, whatever folder, number, entries and command are looked for in them
+-- the words are no runner's, for any folder, number, entries and command
 abbrev pub IsNoRunner : List (List ℕ) → Type 0
 IsNoRunner words =
     (has_file : Bool) (folder : List ℕ) (number : ℕ) (entries command : List (List ℕ)) → TellsRunner has_file folder number entries command words → ⊥
 
--- the line is to run this command with these entries, or with those of the number's file, as the process of this number
+-- the line runs this command with these entries, or with those of the number's file, as the process of this number
 abbrev pub IsToRun : (has_file : Bool) (folder : List ℕ) (number : ℕ) (entries command : List (List ℕ)) → Line → Type 0
 IsToRun has_file folder number entries command (Run line) =
     (line.has_file ≡ has_file) × (line.folder.now ≡ folder) × (line.number ≡ number) × (entries_of line.job ≡ entries) × (words_of line.job ≡ command)
 IsToRun has_file folder number entries command other = ⊥
 
--- what the words behind `run` ask for: a runner's are run, and others told wrong, but for `--help` in front
+-- the line for the words after `run`: a runner's words are run, others are reported as wrong, except `--help` in
+-- front
 abbrev pub IsRunLine : List (List ℕ) → Line → Type 0
 IsRunLine words (Run line) = TellsRunner line.has_file line.folder.now line.number (entries_of line.job) (words_of line.job) words
 IsRunLine words (Told text) = slice_get words 0 ≡ Some (codes "--help")
 IsRunLine words (Wrong text) = (slice_get words 0 ≢ Some (codes "--help")) × IsNoRunner words
 IsRunLine words other = ⊥
 
--- a store of so many sectors a slot and in its log, in a new file
+-- a store with this number of sectors in a slot and in its log, in a new file
 abbrev pub IsCreate : List Row → CreateLine → Type 0
 IsCreate rows line =
     IsNumber least_slot most_sectors line.slot (first_of (codes "slot") rows) × IsNumber least_log most_sectors line.log (first_of (codes "log") rows)
@@ -249,32 +251,32 @@ IsNoCreate rows =
     IsNoNumber least_slot most_sectors (first_of (codes "slot") rows) ⊎ IsNoNumber least_log most_sectors (first_of (codes "log") rows)
     ⊎ (first_of (codes "file") rows ≡ None)
 
--- what they ask for by these values
+-- the line for these values
 abbrev pub TakesCreate : List Row → Line → Type 0
 TakesCreate rows (Create line) = IsCreate rows line
 TakesCreate rows (Wrong text) = IsNoCreate rows
 TakesCreate rows other = ⊥
 
--- what the words from `create` on ask for
+-- the line for the words from `create` on
 abbrev pub IsCreateLine : List (List ℕ) → Line → Type 0
 IsCreateLine words = IsReadLine (fault_of create_words words) (TakesCreate (matches_of create_words words))
 
--- a store that is looked at, and whether its units are asked for
+-- a store to report on, and whether its units are wanted
 abbrev pub IsCheck : List Row → CheckLine → Type 0
 IsCheck rows line =
     ((line.units ≡ true) ↔ (first_of (codes "units") rows ≡ Some (codes "true"))) × (first_of (codes "file") rows ≡ Some line.file.now)
 
--- what they ask for by these values
+-- the line for these values
 abbrev pub TakesCheck : List Row → Line → Type 0
 TakesCheck rows (Check line) = IsCheck rows line
 TakesCheck rows (Wrong text) = first_of (codes "file") rows ≡ None
 TakesCheck rows other = ⊥
 
--- what the words from `check` on ask for
+-- the line for the words from `check` on
 abbrev pub IsCheckLine : List (List ℕ) → Line → Type 0
 IsCheckLine words = IsReadLine (fault_of check_words words) (TakesCheck (matches_of check_words words))
 
--- what is served, and where
+-- the store that is served, and its places
 abbrev pub IsServe : List Row → ServeLine → Type 0
 IsServe rows line =
     (first_of (codes "boot") rows ≡ Some line.boot.now) × (first_of (codes "socket") rows ≡ Some line.socket.now)
@@ -283,20 +285,20 @@ IsServe rows line =
     × (first_of (codes "output") rows ≡ option_map (λ folder. folder.now) line.output) × IsSize (first_of (codes "output-size") rows) line.output_size
     × (first_of (codes "file") rows ≡ Some line.file.now)
 
--- a word is missing, or the size of output isn't within its limits
+-- a word is missing, or the size of an output file isn't within its limits
 abbrev pub IsNoServe : List Row → Type 0
 IsNoServe rows =
     (first_of (codes "boot") rows ≡ None) ⊎ (first_of (codes "socket") rows ≡ None) ⊎ (first_of (codes "dir") rows ≡ None)
     ⊎ (first_of (codes "runner") rows ≡ None) ⊎ IsNoSize (first_of (codes "output-size") rows) ⊎ (first_of (codes "file") rows ≡ None)
 
--- what they ask for by these values; a long id of a boot is refused as a request would be
+-- the line for these values; a long id of a boot is refused as a request would be
 abbrev pub TakesServe : List Row → Line → Type 0
 TakesServe rows (Serve line) = IsServe rows line × (length line.boot.now ≤ boot_limit)
 TakesServe rows LongBoot = (boot : List ℕ) × (first_of (codes "boot") rows ≡ Some boot) × (boot_limit < length boot)
 TakesServe rows (Wrong text) = IsNoServe rows
 TakesServe rows other = ⊥
 
--- what the words from `serve` on ask for
+-- the line for the words from `serve` on
 abbrev pub IsServeLine : List (List ℕ) → Line → Type 0
 IsServeLine words = IsReadLine (fault_of serve_words words) (TakesServe (matches_of serve_words words))
 
@@ -308,7 +310,7 @@ HasFlag name rows = first_of name rows ≡ Some (codes "true")
 abbrev pub HasSyncFlag : List Row → Type 0
 HasSyncFlag rows = HasFlag (codes "dry-run") rows ⊎ HasFlag (codes "all") rows
 
--- a verb of a request, which `sync` is none, with its arguments, for the manager at a socket, how long is waited, and whether for what becomes of the unit
+-- a verb of a request, other than `sync`, with its arguments, the socket, the times, and whether to wait for the unit
 abbrev pub IsCtl : List Row → CtlLine → Type 0
 IsCtl rows line =
     (first_of (codes "socket") rows ≡ option_map (λ path. path.now) line.socket) × IsTime (first_of (codes "retry") rows) line.retry
@@ -316,7 +318,7 @@ IsCtl rows line =
     × ((line.waits ≡ true) ↔ HasFlag (codes "wait") rows) × ¬ HasSyncFlag rows × (line.verb.now ≢ codes "sync")
     × (all_of (codes "word") rows ≡ Some (line.verb.now ∷ map (λ word. word.now) line.arguments.items))
 
--- `sync` with a folder, for the manager at a socket, how long is waited, whether it is only said what would be done, and whether everything is put
+-- `sync` with a folder, the socket, the times, whether the steps are only printed, and whether everything is put
 abbrev pub IsSync : List Row → SyncLine → Type 0
 IsSync rows line =
     (first_of (codes "socket") rows ≡ option_map (λ path. path.now) line.socket) × IsTime (first_of (codes "retry") rows) line.retry
@@ -338,29 +340,29 @@ AsksSync words = slice_get words 0 ≡ Some (codes "sync")
 abbrev pub IsNoVerb : List Row → Type 0
 IsNoVerb rows = (words : List (List ℕ)) × (all_of (codes "word") rows ≡ Some words) × ¬ AsksSync words × HasSyncFlag rows
 
--- `sync` without a folder or with more than one, or with a mode or with `--wait`
+-- `sync` without a folder or with several, or with a mode or with `--wait`
 abbrev pub IsNoSync : List Row → Type 0
 IsNoSync rows =
     (words : List (List ℕ)) × (all_of (codes "word") rows ≡ Some words) × AsksSync words
     × ((length words ≢ 2) ⊎ (first_of (codes "mode") rows ≢ None) ⊎ HasFlag (codes "wait") rows)
 
--- what they ask for by these values
+-- the line for these values
 abbrev pub TakesCtl : List Row → Line → Type 0
 TakesCtl rows (Ctl line) = IsCtl rows line
 TakesCtl rows (Sync line) = IsSync rows line
 TakesCtl rows (Wrong text) = IsNoCtl rows ⊎ IsNoVerb rows ⊎ IsNoSync rows
 TakesCtl rows other = ⊥
 
--- what the words from `ctl` on ask for
+-- the line for the words from `ctl` on
 abbrev pub IsCtlLine : List (List ℕ) → Line → Type 0
 IsCtlLine words = IsReadLine (fault_of ctl_words words) (TakesCtl (matches_of ctl_words words))
 
--- the units that words name; where none stands, none
+-- the units that words name; none if no word is there
 abbrev pub IsUnits : Option (List (List ℕ)) → List (List ℕ) → Type 0
 IsUnits None units = units ≡ []
 IsUnits (Some words) units = units ≡ words
 
--- units whose state is asked for, of the manager at a socket, how long is waited, and where processes and their output are kept
+-- units whose state is wanted, the socket, the times, and the folders of processes and of their output
 abbrev pub IsStatus : List Row → StatusLine → Type 0
 IsStatus rows line =
     (first_of (codes "socket") rows ≡ option_map (λ path. path.now) line.socket) × IsTime (first_of (codes "retry") rows) line.retry
@@ -372,27 +374,27 @@ IsStatus rows line =
 abbrev pub IsNoStatus : List Row → Type 0
 IsNoStatus rows = IsNoTime (first_of (codes "retry") rows) ⊎ IsNoTime (first_of (codes "timeout") rows)
 
--- what they ask for by these values
+-- the line for these values
 abbrev pub TakesStatus : List Row → Line → Type 0
 TakesStatus rows (Status line) = IsStatus rows line
 TakesStatus rows (Wrong text) = IsNoStatus rows
 TakesStatus rows other = ⊥
 
--- what the words from `status` on ask for
+-- the line for the words from `status` on
 abbrev pub IsStatusLine : List (List ℕ) → Line → Type 0
 IsStatusLine words = IsReadLine (fault_of status_words words) (TakesStatus (matches_of status_words words))
 
--- what they ask for by these values: folders and files that are looked at
+-- the line for these values: folders and files to verify
 abbrev pub TakesVerify : List Row → Line → Type 0
 TakesVerify rows (Verify line) = all_of (codes "path") rows ≡ Some (map (λ path. path.now) line.paths.items)
 TakesVerify rows (Wrong text) = all_of (codes "path") rows ≡ None
 TakesVerify rows other = ⊥
 
--- what the words from `verify` on ask for
+-- the line for the words from `verify` on
 abbrev pub IsVerifyLine : List (List ℕ) → Line → Type 0
 IsVerifyLine words = IsReadLine (fault_of verify_words words) (TakesVerify (matches_of verify_words words))
 
--- a unit whose output is asked for, where it is kept, how many of its last lines, and whether it is followed and put out as it is
+-- a unit whose output is wanted, its folder, the number of last lines, and whether to follow it and to print it raw
 abbrev pub IsLogs : List Row → LogsLine → Type 0
 IsLogs rows line =
     (first_of (codes "output") rows ≡ option_map (λ folder. folder.now) line.output) × IsCount (first_of (codes "lines") rows) line.lines
@@ -403,13 +405,13 @@ IsLogs rows line =
 abbrev pub IsNoLogs : List Row → Type 0
 IsNoLogs rows = IsNoCount (first_of (codes "lines") rows) ⊎ (first_of (codes "unit") rows ≡ None)
 
--- what they ask for by these values
+-- the line for these values
 abbrev pub TakesLogs : List Row → Line → Type 0
 TakesLogs rows (Logs line) = IsLogs rows line
 TakesLogs rows (Wrong text) = IsNoLogs rows
 TakesLogs rows other = ⊥
 
--- what the words from `logs` on ask for
+-- the line for the words from `logs` on
 abbrev pub IsLogsLine : List (List ℕ) → Line → Type 0
 IsLogsLine words = IsReadLine (fault_of logs_words words) (TakesLogs (matches_of logs_words words))
 
@@ -442,7 +444,7 @@ named (Some word) =
 
 -- ---- help
 
--- one word that the words are
+-- the words are this one word
 abbrev pub IsOneWord : List (List ℕ) → (List ℕ → Type 0) → Type 0
 IsOneWord words Is = (word : List ℕ) × (words ≡ word ∷ []) × Is word
 
@@ -450,7 +452,7 @@ IsOneWord words Is = (word : List ℕ) × (words ≡ word ∷ []) × Is word
 abbrev pub HasNoHelp : List ℕ → Type 0
 HasNoHelp word = IsNoCode word × (named (Some word) ≡ sub.Nothing) × (topic_named word ≡ None)
 
--- what the words behind `help` ask for: what one refusal or one word means, or how `umd help` or a subcommand is used
+-- the line for the words after `help`: the meaning of one refusal or word, or the usage of `umd help` or a subcommand
 abbrev pub IsHelpLine : List (List ℕ) → Line → Type 0
 IsHelpLine words (Help n) = IsOneWord words (IsCode n)
 IsHelpLine words (Topic line) = (words ≡ line.word.now ∷ []) × (topic_named line.word.now ≡ Some line.topic)
@@ -460,7 +462,7 @@ IsHelpLine words other = ⊥
 
 -- ---- all of them
 
--- the subcommand behind the program's name
+-- the subcommand after the program's name
 abbrev pub subcommand_of : List (List ℕ) → Subcommand
 subcommand_of words = named (slice_get words 1)
 
@@ -476,6 +478,6 @@ IsLineBy sub.Logs words = IsLogsLine (drop 1 words)
 IsLineBy sub.Help words = IsHelpLine (drop 1 (drop 1 words))
 IsLineBy sub.Nothing words = IsTopLine words
 
--- what the words of a command line ask for
+-- the line for the words of a command line
 abbrev pub IsLineOf : List (List ℕ) → Line → Type 0
 IsLineOf words line = IsLineBy (subcommand_of words) words line

@@ -10,16 +10,16 @@ use crate::values::{described, flag, is_given, value, with_word};
 use clap::{ArgMatches, Command};
 use std::alloc::{AllocError, Global};
 
-/// A store to be looked at.
+/// A store to report on.
 #[derive(Clone, Copy, Debug)]
 pub struct CheckLine<'a> {
-    /// Its units and jobs are asked for, in the place of the summary.
+    /// Its units and jobs are printed instead of the summary.
     pub units: bool,
     /// The path of the store.
     pub file: &'a str,
 }
 
-/// What is told where a word is missing.
+/// The error if a word is missing.
 const USAGE: &str = "error: a word is missing
 
 Usage: umd check [--units] <FILE>
@@ -53,7 +53,7 @@ fn command<'a>(alloc: Global) -> Result<Command<'a>, AllocError>
     with_word(command, alloc, "file", "FILE", "The store")
 }
 
-/// What the words ask for that hold these values.
+/// The line for these values.
 fn check_line<'a>(alloc: Global, matches: &ArgMatches<'a>) -> Result<Line<'a>, AllocError>
     ensures { IfOk result (TakesCheck (rows_of (found_of matches.now))) }
 {

@@ -14,22 +14,22 @@ use std::alloc::{AllocError, Global};
 /// A new store.
 #[derive(Clone, Copy, Debug)]
 pub struct CreateLine<'a> {
-    /// So many sectors each of its two slots has: 64 to 2^20.
+    /// The sectors of each of its two slots: 64 to 2^20.
     pub slot: u32,
-    /// So many sectors its log has: 512 to 2^20.
+    /// The sectors of its log: 512 to 2^20.
     pub log: u32,
     /// The path of its file.
     pub file: &'a str,
 }
 
-/// The least sectors of a slot, and of the log, and the most of both.
+/// The fewest sectors of a slot and of the log, and the most of both.
 const LEAST_SLOT: u32 = 64;
 
 const LEAST_LOG: u32 = 512;
 
 const MOST: u32 = 1 << 20;
 
-/// What is told of numbers outside their limits.
+/// The error for numbers outside their limits.
 const USAGE: &str =
     "error: a slot has 64 to 1048576 sectors, a log 512 to 1048576, in decimal digits
 
@@ -64,7 +64,7 @@ fn usage(alloc: Global) -> Result<String, AllocError> {
     String::from_str(alloc, USAGE)
 }
 
-/// What the words ask for that hold these values.
+/// The line for these values.
 fn create_line<'a>(alloc: Global, matches: &ArgMatches<'a>) -> Result<Line<'a>, AllocError>
     ensures { IfOk result (TakesCreate (rows_of (found_of matches.now))) }
 {

@@ -16,24 +16,24 @@ use clap::{ArgMatches, Command, Error};
 use std::alloc::{AllocError, Global};
 use um_ctl::verb_lines;
 
-/// What the manager at a socket is asked.
+/// A request to the manager at a socket.
 #[derive(Debug, Drop)]
 pub struct CtlLine<'a> {
-    /// The path of the socket: what `--socket` told.
+    /// The path of the socket: the value of `--socket`.
     pub socket: Option<&'a str>,
-    /// For so many seconds it connects again where nobody reads the request: what `--retry` told.
+    /// How many seconds to connect again while nobody reads the request: the value of `--retry`.
     pub retry: Option<u32>,
-    /// For so many seconds it waits for the reply: what `--timeout` told.
+    /// How many seconds to wait for the reply: the value of `--timeout`.
     pub timeout: Option<u32>,
     pub verb: &'a str,
     pub arguments: Vec<&'a str>,
-    /// What `--mode` told.
+    /// The value of `--mode`.
     pub mode: Option<&'a str>,
-    /// It is waited for what becomes of the unit.
+    /// Wait until the unit has started or stopped.
     pub waits: bool,
 }
 
-/// What is told where a word is missing.
+/// The error if a word is missing.
 const USAGE: &str = "error: a word is missing
 
 Usage: umd ctl [--socket <PATH>] [--retry <SECONDS>] [--timeout <SECONDS>] [--mode <MODE>] [--wait] <VERB> [ARG]..
@@ -41,7 +41,7 @@ Usage: umd ctl [--socket <PATH>] [--retry <SECONDS>] [--timeout <SECONDS>] [--mo
 For more information, try '--help'.
 ";
 
-/// What is told where a flag of `sync` stands with another verb.
+/// The error for a flag of `sync` with another verb.
 const NO_SYNC: &str = "error: --dry-run and --all are for sync
 
 Usage: umd ctl [--socket <PATH>] [--retry <SECONDS>] [--timeout <SECONDS>] [--mode <MODE>] [--wait] <VERB> [ARG]..
@@ -49,7 +49,7 @@ Usage: umd ctl [--socket <PATH>] [--retry <SECONDS>] [--timeout <SECONDS>] [--mo
 For more information, try '--help'.
 ";
 
-/// What is told where a time isn't within its limits.
+/// The error for a time outside its limits.
 const NO_TIME: &str = "error: --retry and --timeout are 1 to 86400 seconds
 
 Usage: umd ctl [--socket <PATH>] [--retry <SECONDS>] [--timeout <SECONDS>] [--mode <MODE>] [--wait] <VERB> [ARG]..
@@ -129,7 +129,7 @@ fn has_sync_flag(matches: &ArgMatches<'_>) -> bool
     is_given(matches, "dry-run") || is_given(matches, "all")
 }
 
-/// What a verb with its arguments asks for, how long is waited, and the values.
+/// The line of a verb with its arguments, its times and the other values.
 fn verb_line<'a>(
     alloc: Global,
     matches: &ArgMatches<'a>,
@@ -171,7 +171,7 @@ fn asks_sync(words: &[&str]) -> bool
     }
 }
 
-/// What the words ask for that hold these values.
+/// The line for these values.
 fn ctl_line<'a>(alloc: Global, matches: &ArgMatches<'a>) -> Result<Line<'a>, AllocError>
     ensures { IfOk result (TakesCtl (rows_of (found_of matches.now))) }
 {
@@ -191,7 +191,7 @@ fn ctl_line<'a>(alloc: Global, matches: &ArgMatches<'a>) -> Result<Line<'a>, All
     }
 }
 
-/// How it lists `sync`, which is no verb of a request.
+/// The help's line for `sync`, which is no verb of a request.
 const SYNC: &str = "  sync [--dry-run] [--all] <dir>
 ";
 
@@ -203,7 +203,7 @@ fn with_verbs(alloc: Global, help: String) -> Result<String, AllocError> {
     Ok(text)
 }
 
-/// What is told of a mistake; the help has the verbs at its end.
+/// The line for a mistake; the help ends with the verbs.
 fn line_of_ctl_mistake<'a>(alloc: Global, mistake: &Error) -> Result<Line<'a>, AllocError>
     ensures line { IfOk result (IsToldAs (kind_of mistake.now)) }
     ensures memory { OnOk result (kind_of mistake.now ≢ ErrorKind.OutOfMemory) }

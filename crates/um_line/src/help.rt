@@ -16,18 +16,18 @@ use std::alloc::{AllocError, Global};
 use um_runner::number_in;
 use um_sentences::{Topic, topic_named};
 
-/// A word of a reply whose meaning is asked for.
+/// A word of a reply whose meaning is wanted.
 #[derive(Clone, Copy, Debug)]
 pub struct TopicLine<'a> {
     pub word: &'a str,
-    /// What it is about.
+    /// The kind of the word.
     pub topic: Topic,
 }
 
 /// The number of the last refusal.
 const LAST: u64 = 22;
 
-/// What `umd help --help` tells.
+/// The text of `umd help --help`.
 const HELP: &str =
     "Says what a refusal means and what to do, what a reason or a result means, or how a subcommand is used
 
@@ -41,7 +41,7 @@ For example:
   umd help serve
 ";
 
-/// What is told of other words behind `umd help`.
+/// The error for other words after `umd help`.
 const USAGE: &str = "error: there is no help for these words: a refusal is E1 to E22
 
 Usage: umd help <WORD>
@@ -64,7 +64,7 @@ fn code_in(word: &str) -> Option<u32>
     Some(number as u32)
 }
 
-/// What the words of a subcommand with `--help` behind it tell.
+/// The line for the words of a subcommand followed by `--help`.
 fn told_of<'a>(
     alloc: Global,
     subcommand: Subcommand,
@@ -83,7 +83,7 @@ fn told_of<'a>(
     }
 }
 
-/// How the subcommand of this name is used.
+/// The usage of the subcommand of this name.
 fn usage_of(alloc: Global, subcommand: Subcommand, name: &str) -> Result<String, AllocError> {
     let mut words = Vec::new(alloc);
     words.push(String::from_str(alloc, name)?)?;
@@ -97,7 +97,7 @@ fn usage_of(alloc: Global, subcommand: Subcommand, name: &str) -> Result<String,
     }
 }
 
-/// What one word behind `help` asks for.
+/// The line for one word after `help`.
 fn help_line<'a>(alloc: Global, word: &'a str) -> Result<Line<'a>, AllocError>
     ensures { IfOk result (IsHelpLine (word.entry.now ∷ [])) }
 {
@@ -118,7 +118,8 @@ fn help_line<'a>(alloc: Global, word: &'a str) -> Result<Line<'a>, AllocError>
     }
 }
 
-/// Reads the words behind `help`: the code of a refusal, a reason of E6 or a result, a subcommand, or none or `--help` for how it is used.
+/// Reads the words after `help`: the code of a refusal, a reason of E6, a result, or a subcommand. No word at all and
+/// `--help` show the usage of `help`.
 pub fn read_help<'a>(alloc: Global, words: &'a [String]) -> Result<Line<'a>, AllocError>
     ensures { IfOk result (IsHelpLine (map string_bytes words.now)) }
 {

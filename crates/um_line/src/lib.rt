@@ -1,4 +1,4 @@
-//! The words of the program: what a command line asks for is exactly what the definitions say.
+//! The words of the program: a command line means exactly what the definitions say.
 #![tactic(auto)]
 
 mod check;

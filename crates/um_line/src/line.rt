@@ -1,3 +1,4 @@
+//! The lines of the program: one for each kind of command line.
 ghost use Rattle.std.specs.Prelude.{◌≡◌, Some, IfOk, map, drop, string_bytes};
 ghost use Rattle.um_line.specs.Line as model;
 
@@ -15,42 +16,42 @@ use crate::verify::{VerifyLine, read_verify};
 use std::alloc::{AllocError, Global};
 use um_runner::RunnerLine;
 
-/// What the words of a command line ask for.
+/// The meaning of a command line.
 #[derive(Debug, Drop)]
 pub enum Line<'a> {
-    /// To serve one client over standard input and output, with a store in memory.
+    /// Serve one client over standard input and output, with a store in memory.
     Memory,
-    /// To run a command as a process of the manager.
+    /// Run a command as a process of the manager.
     Run(RunnerLine<'a>),
-    /// To make a new store.
+    /// Make a new store.
     Create(CreateLine<'a>),
-    /// To look at a store.
+    /// Report on a store.
     Check(CheckLine<'a>),
-    /// To serve a store over a socket.
+    /// Serve a store over a socket.
     Serve(ServeLine<'a>),
-    /// To serve, but with an id of the boot past 64 bytes: `E1 BadRequest`.
+    /// Serve, but with an id of the boot past 64 bytes: `E1 BadRequest`.
     LongBoot,
-    /// To ask the manager at a socket.
+    /// Send a request to the manager at a socket.
     Ctl(CtlLine<'a>),
-    /// To bring the manager at a socket what a folder holds.
+    /// Bring the files of a folder to the manager at a socket.
     Sync(SyncLine<'a>),
-    /// To show how units stand.
+    /// Print the status of units.
     Status(StatusLine<'a>),
-    /// To look at unit files.
+    /// Verify unit files.
     Verify(VerifyLine<'a>),
-    /// To print what a unit's processes printed.
+    /// Print the output of a unit's processes.
     Logs(LogsLine<'a>),
-    /// To be told what the refusal of this number means, 1 to 22.
+    /// Explain the refusal of this number, 1 to 22.
     Help(u32),
-    /// To be told what a word of a reply means.
+    /// Explain a word of a reply.
     Topic(TopicLine<'a>),
-    /// To be told something: the help or the version, for standard output.
+    /// Text for standard output: the help or the version.
     Told(String),
-    /// The words are not those of the program: what is wrong and how it is used, for standard error.
+    /// The words are not those of the program: the error and the usage, for standard error.
     Wrong(String),
 }
 
-/// The word behind the program's name.
+/// The word after the program's name.
 #[derive(Clone, Copy, Debug, PartialEq, Eq)]
 pub enum Subcommand {
     Run,
@@ -93,7 +94,7 @@ pub(crate) fn named(word: &str) -> Subcommand
     }
 }
 
-/// The subcommand behind the program's name.
+/// The subcommand after the program's name.
 fn subcommand_of(words: &[String]) -> Subcommand
     ensures { result ≡ model.subcommand_of (map string_bytes words.now) }
 {
@@ -103,7 +104,7 @@ fn subcommand_of(words: &[String]) -> Subcommand
     }
 }
 
-/// The words behind the first.
+/// The words after the first.
 fn behind(words: &[String]) -> &[String]
     ensures { map string_bytes result.now ≡ drop 1 (map string_bytes words.now) }
 {
@@ -113,9 +114,9 @@ fn behind(words: &[String]) -> &[String]
     }
 }
 
-/// Reads the words of a command line, of which the first is the program's own name: `--memory` alone, or `--help` or `--version`,
-/// or a subcommand with its words, of which each has `--help`. All else is wrong, as no words at all, a word that the program
-/// doesn't have, an option that stands twice, and numbers outside their limits.
+/// Reads the words of a command line; the first is the program's own name. Valid are `--memory` alone, `--help` or
+/// `--version`, or a subcommand with its words; each subcommand has `--help`. All else is `Wrong`: no words at all,
+/// an unknown word, an option that stands twice, a number outside its limits.
 pub fn read_line<'a>(alloc: Global, words: &'a [String]) -> Result<Line<'a>, AllocError>
     ensures { IfOk result (model.IsLineOf (map string_bytes words.now)) }
 {

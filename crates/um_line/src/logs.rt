@@ -13,22 +13,22 @@ use crate::values::{
 use clap::{ArgMatches, Command};
 use std::alloc::{AllocError, Global};
 
-/// What a unit's processes printed.
+/// The output of a unit's processes, and how to print it.
 #[derive(Clone, Copy, Debug)]
 pub struct LogsLine<'a> {
-    /// The folder in which output is kept: what `--output` told.
+    /// The folder in which output is kept: the value of `--output`.
     pub output: Option<&'a str>,
-    /// So many of the last lines are asked for, 1,000,000 at most; None for all.
+    /// How many of the last lines to print, 1,000,000 at most; `None` for all.
     pub lines: Option<u32>,
-    /// What comes is printed too, until it is ended.
+    /// New output is printed too, until the program is ended.
     pub follows: bool,
-    /// It is printed as it is.
+    /// The bytes are printed as they are.
     pub is_raw: bool,
     /// The unit, whose name may lack its suffix.
     pub unit: &'a str,
 }
 
-/// What is told where a word is missing.
+/// The error if a word is missing.
 const USAGE: &str = "error: a word is missing
 
 Usage: umd logs [--output <OUT>] [-n <K>] [-f] [--raw] <UNIT>
@@ -36,7 +36,7 @@ Usage: umd logs [--output <OUT>] [-n <K>] [-f] [--raw] <UNIT>
 For more information, try '--help'.
 ";
 
-/// What is told where the number of lines isn't within its limits.
+/// The error for a number of lines outside its limits.
 const NO_COUNT: &str = "error: -n is 0 to 1000000 lines
 
 Usage: umd logs [--output <OUT>] [-n <K>] [-f] [--raw] <UNIT>
@@ -88,7 +88,7 @@ fn command<'a>(alloc: Global) -> Result<Command<'a>, AllocError>
     )
 }
 
-/// What the words ask for that hold these values.
+/// The line for these values.
 fn logs_line<'a>(alloc: Global, matches: &ArgMatches<'a>) -> Result<Line<'a>, AllocError>
     ensures { IfOk result (TakesLogs (rows_of (found_of matches.now))) }
 {

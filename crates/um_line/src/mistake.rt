@@ -1,4 +1,4 @@
-//! A mistake in the words, as it is told.
+//! How a mistake in the words is reported.
 
 ghost use Rattle.std.specs.Prelude.{◌≡◌, ◌≢◌, IfOk, OnOk};
 ghost use Rattle.clap.specs.Words.{kind_of};
@@ -9,7 +9,7 @@ use clap::Error;
 use clap::error::ErrorKind;
 use std::alloc::{AllocError, Global};
 
-/// What is told of a mistake: the help or the version that was asked for, or what is wrong.
+/// The line for a mistake: the requested help or version, or the error.
 pub fn line_of_mistake<'a>(alloc: Global, mistake: &Error) -> Result<Line<'a>, AllocError>
     ensures line { IfOk result (IsToldAs (kind_of mistake.now)) }
     ensures memory { OnOk result (kind_of mistake.now ≢ ErrorKind.OutOfMemory) }

@@ -5,7 +5,7 @@ ghost use Rattle.um_line.specs.Line.{IsCount, IsNoCount, IsNumber, IsNoNumber, I
 
 use um_runner::number_in;
 
-/// The number that the text is in decimal digits without zeros in front. None for another text, and outside the limits.
+/// The number of a text of decimal digits without leading zeros. `None` for another text, and outside the limits.
 pub fn limited(text: Option<&str>, low: u32, high: u32) -> Option<u32>
     ensures { MatchOption result (IsNoNumber low high (option_map (λ s. s.now) text.entry)) (λ n. IsNumber low high n (option_map (λ s. s.now) text.entry)) }
 {
@@ -19,10 +19,10 @@ pub fn limited(text: Option<&str>, low: u32, high: u32) -> Option<u32>
     Some(number as u32)
 }
 
-/// The longest time that is waited, in seconds: a day.
+/// The longest wait, in seconds: a day.
 const MOST_SECONDS: u32 = 86_400;
 
-/// A time in seconds, 1 to 86,400, or that none was told. None for another text.
+/// An optional time in seconds, 1 to 86,400: `Some(None)` if it is absent, `None` for another text.
 pub fn time(text: Option<&str>) -> Option<Option<u32>>
     ensures { MatchOption result (IsNoTime (option_map (λ s. s.now) text.entry)) (IsTime (option_map (λ s. s.now) text.entry)) }
 {
@@ -33,14 +33,14 @@ pub fn time(text: Option<&str>) -> Option<Option<u32>>
     Some(Some(seconds))
 }
 
-/// The bytes of a file of output that are kept where nothing else is told, and the least and the most of them.
+/// The bytes of an output file that are kept by default, and the least and greatest such size.
 const USUAL_SIZE: u32 = 1 << 20;
 
 const LEAST_SIZE: u32 = 4096;
 
 const MOST_SIZE: u32 = 1 << 24;
 
-/// How many bytes of a file of output are kept, 4,096 to 2^24; 2^20 where nothing is told. None for another text.
+/// How many bytes of an output file are kept, 4,096 to 2^24; 2^20 by default. `None` for another text.
 pub fn size(text: Option<&str>) -> Option<u32>
     ensures { MatchOption result (IsNoSize (option_map (λ s. s.now) text.entry)) (IsSize (option_map (λ s. s.now) text.entry)) }
 {
@@ -50,10 +50,10 @@ pub fn size(text: Option<&str>) -> Option<u32>
     limited(text, LEAST_SIZE, MOST_SIZE)
 }
 
-/// The most lines that are asked for by a number.
+/// The greatest number of lines that can be requested.
 const MOST_LINES: u32 = 1_000_000;
 
-/// A number of lines, 0 to 1,000,000, or that none was told. None for another text.
+/// An optional number of lines, 0 to 1,000,000: `Some(None)` if it is absent, `None` for another text.
 pub fn count(text: Option<&str>) -> Option<Option<u32>>
     ensures { MatchOption result (IsNoCount (option_map (λ s. s.now) text.entry)) (IsCount (option_map (λ s. s.now) text.entry)) }
 {

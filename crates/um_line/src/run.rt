@@ -7,7 +7,7 @@ use crate::line::Line;
 use std::alloc::{AllocError, Global};
 use um_runner::RunnerLine;
 
-/// What `umd run --help` tells.
+/// The text of `umd run --help`.
 const HELP: &str =
     "Runs a command as a process of the manager, and tells it by files in the manager's folder
 
@@ -23,7 +23,7 @@ For example:
   umd run --dir /run/umd --number 7 --env 1 -- LANG=C /bin/sleep 9
 ";
 
-/// What is told of other words behind `umd run`.
+/// The error for other words after `umd run`.
 const USAGE: &str = "error: these are no words of a runner
 
 Usage: umd run --dir DIR --number N --env COUNT -- WORDS..
@@ -42,7 +42,7 @@ fn asks_for_help(words: &[String]) -> bool
     }
 }
 
-/// Reads the words behind `run`.
+/// Reads the words after `run`.
 pub fn read_run(alloc: Global, words: &[String]) -> Result<Line<'_>, AllocError>
     ensures { IfOk result (IsRunLine (map string_bytes words.now)) }
 {

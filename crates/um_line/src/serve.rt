@@ -22,11 +22,11 @@ pub struct ServeLine<'a> {
     pub dir: &'a str,
     /// The program that runs them: this one.
     pub runner: &'a str,
-    /// The unit that is started where nothing ran yet since the boot: what `--start` told.
+    /// The unit to start if nothing ran yet since the boot: the value of `--start`.
     pub start: Option<&'a str>,
-    /// The folder in which the output of processes is kept: what `--output` told.
+    /// The folder in which the output of processes is kept: the value of `--output`.
     pub output: Option<&'a str>,
-    /// So many bytes of a process's output are kept, and up to as many again: 4,096 to 2^24.
+    /// How many bytes of a process's output are kept, and up to as many again: 4,096 to 2^24.
     pub output_size: u32,
     /// The path of the store.
     pub file: &'a str,
@@ -35,7 +35,7 @@ pub struct ServeLine<'a> {
 /// The longest id of a boot, in bytes.
 const BOOT_LIMIT: usize = 64;
 
-/// What is told where a word is missing.
+/// The error if a word is missing.
 const USAGE: &str = "error: a word is missing
 
 Usage: umd serve --boot <ID> --socket <PATH> --dir <DIR> --runner <PATH> [--start <UNIT>] [--output <OUT> [--output-size <BYTES>]] <FILE>
@@ -43,7 +43,7 @@ Usage: umd serve --boot <ID> --socket <PATH> --dir <DIR> --runner <PATH> [--star
 For more information, try '--help'.
 ";
 
-/// What is told where the size of output isn't within its limits.
+/// The error for a size of an output file outside its limits.
 const NO_SIZE: &str = "error: --output-size is 4096 to 16777216 bytes
 
 Usage: umd serve --boot <ID> --socket <PATH> --dir <DIR> --runner <PATH> [--start <UNIT>] [--output <OUT> [--output-size <BYTES>]] <FILE>
@@ -107,7 +107,7 @@ fn usage(alloc: Global) -> Result<String, AllocError> {
     String::from_str(alloc, USAGE)
 }
 
-/// What the words ask for that hold these values.
+/// The line for these values.
 fn serve_line<'a>(alloc: Global, matches: &ArgMatches<'a>) -> Result<Line<'a>, AllocError>
     ensures { IfOk result (TakesServe (rows_of (found_of matches.now))) }
 {

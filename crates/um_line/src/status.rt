@@ -11,24 +11,24 @@ use crate::values::{copied, described, value, values, with_any_words, with_optio
 use clap::{ArgMatches, Command};
 use std::alloc::{AllocError, Global};
 
-/// How units stand, of the manager at a socket.
+/// The units whose status is printed, and the manager to query.
 #[derive(Debug, Drop)]
 pub struct StatusLine<'a> {
-    /// The path of the socket: what `--socket` told.
+    /// The path of the socket: the value of `--socket`.
     pub socket: Option<&'a str>,
-    /// For so many seconds it connects again where nobody reads the request: what `--retry` told.
+    /// How many seconds to connect again while nobody reads the request: the value of `--retry`.
     pub retry: Option<u32>,
-    /// For so many seconds it waits for all replies together: what `--timeout` told.
+    /// How many seconds to wait for all replies together: the value of `--timeout`.
     pub timeout: Option<u32>,
-    /// The folder of the files of processes: what `--dir` told.
+    /// The folder of the files of processes: the value of `--dir`.
     pub dir: Option<&'a str>,
-    /// The folder in which output is kept: what `--output` told.
+    /// The folder in which output is kept: the value of `--output`.
     pub output: Option<&'a str>,
     /// The units, whose names may lack their suffix; none for all.
     pub units: Vec<&'a str>,
 }
 
-/// What is told where a time isn't within its limits.
+/// The error for a time outside its limits.
 const NO_TIME: &str = "error: --retry and --timeout are 1 to 86400 seconds
 
 Usage: umd status [--socket <PATH>] [--retry <SECONDS>] [--timeout <SECONDS>] [--dir <DIR>] [--output <OUT>] [UNIT]..
@@ -97,7 +97,7 @@ fn units_told<'a>(alloc: Global, matches: &ArgMatches<'a>) -> Result<Vec<&'a str
     }
 }
 
-/// What the words ask for that hold these values.
+/// The line for these values.
 fn status_line<'a>(alloc: Global, matches: &ArgMatches<'a>) -> Result<Line<'a>, AllocError>
     ensures { IfOk result (TakesStatus (rows_of (found_of matches.now))) }
 {

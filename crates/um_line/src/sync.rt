@@ -9,24 +9,24 @@ use crate::values::{is_given, value};
 use clap::ArgMatches;
 use std::alloc::{AllocError, Global};
 
-/// A folder that a manager's tree is to have what it holds.
+/// A folder whose files are to be brought to a manager's tree.
 #[derive(Clone, Copy, Debug)]
 pub struct SyncLine<'a> {
-    /// The path of the socket: what `--socket` told.
+    /// The path of the socket: the value of `--socket`.
     pub socket: Option<&'a str>,
-    /// For so many seconds it connects again where nobody reads a request: what `--retry` told.
+    /// How many seconds to connect again while nobody reads a request: the value of `--retry`.
     pub retry: Option<u32>,
-    /// For so many seconds it waits for all replies together: what `--timeout` told.
+    /// How many seconds to wait for all replies together: the value of `--timeout`.
     pub timeout: Option<u32>,
     /// The folder.
     pub folder: &'a str,
-    /// It is only said what would be done.
+    /// The steps are only printed.
     pub is_dry: bool,
     /// Everything is put again.
     pub all: bool,
 }
 
-/// What is told of other words behind `sync`.
+/// The error for other words after `sync`.
 const USAGE: &str = "error: sync takes one folder, and neither --mode nor --wait
 
 Usage: umd ctl [--socket <PATH>] [--retry <SECONDS>] [--timeout <SECONDS>] [--dry-run] [--all] sync <DIR>
@@ -34,7 +34,7 @@ Usage: umd ctl [--socket <PATH>] [--retry <SECONDS>] [--timeout <SECONDS>] [--dr
 For more information, try '--help'.
 ";
 
-/// What `sync` asks for, how long is waited, and the values.
+/// The line of `sync` with its times and the other values.
 pub(crate) fn sync_line<'a>(
     alloc: Global,
     matches: &ArgMatches<'a>,

@@ -11,7 +11,7 @@ use clap::error::ErrorKind;
 use clap::{Arg, ArgAction, Command, Error};
 use std::alloc::{AllocError, Global};
 
-/// How the program is used: its subcommands, a line each.
+/// The usage of the program: its subcommands, a line each.
 const USAGE: &str = "umd <SUBCOMMAND> [WORDS]..
 
 Subcommands, each with its own --help:
@@ -26,13 +26,13 @@ Subcommands, each with its own --help:
   umd help      says what a refusal, a reason or a result means: umd help E9
   umd --memory  serves one client over standard input and output, with a store in memory";
 
-/// What is told where no word is there.
+/// The error if no word is given.
 const NOTHING: &str = "error: a subcommand is missing\n\nUsage: ";
 
-/// What is told behind the usage.
+/// The text after the usage.
 const MORE: &str = "\n\nFor more information, try '--help'.\n";
 
-/// The option that has to be given.
+/// The required option.
 fn memory<'a>(alloc: Global) -> Arg<'a>
     ensures rule { rule_of result ≡ memory_rule }
     ensures local { result.global ≡ false }
@@ -59,7 +59,7 @@ fn command<'a>(alloc: Global) -> Result<Command<'a>, AllocError>
     Ok(command.version("0.1.0"))
 }
 
-/// What is told of a mistake: where a word is missing, it is the subcommand.
+/// The line for a mistake: a missing word is a missing subcommand.
 fn line_of_top_mistake<'a>(alloc: Global, mistake: &Error) -> Result<Line<'a>, AllocError>
     ensures line { IfOk result (IsToldAs (kind_of mistake.now)) }
     ensures memory { OnOk result (kind_of mistake.now ≢ ErrorKind.OutOfMemory) }
@@ -83,7 +83,7 @@ pub fn read_top<'a>(alloc: Global, words: &'a [String]) -> Result<Line<'a>, Allo
     }
 }
 
-/// What the mistakes are of the words that are asked most, whatever the program is called: none of `--memory`.
+/// The mistakes of the commonest command lines, for any name of the program: `--memory` has none.
 pub fn common_lines()
     ensures memory { (name : List ℕ) → mistakes_of (name ∷ codes "--memory" ∷ []) ≡ [] }
     ensures help { (name : List ℕ) → mistakes_of (name ∷ codes "--help" ∷ []) ≡ ErrorKind.DisplayHelp ∷ [] }

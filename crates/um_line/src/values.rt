@@ -1,4 +1,4 @@
-//! Options and words, and the values that they were given.
+//! Options and words, and their values.
 
 ghost use Rattle.std.specs.Prelude.{◌≡◌, ◌↔◌, Some, IfOk, IsTrue, codes, false, map, option_map};
 ghost use Rattle.clap.specs.Words.{all_of, app_of, first_of, found_of, new_app, rows_of, rule_of, with_rule};
@@ -7,7 +7,7 @@ ghost use Rattle.um_line.specs.Line.{any_words_rule, flag_rule, letter_flag_rule
 use clap::{Arg, ArgAction, ArgMatches, Command};
 use std::alloc::{AllocError, Global};
 
-/// A command that takes nothing yet, and what is told of it.
+/// A command without arguments, with its description.
 pub fn described<'a>(
     alloc: Global,
     name: &'a str,
@@ -23,7 +23,7 @@ pub fn described<'a>(
         .after_help(after)
 }
 
-/// An option that has to be given.
+/// A required option.
 pub fn option<'a>(alloc: Global, name: &'a str, value: &'a str, help: &'a str) -> Arg<'a>
     ensures rule { rule_of result ≡ option_rule name.entry.now }
     ensures local { result.global ≡ false }
@@ -35,7 +35,7 @@ pub fn option<'a>(alloc: Global, name: &'a str, value: &'a str, help: &'a str) -
         .required(true)
 }
 
-/// The command with an option more that has to be given.
+/// The command with one more required option.
 pub fn with_option<'a>(
     command: Command<'a>,
     alloc: Global,
@@ -48,7 +48,7 @@ pub fn with_option<'a>(
     command.arg(option(alloc, name, value, help))
 }
 
-/// A word that has to be given.
+/// A required word.
 pub fn word<'a>(alloc: Global, name: &'a str, value: &'a str, help: &'a str) -> Arg<'a>
     ensures rule { rule_of result ≡ word_rule name.entry.now }
     ensures local { result.global ≡ false }
@@ -59,7 +59,7 @@ pub fn word<'a>(alloc: Global, name: &'a str, value: &'a str, help: &'a str) -> 
         .required(true)
 }
 
-/// The command with a word more that has to be given.
+/// The command with one more required word.
 pub fn with_word<'a>(
     command: Command<'a>,
     alloc: Global,
@@ -72,7 +72,7 @@ pub fn with_word<'a>(
     command.arg(word(alloc, name, value, help))
 }
 
-/// An option that may be left out.
+/// An optional option.
 pub fn optional<'a>(alloc: Global, name: &'a str, value: &'a str, help: &'a str) -> Arg<'a>
     ensures rule { rule_of result ≡ optional_rule name.entry.now }
     ensures local { result.global ≡ false }
@@ -83,7 +83,7 @@ pub fn optional<'a>(alloc: Global, name: &'a str, value: &'a str, help: &'a str)
         .help(help)
 }
 
-/// The command with an option more that may be left out.
+/// The command with one more optional option.
 pub fn with_optional<'a>(
     command: Command<'a>,
     alloc: Global,
@@ -96,7 +96,7 @@ pub fn with_optional<'a>(
     command.arg(optional(alloc, name, value, help))
 }
 
-/// A flag, which may be left out.
+/// A flag, which is optional.
 pub fn flag<'a>(alloc: Global, name: &'a str, help: &'a str) -> Arg<'a>
     ensures rule { rule_of result ≡ flag_rule name.entry.now }
     ensures local { result.global ≡ false }
@@ -107,7 +107,7 @@ pub fn flag<'a>(alloc: Global, name: &'a str, help: &'a str) -> Arg<'a>
         .action(ArgAction::SetTrue)
 }
 
-/// An option of one letter, which may be left out.
+/// An option of one letter, which is optional.
 pub fn letter<'a>(
     alloc: Global,
     name: &'a str,
@@ -124,7 +124,7 @@ pub fn letter<'a>(
         .help(help)
 }
 
-/// A flag of one letter, which may be left out.
+/// A flag of one letter, which is optional.
 pub fn letter_flag<'a>(alloc: Global, name: &'a str, short: char, help: &'a str) -> Arg<'a>
     ensures rule { rule_of result ≡ letter_flag_rule name.entry.now short }
     ensures local { result.global ≡ false }
@@ -135,7 +135,7 @@ pub fn letter_flag<'a>(alloc: Global, name: &'a str, short: char, help: &'a str)
         .action(ArgAction::SetTrue)
 }
 
-/// The command with an option of one letter more, which may be left out.
+/// The command with one more optional option of one letter.
 pub fn with_letter<'a>(
     command: Command<'a>,
     alloc: Global,
@@ -149,7 +149,7 @@ pub fn with_letter<'a>(
     command.arg(letter(alloc, name, short, value, help))
 }
 
-/// The command with a flag of one letter more, which may be left out.
+/// The command with one more optional flag of one letter.
 pub fn with_letter_flag<'a>(
     command: Command<'a>,
     alloc: Global,
@@ -162,7 +162,7 @@ pub fn with_letter_flag<'a>(
     command.arg(letter_flag(alloc, name, short, help))
 }
 
-/// The command with a flag more, which may be left out.
+/// The command with one more optional flag.
 pub fn with_flag<'a>(
     command: Command<'a>,
     alloc: Global,
@@ -174,7 +174,7 @@ pub fn with_flag<'a>(
     command.arg(flag(alloc, name, help))
 }
 
-/// Words of which one has to be given at least.
+/// One or more words.
 pub fn words<'a>(alloc: Global, name: &'a str, value: &'a str, help: &'a str) -> Arg<'a>
     ensures rule { rule_of result ≡ words_rule name.entry.now }
     ensures local { result.global ≡ false }
@@ -186,7 +186,7 @@ pub fn words<'a>(alloc: Global, name: &'a str, value: &'a str, help: &'a str) ->
         .action(ArgAction::Append)
 }
 
-/// The command with words more of which one has to be given at least.
+/// The command with one or more further words.
 pub fn with_words<'a>(
     command: Command<'a>,
     alloc: Global,
@@ -199,7 +199,7 @@ pub fn with_words<'a>(
     command.arg(words(alloc, name, value, help))
 }
 
-/// Words that may all be left out.
+/// Any number of words.
 pub fn any_words<'a>(alloc: Global, name: &'a str, value: &'a str, help: &'a str) -> Arg<'a>
     ensures rule { rule_of result ≡ any_words_rule name.entry.now }
     ensures local { result.global ≡ false }
@@ -210,7 +210,7 @@ pub fn any_words<'a>(alloc: Global, name: &'a str, value: &'a str, help: &'a str
         .action(ArgAction::Append)
 }
 
-/// The command with words more that may all be left out.
+/// The command with any number of further words.
 pub fn with_any_words<'a>(
     command: Command<'a>,
     alloc: Global,
@@ -237,7 +237,7 @@ pub fn is_given(matches: &ArgMatches<'_>, name: &str) -> bool
     value(matches, name) == Some("true")
 }
 
-/// The texts again.
+/// A copy of the texts.
 pub fn copied<'a>(alloc: Global, texts: &[&'a str]) -> Result<Vec<&'a str>, AllocError>
     ensures { IfOk result (λ copies. copies.items ≡ texts.now) }
 {

@@ -10,14 +10,14 @@ use crate::values::{copied, described, values, with_words};
 use clap::{ArgMatches, Command};
 use std::alloc::{AllocError, Global};
 
-/// Unit files that are looked at.
+/// Unit files to verify.
 #[derive(Debug, Drop)]
 pub struct VerifyLine<'a> {
     /// Folders and files, one at least.
     pub paths: Vec<&'a str>,
 }
 
-/// What is told where a word is missing.
+/// The error if a word is missing.
 const USAGE: &str = "error: a word is missing
 
 Usage: umd verify <PATH>..
@@ -56,7 +56,7 @@ fn command<'a>(alloc: Global) -> Result<Command<'a>, AllocError>
     )
 }
 
-/// What the words ask for that hold these values.
+/// The line for these values.
 fn verify_line<'a>(alloc: Global, matches: &ArgMatches<'a>) -> Result<Line<'a>, AllocError>
     ensures { IfOk result (TakesVerify (rows_of (found_of matches.now))) }
 {

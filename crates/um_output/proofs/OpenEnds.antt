@@ -11,7 +11,7 @@ lead_low b = search (rules, arith)
 pub open_low : (bytes : List ℕ) (size : ℕ) → IsOpenEnd bytes size → size ≤ 3
 open_low bytes size is = let low = lead_low (slice_index (drop (length bytes - size) bytes) 0) in let below = is.4 in omega arith
 
--- fewer where it was found that none has so many
+-- fewer, once it is found that no character has that many
 pub open_lower : (bytes : List ℕ) (size k : ℕ) (found : Bool) → (IsTrue found ↔ IsOpenEnd bytes (k + 1)) → found ≡ false → size ≤ k + 1 → IsOpenEnd bytes size → size ≤ k
 open_lower bytes size k found told absent low is =
     ⊎_elim (λ t. t.1)

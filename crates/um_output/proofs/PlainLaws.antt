@@ -1,4 +1,4 @@
--- What is shown holds no character that misleads.
+-- Shown text holds no character that misleads.
 use Rattle.std.proofs.Common.{◌≡◌, ◌<◌, ◌≤◌, ◌/◌, ◌%◌, ◌&&◌, ℕ, zero, suc, true, false, Option, Some, None, List, [], ◌∷◌, ◌++◌, drop, take, length, nat_lt, flat_map, encode_utf8, encode_utf8_all, refl, sym, ap, subst, ◌∙◌, arith, rules, tests, length-append, length-drop, take-append-drop, append-nil, ⊎_elim}
 use Rattle.std.specs.Char.{digit_char}
 use Rattle.std.specs.List.{list_all, list_any}

@@ -1,6 +1,5 @@
--- The lines by which the end of a process is kept.
--- No manual page has this: it is the project's own (docs/FORMATS.md, "Output").
--- Output stands on this file.
+-- The lines that record how processes ended. No manual page has this: it is the project's own (docs/FORMATS.md,
+-- "Output"). Output stands on this file.
 use Rattle.std.specs.Prelude.{ℕ, Option, Some, None, List, ◌++◌, codes, decimal}
 use Rattle.um_model.specs.declared.children.Fate.{Fate}
 use Rattle.um_model.specs.declared.children.Fate.TheVariants as fate
@@ -8,7 +7,7 @@ use Rattle.um_model.specs.declared.service.End.TheVariants.{Code, Signal, Lost}
 use Rattle.um_output.specs.declared.ends.Ended.{Ended}
 use Rattle.um_output.specs.declared.ends.Ended.TheVariants.{By, NotStarted}
 
--- what a fate tells of an end: none of a process that may still start, or that runs
+-- the end that a fate reports; none for a process that may still start, or that runs
 abbrev pub ended_of : Fate → Option Ended
 ended_of (fate.Ended how) = Some (By how)
 ended_of fate.Absent = Some NotStarted

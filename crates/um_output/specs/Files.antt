@@ -1,11 +1,10 @@
--- The names of the files of output: a process's number, and what the file is of it.
--- No manual page has this: it is the project's own (docs/FORMATS.md, "Output").
--- Output stands on this file.
+-- The names of the output files: a process's number, and the file's part. No manual page has this: it is the
+-- project's own (docs/FORMATS.md, "Output"). Output stands on this file.
 use Rattle.std.specs.Prelude.{ℕ, List, [], ◌++◌, codes, decimal}
 use Rattle.um_output.specs.declared.files.Part.{Part}
 use Rattle.um_output.specs.declared.files.Part.TheVariants.{Printed, Old, Draft}
 
--- what stands behind the number
+-- the text after the number
 abbrev pub ending : Part → List ℕ
 ending Printed = []
 ending Old = codes ".old"
@@ -15,6 +14,6 @@ ending Draft = codes ".old.new"
 abbrev pub name_of : ℕ → Part → List ℕ
 name_of number part = decimal number ++ ending part
 
--- the path of what has this name in a folder
+-- the path of the file of this name in a folder
 abbrev pub path : (folder name : List ℕ) → List ℕ
 path folder name = folder ++ (codes "/" ++ name)

@@ -17,10 +17,10 @@ has_file n files = list_any (λ f. f.number == n) files
 abbrev pub newer : List ℕ → ℕ → ℕ
 newer numbers n = count_by (λ m. nat_lt n m) numbers
 
--- so many of the numbers, at least, are newer than this one
+-- at least `kept` of the numbers are newer than this one
 abbrev pub is_old : ℕ → List ℕ → ℕ → Bool
 is_old kept numbers n = nat_le kept (newer numbers n)
 
--- the greatest number of these files, which is no less than the next one of the store
+-- the greatest number of these files, which is at least the next number of the store
 abbrev pub IsGreatestFrom : ℕ → ℕ → List OutputFile → Type 0
 IsGreatestFrom next greatest files = (next ≤ greatest) × (has_file greatest files ≡ true) × All (λ f. f.number ≤ greatest) files

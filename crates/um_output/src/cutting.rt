@@ -1,4 +1,4 @@
-//! A file that is too long is cut, and the last of it kept beside it.
+//! Cuts a file that is too long, and keeps the last of it beside it.
 
 use crate::files::{Part, make_new, path_of, remove};
 use crate::reading::{copy_up_to, room};
@@ -8,7 +8,7 @@ use std::io::{Seek, SeekFrom};
 use std::{fs, io};
 use um_model::ProcessNumber;
 
-/// Copies so many bytes of a file, from where it stands, to a new one at the path.
+/// Copies up to `size` bytes of a file, from its current place, to a new one at the path.
 fn copy_to_new<R: Files>(
     rt: &R,
     file: &mut R::File,
@@ -20,7 +20,7 @@ fn copy_to_new<R: Files>(
     copy_up_to(file, &mut draft, size, room)
 }
 
-/// Copies so many of the last bytes of a file, which has this length, to a new one at the path.
+/// Copies the last `size` bytes of a file, which has this length, to a new one at the path.
 fn copy_last<R: Files>(
     rt: &R,
     alloc: Global,
@@ -34,7 +34,7 @@ fn copy_last<R: Files>(
     copy_to_new(rt, file, size, path, room.as_mut_slice())
 }
 
-/// Puts so many of the last bytes of a file in place of what stands at `old`, by way of a draft.
+/// Replaces the file at `old` with the last `size` bytes of a file, by way of a draft.
 fn replace_old<R: Files>(
     rt: &R,
     alloc: Global,
@@ -47,14 +47,14 @@ fn replace_old<R: Files>(
     match copy_last(rt, alloc, file, length, size, draft) {
         Ok(()) => fs::rename(rt, draft, old),
         Err(fault) => {
-            // what is left of it where this fails goes at an opening
+            // if this fails, the rest of the draft is removed at an opening
             let _left = remove(rt, draft);
             Err(fault)
         }
     }
 }
 
-/// Keeps so many of the last bytes of a number's file beside it.
+/// Keeps the last `size` bytes of a number's file beside it.
 fn keep_last<R: Files>(
     rt: &R,
     alloc: Global,
@@ -73,8 +73,8 @@ fn open_whole<R: Files>(rt: &R, path: &str) -> io::Result<R::File> {
     OpenOptions::new().read(true).write(true).open(rt, path)
 }
 
-/// Keeps so many of the last bytes of a number's file beside it, and cuts the file to nothing; who writes to it adds, and so goes on. It is cut too where
-/// they can't be kept, as on a full disk, which would stay full.
+/// Keeps the last `size` bytes of a number's file beside it, and cuts the file to nothing. Its writer appends, and so
+/// goes on. The file is cut too if they can't be kept, as on a full disk, which would stay full.
 pub(crate) fn cut<R: Files>(
     rt: &R,
     alloc: Global,

@@ -1,4 +1,4 @@
-//! The lines by which it is kept how processes ended.
+//! The lines that record how processes ended.
 
 ghost use Rattle.std.specs.Prelude.{◌≡◌, IfOk, string_bytes};
 ghost use Rattle.um_output.specs.Ends as model;
@@ -22,14 +22,14 @@ pub enum Ended {
 /// The file of these lines.
 const NAME: &str = "ends";
 
-/// And its draft.
+/// Its draft.
 const DRAFT: &str = "ends.new";
 
-/// Past so many bytes its older half goes.
+/// If the file is longer than this many bytes, its older half is removed.
 const LONGEST: u64 = 65_536;
 
 impl Ended {
-    /// What the fate tells of an end; none of a process that hasn't ended.
+    /// The end that a fate reports; `None` if the process hasn't ended.
     pub fn of(fate: Fate) -> Option<Ended>
         ensures { result ≡ model.ended_of fate }
     {
@@ -41,7 +41,7 @@ impl Ended {
     }
 }
 
-/// How it ended, as its line has it.
+/// The text of an end in its line.
 fn ended_text(alloc: Global, ended: Ended) -> Result<String, AllocError>
     ensures { IfOk result (λ text. string_bytes text ≡ model.ended_text ended) }
 {
@@ -53,7 +53,7 @@ fn ended_text(alloc: Global, ended: Ended) -> Result<String, AllocError>
     }
 }
 
-/// The line of an end: the process's number, the moment in microseconds at which it was told, and how it ended.
+/// The line of an end: the process's number, the moment in microseconds at which the end was reported, and the end.
 pub fn end_line(
     alloc: Global,
     number: ProcessNumber,
@@ -74,20 +74,20 @@ fn bytes_of<R: Files>(rt: &R, alloc: Global, path: &str) -> io::Result<Vec<u8>> 
     Ok(bytes)
 }
 
-/// Puts the bytes in place of a file, by way of a draft.
+/// Replaces a file with the bytes, by way of a draft.
 fn replace<R: Files>(rt: &R, path: &str, draft: &str, bytes: &[u8]) -> io::Result<()> {
     make_new(rt, draft)?.write_all(bytes)?;
     fs::rename(rt, draft, path)
 }
 
-/// Gives the file the newer half of its text.
+/// Replaces the file's text with its newer half.
 fn halve<R: Files>(rt: &R, alloc: Global, folder: &str, path: &str) -> io::Result<()> {
     let text = bytes_of(rt, alloc, path)?;
     let draft = path_of_name(alloc, folder, DRAFT)?;
     replace(rt, path, draft.as_str(), newer_half(text.as_slice()))
 }
 
-/// Opens the file at the path to be added to; it is made where it isn't there, and so is its folder.
+/// Opens the file at the path for appending; the file and its folder are made if they don't exist.
 fn open_to_add<R: Files>(rt: &R, folder: &str, path: &str) -> io::Result<R::File> {
     let mut how = OpenOptions::new();
     how.append(true).create(true).mode(MODE);
@@ -100,7 +100,7 @@ fn open_to_add<R: Files>(rt: &R, folder: &str, path: &str) -> io::Result<R::File
     }
 }
 
-/// Makes the file of the ends in the folder of a unit, where none is there yet.
+/// Makes the file of the ends in the folder of a unit, if none is there yet.
 pub(crate) fn begin_ends<R: Files>(rt: &R, alloc: Global, folder: &str) -> io::Result<()> {
     let path = path_of_name(alloc, folder, NAME)?;
     let path = path.as_str();
@@ -110,16 +110,16 @@ pub(crate) fn begin_ends<R: Files>(rt: &R, alloc: Global, folder: &str) -> io::R
     Ok(())
 }
 
-/// Adds the line to the file at the path, and gives how long this is then.
+/// Appends the line to the file at the path, and returns the file's length.
 fn add_line<R: Files>(rt: &R, folder: &str, path: &str, line: &str) -> io::Result<u64> {
     let mut file = open_to_add(rt, folder, path)?;
     file.write_all(line.as_bytes())?;
     Ok(file.metadata()?.len())
 }
 
-/// Adds the line to the ends at the path.
+/// Appends the line to the ends at the path.
 fn add_to<R: Files>(rt: &R, alloc: Global, folder: &str, path: &str, line: &str) -> io::Result<()> {
-    // what is no regular file is left as it is: the opening of a pipe would wait
+    // anything but a regular file is left as it is: opening a pipe would wait
     if !is_regular(rt, path)? {
         return Ok(());
     }
@@ -130,7 +130,7 @@ fn add_to<R: Files>(rt: &R, alloc: Global, folder: &str, path: &str, line: &str)
     }
 }
 
-/// Adds the line to the ends in the folder of a unit, of which the older half goes where they are too long.
+/// Appends the line to the ends in the folder of a unit, and removes their older half if they are too long.
 pub(crate) fn add_end<R: Files>(rt: &R, alloc: Global, folder: &str, line: &str) -> io::Result<()> {
     let path = path_of_name(alloc, folder, NAME)?;
     add_to(rt, alloc, folder, path.as_str(), line)

@@ -1,17 +1,17 @@
-//! What can't be done with output.
+//! The faults of output.
 
 use std::io;
 use thiserror::Error;
 use um_model::ProcessNumber;
 
-/// What couldn't be done for the output of a process, or of a whole unit.
+/// An action that failed for the output of a process, or of a whole unit.
 #[derive(Drop)]
 pub struct Failure {
     pub number: Option<ProcessNumber>,
     pub error: io::Error,
 }
 
-/// Why a folder of output isn't opened.
+/// Why a folder of output can't be opened.
 #[derive(Debug, Drop, Error)]
 pub enum OpenFault {
     /// It is another store's: it has output of the process of this number, and of none of a greater one.

@@ -1,4 +1,4 @@
-//! The names of the files of output, and the small things that are done with files.
+//! The names of output files, and small actions on files.
 
 ghost use Rattle.std.specs.Prelude.{◌≡◌, ◌≢◌, ◌<◌, ◌≤◌, ℕ, IfOk, MatchOption, string_bytes};
 ghost use Rattle.um_model.specs.Moments.{process_limit};
@@ -13,28 +13,28 @@ use std::{fs, io};
 use um_model::ProcessNumber;
 use um_runner::number_in;
 
-/// The owner alone reads and writes a file.
+/// A file's mode: only the owner reads and writes it.
 pub(crate) const MODE: u32 = 0o600;
 
-/// And a folder.
+/// A folder's mode.
 const FOLDER_MODE: u32 = 0o700;
 
-/// So often a draft is made anew that another one has made in the meantime.
+/// How often a draft is made again if another process has made one in the meantime.
 const TRIES: u32 = 8;
 
-/// What a file of a number is.
+/// The parts of a number's output, a file each.
 #[derive(Clone, Copy, PartialEq, Eq)]
 pub(crate) enum Part {
-    /// What the process prints.
+    /// The output of the process.
     Printed,
-    /// The last of what was cut off.
+    /// The last of the bytes that were cut off.
     Old,
-    /// The draft of that.
+    /// The draft of `Old`.
     Draft,
 }
 
 impl Part {
-    /// What the file's name has behind the number.
+    /// The text after the number in the file's name.
     pub(crate) fn ending(self) -> &'static str
         ensures { result.now ≡ model.ending self }
     {
@@ -53,7 +53,7 @@ pub(crate) struct OutputFile {
     pub(crate) part: Part,
 }
 
-/// The file of this name, where its name tells it as this part of a number's.
+/// The file of this name, if the name is a number's for this part.
 fn file_of(name: &str, part: Part) -> Option<OutputFile>
     ensures { MatchOption result ((n : ℕ) → 1 ≤ n → n < process_limit → name.now ≢ model.name_of n part) (λ f. (name.now ≡ model.name_of f.number f.part) × (f.part ≡ part)) }
 {
@@ -62,7 +62,7 @@ fn file_of(name: &str, part: Part) -> Option<OutputFile>
     Some(OutputFile { number, part })
 }
 
-/// The file of this name; none for other names.
+/// The file of this name; `None` for other names.
 pub(crate) fn file_named(name: &str) -> Option<OutputFile>
     ensures { MatchOption result ((n : ℕ) → (part : Part) → 1 ≤ n → n < process_limit → name.now ≢ model.name_of n part) (λ f. name.now ≡ model.name_of f.number f.part) }
 {
@@ -75,7 +75,7 @@ pub(crate) fn file_named(name: &str) -> Option<OutputFile>
     file_of(name, Part::Printed)
 }
 
-/// The path of what has this name in the folder.
+/// The path of the file of this name in the folder.
 pub(crate) fn path_of_name(alloc: Global, folder: &str, name: &str) -> io::Result<String>
     ensures { IfOk result (λ path. string_bytes path ≡ model.path folder.now name.now) }
 {
@@ -101,7 +101,7 @@ fn push_name(names: &mut Vec<String>, alloc: Global, name: &str) -> io::Result<(
     Ok(())
 }
 
-/// The names of what stands in the folder.
+/// The names in the folder.
 pub(crate) fn names_in<R: Files>(rt: &R, alloc: Global, folder: &str) -> io::Result<Vec<String>> {
     let mut names = Vec::new(alloc);
     for entry in fs::read_dir(&(rt, alloc), folder)? {
@@ -110,7 +110,7 @@ pub(crate) fn names_in<R: Files>(rt: &R, alloc: Global, folder: &str) -> io::Res
     Ok(names)
 }
 
-/// The files of numbers that have one of these names.
+/// The numbered files among these names.
 fn files_among(alloc: Global, names: &[String]) -> io::Result<Vec<OutputFile>> {
     let mut files = Vec::new(alloc);
     for name in names {
@@ -121,7 +121,7 @@ fn files_among(alloc: Global, names: &[String]) -> io::Result<Vec<OutputFile>> {
     Ok(files)
 }
 
-/// The files of numbers that stand in the folder; none where it isn't there.
+/// The numbered files in the folder; none if there is no folder.
 pub(crate) fn files_in<R: Files>(
     rt: &R,
     alloc: Global,
@@ -143,7 +143,7 @@ pub(crate) fn is_folder<R: Files>(rt: &R, path: &str) -> io::Result<bool> {
     }
 }
 
-/// Whether a regular file stands at the path, or nothing.
+/// Whether the path is a regular file or doesn't exist.
 pub(crate) fn is_regular<R: Files>(rt: &R, path: &str) -> io::Result<bool> {
     match fs::symlink_metadata(rt, path) {
         Ok(about) => Ok(about.is_file()),
@@ -152,7 +152,7 @@ pub(crate) fn is_regular<R: Files>(rt: &R, path: &str) -> io::Result<bool> {
     }
 }
 
-/// How long the regular file at the path is, in bytes. None where something else stands there, or nothing.
+/// The length in bytes of the regular file at the path. `None` if something else or nothing is there.
 pub(crate) fn length_of<R: Files>(rt: &R, path: &str) -> io::Result<Option<u64>> {
     match fs::symlink_metadata(rt, path) {
         Ok(about) if about.is_file() => Ok(Some(about.len())),
@@ -162,7 +162,7 @@ pub(crate) fn length_of<R: Files>(rt: &R, path: &str) -> io::Result<Option<u64>>
     }
 }
 
-/// Removes what stands at the path, where something does.
+/// Removes the file at the path, if there is one.
 pub(crate) fn remove<R: Files>(rt: &R, path: &str) -> io::Result<()> {
     match fs::remove_file(rt, path) {
         Err(fault) if fault.kind() != ErrorKind::NotFound => Err(fault),
@@ -170,7 +170,7 @@ pub(crate) fn remove<R: Files>(rt: &R, path: &str) -> io::Result<()> {
     }
 }
 
-/// Makes the folder, where nothing stands there.
+/// Makes the folder, if nothing is at its path.
 pub(crate) fn make_folder<R: Files>(rt: &R, path: &str) -> io::Result<()> {
     match DirBuilder::new().mode(FOLDER_MODE).create(rt, path) {
         Err(fault) if fault.kind() != ErrorKind::AlreadyExists => Err(fault),
@@ -178,7 +178,7 @@ pub(crate) fn make_folder<R: Files>(rt: &R, path: &str) -> io::Result<()> {
     }
 }
 
-/// Makes a new file in place of what stood there: never one that was there before, nor one that a link leads to.
+/// Makes a new file in place of an old one: never opens a file that was there before, nor one that a link leads to.
 pub(crate) fn make_new<R: Files>(rt: &R, path: &str) -> io::Result<R::File> {
     let mut how = OpenOptions::new();
     how.write(true).create_new(true).mode(MODE);

@@ -20,7 +20,7 @@ pub(crate) fn is_among(numbers: &[ProcessNumber], number: ProcessNumber) -> bool
     false
 }
 
-/// Notes the number, where it isn't live and isn't noted yet.
+/// Notes the number, unless it is live or noted already.
 #[tactic(auto, using(crate::proofs::KeptLaws::distinct_push))]
 fn note(
     idle: &mut Vec<ProcessNumber>,
@@ -40,7 +40,7 @@ fn note(
     idle.push(number)
 }
 
-/// The numbers of these files but the live ones, each once.
+/// The numbers of these files except the live ones, each once.
 pub(crate) fn idle_numbers(
     alloc: Global,
     files: &[OutputFile],
@@ -56,7 +56,7 @@ pub(crate) fn idle_numbers(
     Ok(idle)
 }
 
-/// Whether so many of the numbers, at least, are newer than this one.
+/// Whether at least `kept` of the numbers are newer than this one.
 fn is_old(kept: usize, numbers: &[ProcessNumber], number: ProcessNumber) -> bool
     ensures { result ≡ model.is_old kept numbers.now number }
 {
@@ -69,7 +69,7 @@ fn is_old(kept: usize, numbers: &[ProcessNumber], number: ProcessNumber) -> bool
     kept <= newer
 }
 
-/// Those of the numbers of which so many others, at least, are newer.
+/// Those of the numbers for which at least `kept` others are newer.
 pub(crate) fn old_numbers(
     alloc: Global,
     kept: usize,
@@ -86,7 +86,7 @@ pub(crate) fn old_numbers(
     Ok(old)
 }
 
-/// The greatest number of these files that the store never started, of which the next one is `next`.
+/// The greatest number of these files that the store never started; `next` is the next that it starts.
 pub(crate) fn foreign_in(files: &[OutputFile], next: NextNumber) -> Option<ProcessNumber>
     ensures { MatchOption result (All (λ f. f.number < next) files.now) (λ n. model.IsGreatestFrom next n files.now) }
 {

@@ -5,8 +5,8 @@ ghost use Rattle.std.specs.List.{list_all, list_any};
 ghost use Rattle.std.specs.Str.{IsUtf8, chars};
 ghost use Rattle.um_output.specs.Showing.{misleads, shown};
 
-/// What is shown of bytes is a text in UTF-8 without a control character but line feeds and tabs, and without a mark of direction; and a text that is such
-/// is shown as it is.
+/// The shown text of bytes is UTF-8 without a control character other than line feed and tab, and without a mark of
+/// direction. Text of that kind is shown as it is.
 pub fn what_is_printed_misleads_nobody()
     ensures text { (bytes : List ℕ) → list_all (λ b. nat_lt b 256) bytes ≡ true → IsUtf8 (shown bytes) }
     ensures plain { (bytes : List ℕ) → list_all (λ b. nat_lt b 256) bytes ≡ true → list_any misleads (chars (shown bytes)) ≡ false }

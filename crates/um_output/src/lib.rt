@@ -1,4 +1,5 @@
-//! What the processes of units print, in a folder: a file a process, by its unit and its number, how each ended, and how all that is printed again.
+//! The output of the processes of units, kept in a folder: a file per process, by its unit and number, a line for
+//! each end, and the printing of all that.
 #![tactic(auto)]
 
 mod cutting;

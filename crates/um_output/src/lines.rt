@@ -3,7 +3,7 @@
 ghost use Rattle.std.specs.Prelude.{◌≡◌, ◌-◌};
 ghost use Rattle.um_output.specs.Lines as model;
 
-/// The lines of the newer half of a text: those behind the first line feed past its middle.
+/// The lines of the newer half of a text: those after the first line feed past its middle.
 pub(crate) fn newer_half(text: &[u8]) -> &[u8]
     ensures { result.now ≡ model.newer_half text.now }
 {
@@ -24,7 +24,7 @@ pub(crate) fn feeds_in(bytes: &[u8]) -> u64
     feeds
 }
 
-/// What is left behind so many line feeds, and how many of these are left.
+/// The bytes after this number of line feeds, and the number that is still to be skipped.
 pub(crate) fn behind_feeds(bytes: &[u8], skipped: u64) -> (&[u8], u64)
     ensures rest { result.0.now ≡ model.behind skipped bytes.now }
     ensures left { result.1 ≡ skipped - model.feeds bytes.now }

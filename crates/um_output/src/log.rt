@@ -1,4 +1,4 @@
-//! What the processes of a unit printed, put out again.
+//! Prints the output of a unit's processes.
 
 use crate::files::{OutputFile, Part, files_in, is_folder, length_of, path_of, path_of_name};
 use crate::lines::{behind_feeds, feeds_in};
@@ -10,14 +10,14 @@ use std::io::{ErrorKind, Read, Seek, SeekFrom, Write};
 use std::{io, mem};
 use um_model::ProcessNumber;
 
-/// Why it isn't put out.
+/// Why the output can't be printed.
 #[derive(Drop)]
 pub enum LogFault {
     /// There is no folder of the unit.
     Absent,
-    /// What stands at this path can't be read.
+    /// The file or folder at this path can't be read.
     Read(String, io::Error),
-    /// It can't be written.
+    /// The output can't be written.
     Write(io::Error),
     /// A growth of memory was refused.
     NoMemory,
@@ -35,31 +35,31 @@ impl<T: Drop> From<AllocFailed<T>> for LogFault {
     }
 }
 
-/// How far the file of a number was put out.
+/// How far the file of a number was printed.
 #[derive(Clone, Copy)]
 struct Place {
     number: ProcessNumber,
     length: u64,
 }
 
-/// The output of a unit, as it is put out.
+/// The output of a unit, while it is printed.
 #[derive(Drop)]
 pub struct Log<'a, R: Files, W: Write + Drop> {
     rt: &'a R,
     alloc: Global,
     /// The folder of the unit.
     folder: String,
-    /// Each byte goes out as it is.
+    /// Each byte is printed as it is.
     is_raw: bool,
     output: W,
-    /// So many line feeds are left until anything goes out.
+    /// The number of line feeds still to be skipped before anything is printed.
     skipped: u64,
-    /// The beginning of a character that may go on.
+    /// The beginning of a character whose rest may follow.
     held: Vec<u8>,
     places: Vec<Place>,
 }
 
-/// What can't be read, and why; want of memory as such.
+/// The fault of a path that can't be read; out of memory is a fault of its own.
 fn unread(alloc: Global, path: &str, fault: io::Error) -> LogFault {
     if fault.kind() == ErrorKind::OutOfMemory {
         return LogFault::NoMemory;
@@ -70,21 +70,21 @@ fn unread(alloc: Global, path: &str, fault: io::Error) -> LogFault {
     }
 }
 
-/// The lines of a file of which the last may lack its line feed.
+/// The lines of a file; the last one may lack its line feed.
 #[derive(Clone, Copy)]
 struct Counted {
     feeds: u64,
     is_open: bool,
 }
 
-/// The file, from the place in it on.
+/// The file, from this place on.
 fn from_place<F: Seek + Drop>(file: F, place: u64) -> io::Result<Option<F>> {
     let mut file = file;
     file.seek(SeekFrom::Start(place))?;
     Ok(Some(file))
 }
 
-/// Opens a regular file, and goes to the place in it. None where none stands there, as when it was removed meanwhile.
+/// Opens a regular file, and goes to the place in it. `None` if there is none, as when it was removed meanwhile.
 fn open_at<R: Files>(rt: &R, path: &str, place: u64) -> io::Result<Option<R::File>> {
     if length_of(rt, path)?.is_none() {
         return Ok(None);
@@ -96,7 +96,7 @@ fn open_at<R: Files>(rt: &R, path: &str, place: u64) -> io::Result<Option<R::Fil
     }
 }
 
-/// Counts the lines of an open file, behind those that were counted.
+/// Counts the lines of an open file, added to those that were counted.
 fn count_pieces<F: Read>(file: &mut F, room: &mut [u8], counted: Counted) -> io::Result<Counted> {
     let mut counted = counted;
     for _ in 0..u64::MAX {
@@ -112,7 +112,7 @@ fn count_pieces<F: Read>(file: &mut F, room: &mut [u8], counted: Counted) -> io:
     Ok(counted)
 }
 
-/// Counts the lines of a file, behind those that were counted.
+/// Counts the lines of a file, added to those that were counted.
 fn count_lines<R: Files>(
     rt: &R,
     path: &str,
@@ -125,13 +125,13 @@ fn count_lines<R: Files>(
     }
 }
 
-/// The bytes in two parts: the whole characters, and the beginning of one that may go on.
+/// The bytes in two parts: the whole characters, and the beginning of one whose rest may follow.
 fn parts_of(bytes: &[u8]) -> (&[u8], &[u8]) {
     let whole = bytes.len().saturating_sub(open_end(bytes));
     bytes.split_at(whole)
 }
 
-/// The folder of the unit of this name. `Absent` where there is none.
+/// The folder of the unit of this name. `Absent` if there is none.
 fn folder_of<R: Files>(
     rt: &R,
     alloc: Global,
@@ -154,9 +154,10 @@ fn has_file(files: &[OutputFile], number: ProcessNumber) -> bool {
 }
 
 impl<'a, R: Files, W: Write + Drop> Log<'a, R, W> {
-    /// The output of the unit of this name in the folder, to be put out.
+    /// The output of the unit of this name in the folder, ready to be printed.
     ///
-    /// `Absent` where there is no folder of the unit, `Read` where the system refuses it, `NoMemory` where a growth was refused.
+    /// `Absent` if there is no folder of the unit, `Read` if the system refuses it, `NoMemory` if an allocation
+    /// failed.
     pub fn open(
         rt: &'a R,
         alloc: Global,
@@ -178,7 +179,7 @@ impl<'a, R: Files, W: Write + Drop> Log<'a, R, W> {
         })
     }
 
-    /// The files that are put out, in their order.
+    /// The files that are printed, in their order.
     fn files(&self) -> Result<Vec<OutputFile>, LogFault> {
         let mut files = match files_in(self.rt, self.alloc, self.folder.as_str()) {
             Ok(files) => files,
@@ -196,7 +197,7 @@ impl<'a, R: Files, W: Write + Drop> Log<'a, R, W> {
         }
     }
 
-    /// Counts the lines of a file, behind those that were counted.
+    /// Counts the lines of a file, added to those that were counted.
     fn count_of(
         &self,
         file: OutputFile,
@@ -229,32 +230,32 @@ impl<'a, R: Files, W: Write + Drop> Log<'a, R, W> {
         }
     }
 
-    /// Puts out the bytes as they are shown.
+    /// Prints the bytes with their escapes.
     fn write_printed(&mut self, bytes: &[u8]) -> Result<(), LogFault> {
         let text = printed(self.alloc, bytes)?;
         self.write(text.as_slice())
     }
 
-    /// What was held back; nothing is any more.
+    /// Takes the bytes that were held back; none are held any more.
     fn take_held(&mut self) -> Vec<u8> {
         mem::replace(&mut self.held, Vec::new(self.alloc))
     }
 
-    /// Puts out the bytes as they are shown; the beginning of a character at their end is held back.
+    /// Prints the bytes with their escapes; the beginning of a character at their end is held back.
     fn show_whole(&mut self, bytes: &[u8]) -> Result<(), LogFault> {
         let (front, end) = parts_of(bytes);
         self.held.extend_from_slice(end)?;
         self.write_printed(front)
     }
 
-    /// Does that with what was held back and these bytes.
+    /// The same for the bytes that were held back, followed by these.
     fn show(&mut self, bytes: &[u8]) -> Result<(), LogFault> {
         self.held.extend_from_slice(bytes)?;
         let held = self.take_held();
         self.show_whole(held.as_slice())
     }
 
-    /// Puts out what came of a file.
+    /// Prints bytes of a file.
     fn put(&mut self, bytes: &[u8]) -> Result<(), LogFault> {
         let (rest, skipped) = behind_feeds(bytes, self.skipped);
         self.skipped = skipped;
@@ -265,13 +266,13 @@ impl<'a, R: Files, W: Write + Drop> Log<'a, R, W> {
         }
     }
 
-    /// Puts out what was held back, behind which nothing comes.
+    /// Prints the bytes that were held back, when no more follow.
     fn put_held(&mut self) -> Result<(), LogFault> {
         let held = self.take_held();
         self.write_printed(held.as_slice())
     }
 
-    /// Puts out a piece of a file, and gives its length; at an empty one, its end, what was held back.
+    /// Prints a piece of a file, and returns its length; an empty piece is the end, where the held bytes are printed.
     fn put_piece(&mut self, piece: &[u8]) -> Result<usize, LogFault> {
         if piece.is_empty() {
             self.put_held()?;
@@ -281,7 +282,7 @@ impl<'a, R: Files, W: Write + Drop> Log<'a, R, W> {
         Ok(piece.len())
     }
 
-    /// Puts out the next piece of an open file, and gives how many bytes that was; none only at its end.
+    /// Prints the next piece of an open file, and returns its length; 0 only at its end.
     fn put_next(
         &mut self,
         file: &mut R::File,
@@ -294,7 +295,7 @@ impl<'a, R: Files, W: Write + Drop> Log<'a, R, W> {
         }
     }
 
-    /// Puts out what an open file has, and gives how many bytes that was.
+    /// Prints the rest of an open file, and returns its length.
     fn put_pieces(
         &mut self,
         file: &mut R::File,
@@ -312,7 +313,7 @@ impl<'a, R: Files, W: Write + Drop> Log<'a, R, W> {
         Ok(size)
     }
 
-    /// Puts out what a file has from a place on, and gives where it ended.
+    /// Prints a file from a place on, and returns its end.
     fn put_from(&mut self, file: OutputFile, place: u64, room: &mut [u8]) -> Result<u64, LogFault> {
         let path = self.path_of(file)?;
         match open_at(self.rt, path.as_str(), place) {
@@ -325,7 +326,7 @@ impl<'a, R: Files, W: Write + Drop> Log<'a, R, W> {
         }
     }
 
-    /// Puts out what a file has from a place on, and notes where it ended.
+    /// Prints a file from a place on, and notes its end.
     fn put_noted(
         &mut self,
         file: &OutputFile,
@@ -336,7 +337,7 @@ impl<'a, R: Files, W: Write + Drop> Log<'a, R, W> {
         self.note(*file, length)
     }
 
-    /// Leaves out all of these files but so many of the last lines.
+    /// Skips all of these files except the last `lines` lines.
     fn skip_to(
         &mut self,
         files: &[OutputFile],
@@ -350,7 +351,7 @@ impl<'a, R: Files, W: Write + Drop> Log<'a, R, W> {
         Ok(())
     }
 
-    /// Puts out these files whole.
+    /// Prints these whole files.
     fn put_whole(&mut self, files: &[OutputFile], room: &mut [u8]) -> Result<(), LogFault> {
         for file in files {
             self.put_noted(file, 0, room)?;
@@ -358,9 +359,9 @@ impl<'a, R: Files, W: Write + Drop> Log<'a, R, W> {
         Ok(())
     }
 
-    /// Puts out all that the unit's processes printed, or so many of the last lines, the oldest process first.
+    /// Prints all output of the unit's processes, or only this number of its last lines, the oldest process first.
     ///
-    /// `Read` where a file can't be read, `Write` where the output can't be written, `NoMemory` where a growth was refused.
+    /// `Read` if a file can't be read, `Write` if the output can't be written, `NoMemory` if an allocation failed.
     pub fn put_all(&mut self, lines: Option<u32>) -> Result<(), LogFault> {
         let mut room = room(self.alloc)?;
         let files = self.files()?;
@@ -370,7 +371,7 @@ impl<'a, R: Files, W: Write + Drop> Log<'a, R, W> {
         Ok(())
     }
 
-    /// Notes how far the file of a number was put out.
+    /// Notes how far the file of a number was printed.
     fn note(&mut self, file: OutputFile, length: u64) -> Result<(), LogFault> {
         if file.part != Part::Printed {
             return Ok(());
@@ -383,7 +384,7 @@ impl<'a, R: Files, W: Write + Drop> Log<'a, R, W> {
         Ok(())
     }
 
-    /// How far it was put out.
+    /// How far it was printed.
     fn place_of(&self, number: ProcessNumber) -> u64 {
         match self.places.iter().find(|place| place.number == number) {
             Some(place) => place.length,
@@ -391,7 +392,7 @@ impl<'a, R: Files, W: Write + Drop> Log<'a, R, W> {
         }
     }
 
-    /// How long the file is now; 0 where it isn't there.
+    /// The length of the file now; 0 if there is none.
     fn length(&self, file: OutputFile) -> Result<u64, LogFault> {
         let path = self.path_of(file)?;
         match length_of(self.rt, path.as_str()) {
@@ -400,7 +401,7 @@ impl<'a, R: Files, W: Write + Drop> Log<'a, R, W> {
         }
     }
 
-    /// Puts out what came to a file since it was looked at last; of one that was cut meanwhile what it has.
+    /// Prints the bytes that a file got since the last look; the whole file if it was cut meanwhile.
     fn put_new(&mut self, file: &OutputFile, room: &mut [u8]) -> Result<(), LogFault> {
         let length = self.length(*file)?;
         let place = self.place_of(file.number);
@@ -411,12 +412,12 @@ impl<'a, R: Files, W: Write + Drop> Log<'a, R, W> {
         self.put_noted(file, begin, room)
     }
 
-    /// Forgets how far files were put out that aren't among these.
+    /// Forgets the places of files that aren't among these.
     fn forget_others(&mut self, files: &[OutputFile]) {
         self.places.retain(|place| has_file(files, place.number));
     }
 
-    /// Puts out what came to these files since they were looked at last.
+    /// Prints the bytes that these files got since the last look.
     fn put_new_of(&mut self, files: &[OutputFile], room: &mut [u8]) -> Result<(), LogFault> {
         for file in files {
             if file.part == Part::Printed {
@@ -426,11 +427,11 @@ impl<'a, R: Files, W: Write + Drop> Log<'a, R, W> {
         Ok(())
     }
 
-    /// Puts out what came since the last look, also of processes that were started meanwhile. Refused as `put_all` is.
+    /// Prints the output since the last look, also of processes that were started meanwhile. Refused as `put_all` is.
     pub fn put_more(&mut self) -> Result<(), LogFault> {
         let mut room = room(self.alloc)?;
         let files = self.files()?;
-        // a number never comes again whose file is gone
+        // the number of a removed file never comes again
         self.forget_others(files.as_slice());
         self.put_new_of(files.as_slice(), room.as_mut_slice())
     }

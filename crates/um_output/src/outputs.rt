@@ -17,10 +17,10 @@ use um_model::{Fate, Moment, NextNumber, ProcessNumber};
 use um_name::{UnitName, is_unit_name};
 use um_state::State;
 
-/// The folder of output of which the store doesn't tell the unit; no unit has this name.
+/// The folder for output whose unit the store doesn't know; no unit has this name.
 const LOST: &str = "lost";
 
-/// So many numbers of it stay.
+/// How many numbers it keeps.
 const LOST_KEPT: usize = 16;
 
 /// A live process.
@@ -30,12 +30,12 @@ struct Live {
     unit: UnitName,
     /// Its file stands in the folder of the unit, or there is none.
     is_placed: bool,
-    /// How it ended was written down.
+    /// Its end was written down.
     is_told: bool,
 }
 
 impl Live {
-    /// Moves its file from one folder into that of the unit, where it doesn't stand there yet.
+    /// Moves its file from one folder into that of the unit, unless it is there already.
     fn place<R: Files>(
         &mut self,
         rt: &R,
@@ -51,27 +51,28 @@ impl Live {
     }
 }
 
-/// The output of a manager's processes in a folder, where each writes to a file of its number: it is moved into the folder of its unit, cut where it is
-/// too long, and goes once four others of the unit ended later. How each ended is written down.
+/// The output of a manager's processes in a folder. Each process writes to a file of its number, which is moved into
+/// the folder of its unit, is cut if it is too long, and is removed once four others of the unit ended later. Each
+/// end is written down.
 ///
-/// What files hold no contract can say; this is only tested.
+/// No contract can state the contents of files; this is only tested.
 #[derive(Drop)]
 pub struct Outputs<'a, R: Files> {
     rt: &'a R,
     alloc: Global,
     folder: &'a str,
-    /// So many bytes of a file are kept.
+    /// How many bytes of a file are kept.
     size: u64,
-    /// The moment of what happens now.
+    /// The moment of the current events.
     moment: Moment,
     live: BTreeMap<u64, Live>,
     /// Started since the last turn ended.
     started: Vec<ProcessNumber>,
-    /// Told to have ended, or never to start, since then.
+    /// Reported since then as ended, or as never to start.
     ended: Vec<ProcessNumber>,
-    /// When the files were looked at last.
+    /// The time of the last look at the files.
     looked: Option<Instant>,
-    /// What couldn't be done first, since it was asked last.
+    /// The first action that failed since `take_failure` was last called.
     failure: Option<Failure>,
 }
 
@@ -94,7 +95,7 @@ fn admit_at<R: Files>(
     admit(files.as_slice(), next)
 }
 
-/// Refuses them in the folder of output whose unit nobody told.
+/// Refuses them in the folder for output of unknown units.
 fn admit_lost<R: Files>(
     rt: &R,
     alloc: Global,
@@ -109,7 +110,7 @@ fn admit_lost<R: Files>(
     }
 }
 
-/// Refuses them in these folders, and in that of output whose unit nobody told.
+/// Refuses them in these folders, and in the one for output of unknown units.
 fn admit_in<R: Files>(
     rt: &R,
     alloc: Global,
@@ -123,7 +124,7 @@ fn admit_in<R: Files>(
     admit_lost(rt, alloc, folder, next)
 }
 
-/// The path of what has this name in the folder, where it is the folder of a unit.
+/// The path of the entry of this name in the folder, if it is the folder of a unit.
 fn unit_folder<R: Files>(
     rt: &R,
     alloc: Global,
@@ -140,7 +141,7 @@ fn unit_folder<R: Files>(
     Ok(None)
 }
 
-/// The paths of the folders of units in a folder, where these names stand.
+/// The paths of the folders of units among these names in a folder.
 fn unit_folders_among<R: Files>(
     rt: &R,
     alloc: Global,
@@ -167,8 +168,8 @@ fn live_in(state: &State) -> io::Result<Vec<ProcessNumber>> {
     Ok(state.units().live()?)
 }
 
-/// Moves the file of a live process into the folder of its unit. With a new folder comes the file of its ends: a new file takes a disk its time, and an
-/// end is waited for, a start that was ordered isn't.
+/// Moves the file of a live process into the folder of its unit. A new folder also gets the file of its ends now: a
+/// new file takes the disk some time, and clients wait for an end but not for a start.
 fn place_in<R: Files>(
     rt: &R,
     alloc: Global,
@@ -183,10 +184,12 @@ fn place_in<R: Files>(
 }
 
 impl<'a, R: Files> Outputs<'a, R> {
-    /// The output in the folder, of the store with this state, of which so many bytes of a file are kept. What stands at the top is moved to where it
-    /// belongs, what was left of numbers that ended is put in order, and nothing is touched where the folder is another store's.
+    /// The output in the folder, of the store with this state; `size` bytes of each file are kept. Files at the top
+    /// are moved to their places, the remains of ended numbers are put in order, and nothing is touched if the folder
+    /// is another store's.
     ///
-    /// `Foreign` where a number stands there that the store never started, `System` where the system refuses the folder. What else fails is noted.
+    /// `Foreign` if the folder has a number that the store never started, `System` if the system refuses the folder.
+    /// Other failures are noted.
     pub fn open(
         rt: &'a R,
         alloc: Global,
@@ -199,7 +202,7 @@ impl<'a, R: Files> Outputs<'a, R> {
         Ok(outputs)
     }
 
-    /// Nothing of what stands in the folder is known yet.
+    /// No entry of the folder is known yet.
     fn new(rt: &'a R, alloc: Global, folder: &'a str, size: u64, moment: Moment) -> Outputs<'a, R> {
         Outputs {
             rt,
@@ -215,7 +218,7 @@ impl<'a, R: Files> Outputs<'a, R> {
         }
     }
 
-    /// Looks through the folder, refuses it where it is another store's, and takes up what stands there.
+    /// Looks through the folder, refuses it if it is another store's, and takes up its files.
     fn look_through(&mut self, state: &State) -> Result<(), OpenFault> {
         let files = files_in(self.rt, self.alloc, self.folder)?;
         let folders = unit_folders(self.rt, self.alloc, self.folder)?;
@@ -235,7 +238,7 @@ impl<'a, R: Files> Outputs<'a, R> {
         admit_in(self.rt, self.alloc, self.folder, folders, next)
     }
 
-    /// Takes up the live processes of the state, and puts in order what these folders and files of the folder hold.
+    /// Takes up the live processes of the state, and puts the other files of the folder in order.
     fn take_up(
         &mut self,
         state: &State,
@@ -249,14 +252,14 @@ impl<'a, R: Files> Outputs<'a, R> {
         Ok(())
     }
 
-    /// Takes up these numbers by what the state tells of them.
+    /// Takes up these numbers by their units in the state.
     fn take_all(&mut self, numbers: &[ProcessNumber], state: &State) {
         for number in numbers {
             self.take(*number, state);
         }
     }
 
-    /// Moves what stands at the top of other numbers than the live ones.
+    /// Moves the files at the top of numbers other than the live ones.
     fn lose_others(&mut self, live: &[ProcessNumber], files: &[OutputFile]) {
         for file in files {
             if file.part == Part::Printed && !is_among(live, file.number) {
@@ -266,7 +269,7 @@ impl<'a, R: Files> Outputs<'a, R> {
         }
     }
 
-    /// Puts in order what these folders hold of other numbers than the live ones.
+    /// Puts in order the files of other numbers than the live ones in these folders.
     fn tidy_all(&mut self, live: &[ProcessNumber], folders: &[String]) {
         for path in folders {
             let tidied = tidy(self.rt, self.alloc, path.as_str(), live, self.size);
@@ -274,44 +277,44 @@ impl<'a, R: Files> Outputs<'a, R> {
         }
     }
 
-    /// Notes what couldn't be done.
+    /// Notes a failure.
     fn fail(&mut self, number: Option<ProcessNumber>, error: io::Error) {
         if self.failure.is_none() {
             self.failure = Some(Failure { number, error });
         }
     }
 
-    /// Notes what couldn't be done for a number.
+    /// Notes a failure for a number.
     fn mind(&mut self, number: ProcessNumber, done: io::Result<()>) {
         if let Err(error) = done {
             self.fail(Some(number), error);
         }
     }
 
-    /// Notes what couldn't be done for a unit.
+    /// Notes a failure for a unit.
     fn mind_all(&mut self, done: io::Result<()>) {
         if let Err(error) = done {
             self.fail(None, error);
         }
     }
 
-    /// What couldn't be done first since this was asked last.
+    /// The first failure since the last call.
     pub fn take_failure(&mut self) -> Option<Failure> {
         self.failure.take()
     }
 
-    /// What is noted from now on is of this moment.
+    /// Sets the moment of everything that is noted from now on.
     pub fn begin(&mut self, moment: Moment) {
         self.moment = moment;
     }
 
     /// Notes that a process is started, to be moved once its unit is known.
     pub fn note_start(&mut self, number: ProcessNumber) {
-        // where there is no memory for it, it is moved at the next opening
+        // if there is no memory for it, it is moved at the next opening
         let _noted = self.started.push(number);
     }
 
-    /// Moves what stands at the top of a number to the output whose unit nobody told, of which the newest stays.
+    /// Moves the file of a number at the top to the output of unknown units, of which the newest stay.
     fn move_to_lost(&self, number: ProcessNumber) -> io::Result<()> {
         let lost = path_of_name(self.alloc, self.folder, LOST)?;
         make_folder(self.rt, lost.as_str())?;
@@ -319,7 +322,8 @@ impl<'a, R: Files> Outputs<'a, R> {
         prune(self.rt, self.alloc, lost.as_str(), &[], LOST_KEPT)
     }
 
-    /// Moves what stands at the top of a number whose unit nobody tells; nothing is left of an empty file, and what is no file stays.
+    /// Moves the file at the top of a number whose unit is unknown; an empty file is removed, and anything but a file
+    /// stays.
     fn lose(&self, number: ProcessNumber) -> io::Result<()> {
         let path = path_of(self.alloc, self.folder, number, Part::Printed)?;
         match length_of(self.rt, path.as_str())? {
@@ -341,7 +345,7 @@ impl<'a, R: Files> Outputs<'a, R> {
         Ok(())
     }
 
-    /// Takes up a number that the unit of this name has.
+    /// Takes up a number of the unit of this name.
     fn take_named(&mut self, number: ProcessNumber, unit: UnitName) -> io::Result<()> {
         let placed = self.place(number, &unit);
         let live = Live {
@@ -353,12 +357,12 @@ impl<'a, R: Files> Outputs<'a, R> {
         self.add(live).and(placed)
     }
 
-    /// Takes up a number that the unit has.
+    /// Takes up a number of the unit.
     fn take_of(&mut self, number: ProcessNumber, unit: &UnitName) -> io::Result<()> {
         self.take_named(number, unit.copy()?)
     }
 
-    /// Takes up a number by what the state tells of it.
+    /// Takes up a number by its unit in the state.
     fn take(&mut self, number: ProcessNumber, state: &State) {
         let taken = match state.units().process(number.get()) {
             Some(unit) => self.take_of(number, unit),
@@ -374,7 +378,7 @@ impl<'a, R: Files> Outputs<'a, R> {
         add_end(self.rt, self.alloc, folder.as_str(), line.as_str())
     }
 
-    /// Notes that it was written down how a process ended.
+    /// Notes that the end of a process was written down.
     fn note_told(&mut self, number: ProcessNumber) {
         if let Some(live) = self.live.get_mut(&number.get()) {
             live.is_told = true;
@@ -391,14 +395,15 @@ impl<'a, R: Files> Outputs<'a, R> {
         Ok(())
     }
 
-    /// Notes what is told of a process. Where it has ended, or never starts, that is written down; its file stays as it is until the state has taken it.
+    /// Notes the fate of a process. If it has ended, or never starts, that is written down; its file stays as it is
+    /// until the state has taken the fate.
     pub fn note_fate(&mut self, number: ProcessNumber, fate: Fate) {
         let Some(ended) = Ended::of(fate) else {
             return;
         };
         let told = self.tell_end(number, ended);
         self.mind(number, told);
-        // where there is no memory for it, it is found at the next look
+        // if there is no memory for it, it is found at the next look
         let _noted = self.ended.push(number);
     }
 
@@ -413,19 +418,20 @@ impl<'a, R: Files> Outputs<'a, R> {
         Ok(numbers)
     }
 
-    /// Keeps of a unit, in its folder, the live numbers and the newest of the others.
+    /// Keeps, in the folder of a unit, the live numbers and the newest of the others.
     fn prune(&self, unit: &UnitName, folder: &str) -> io::Result<()> {
         let live = self.live_of(unit)?;
         prune(self.rt, self.alloc, folder, live.as_slice(), KEPT)
     }
 
-    /// Puts in order, in the folder of the unit, what is left of a process that isn't live any more, and what the unit has of others.
+    /// Puts in order, in the folder of the unit, the files of a process that isn't live any more, and removes old
+    /// ones of the unit.
     fn finish_in(&self, number: ProcessNumber, unit: &UnitName, folder: &str) -> io::Result<()> {
         let finished = finish(self.rt, self.alloc, folder, number, self.size);
         self.prune(unit, folder).and(finished)
     }
 
-    /// Puts in order what is left of a process that isn't live any more, and what its unit has of others.
+    /// Puts in order the files of a process that isn't live any more, and removes old ones of its unit.
     fn finish_of(&self, live: &Live) -> io::Result<()> {
         if !live.is_placed {
             self.place(live.number, &live.unit)?;
@@ -434,7 +440,7 @@ impl<'a, R: Files> Outputs<'a, R> {
         self.finish_in(live.number, &live.unit, folder.as_str())
     }
 
-    /// Forgets a process that isn't live any more, and puts in order what is left of it.
+    /// Forgets a process that isn't live any more, and puts its files in order.
     fn finish(&mut self, number: ProcessNumber) -> io::Result<()> {
         match self.live.remove(&number.get()) {
             Some(live) => self.finish_of(&live),
@@ -442,10 +448,10 @@ impl<'a, R: Files> Outputs<'a, R> {
         }
     }
 
-    /// Puts in order what is left of these numbers, but of those that are live still.
+    /// Puts the files of these numbers in order, except those that are still live.
     fn finish_all(&mut self, numbers: &[ProcessNumber], state: &State) {
         for number in numbers {
-            // one whose end the state couldn't take is told again
+            // an end that the state couldn't take is reported again
             if state.units().process(number.get()).is_none() {
                 let finished = self.finish(*number);
                 self.mind(*number, finished);
@@ -453,25 +459,26 @@ impl<'a, R: Files> Outputs<'a, R> {
         }
     }
 
-    /// Moves what was started since the last turn ended into the folders of its units.
+    /// Moves the files of processes started since the last turn ended into the folders of their units.
     fn settle_started(&mut self, state: &State) {
         let started = mem::replace(&mut self.started, Vec::new(self.alloc));
         self.take_all(started.as_slice(), state);
     }
 
-    /// Puts in order what has ended since the last turn ended.
+    /// Puts in order the files of processes that ended since the last turn ended.
     fn settle_ended(&mut self, state: &State) {
         let ended = mem::replace(&mut self.ended, Vec::new(self.alloc));
         self.finish_all(ended.as_slice(), state);
     }
 
-    /// Moves what was started since the last turn ended into the folders of its units, by the state behind it, and puts in order what has ended.
+    /// Moves the files of processes started since the last turn ended into the folders of their units, by the state
+    /// after the turn, and puts in order the files of those that ended.
     pub fn settle(&mut self, state: &State) {
         self.settle_started(state);
         self.settle_ended(state);
     }
 
-    /// Cuts the file of a live process where it is too long; one that couldn't be moved is moved.
+    /// Cuts the file of a live process if it is too long; moves one that couldn't be moved before.
     fn look_after(&mut self, number: ProcessNumber) -> io::Result<()> {
         let Some(live) = self.live.get_mut(&number.get()) else {
             return Ok(());
@@ -507,13 +514,14 @@ impl<'a, R: Files> Outputs<'a, R> {
         self.mind(number, done);
     }
 
-    /// Looks at the files of all live processes, if a second has gone by since that was done. True where it was done.
+    /// Looks at the files of all live processes, unless that was done less than a second ago. True if it was done
+    /// now.
     pub fn tend(&mut self, state: &State, now: Instant) -> bool {
         if !self.is_due(now) {
             return false;
         }
         self.looked = Some(now);
-        // where there is no memory for them, they are looked at a second later
+        // if there is no memory for them, they are looked at a second later
         let numbers = self.numbers().unwrap_or(Vec::new(self.alloc));
         for number in &numbers {
             self.look_at(*number, state);

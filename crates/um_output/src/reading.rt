@@ -4,7 +4,7 @@ use std::alloc::{AllocError, Global};
 use std::io;
 use std::io::{ErrorKind, Read, Write};
 
-/// So many bytes are read at once.
+/// The most bytes that are read at once.
 const PIECE: usize = 65_536;
 
 /// Room for a piece.
@@ -12,7 +12,7 @@ pub(crate) fn room(alloc: Global) -> Result<Vec<u8>, AllocError> {
     vec![in alloc; 0u8; PIECE]
 }
 
-/// The next bytes of a file, as many as there is room for at most; none only at its end.
+/// The next bytes of a file, at most as many as fit; none only at its end.
 pub(crate) fn next_piece<'r, F: Read>(file: &mut F, room: &'r mut [u8]) -> io::Result<&'r [u8]> {
     for _ in 0..u64::MAX {
         match file.read(room) {
@@ -24,7 +24,7 @@ pub(crate) fn next_piece<'r, F: Read>(file: &mut F, room: &'r mut [u8]) -> io::R
     Err(io::Error::from(ErrorKind::Interrupted))
 }
 
-/// Copies so many bytes of one file to another, or fewer where it ends before.
+/// Copies up to this many bytes of one file to another, fewer if it ends before.
 pub(crate) fn copy_up_to<F: Read, W: Write>(
     from: &mut F,
     to: &mut W,

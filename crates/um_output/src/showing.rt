@@ -1,4 +1,4 @@
-//! What a process printed, as it is shown.
+//! The output of a process, as it is shown.
 
 ghost use Rattle.std.specs.Prelude.{◌≡◌, ◌≤◌, ◌<◌, ◌⊎◌, ◌↔◌, ◌++◌, ℕ, IfOk, IsTrue, OnOk, flat_map};
 ghost use Rattle.std.specs.Char.{digit_char};
@@ -34,14 +34,14 @@ fn hex_digit(n: u8) -> u8
     if n < 10 { b'0' + n } else { b'a' - 10 + n }
 }
 
-/// Adds `\x` and the two digits of a byte.
+/// Appends `\x` and the two digits of a byte.
 fn push_escape(text: &mut Vec<u8>, byte: u8) -> Result<(), AllocError>
     ensures { OnOk result (text.new.items ≡ text.old.items ++ byte_escape byte) }
 {
     text.extend_from_slice(&[b'\\', b'x', hex_digit(byte / 16), hex_digit(byte % 16)])
 }
 
-/// Adds `\x` and two digits for each of the bytes.
+/// Appends `\x` and two digits for each of the bytes.
 fn push_escapes(text: &mut Vec<u8>, bytes: &[u8]) -> Result<(), AllocError>
     ensures { OnOk result (text.new.items ≡ text.old.items ++ flat_map byte_escape bytes.now) }
 {
@@ -51,7 +51,7 @@ fn push_escapes(text: &mut Vec<u8>, bytes: &[u8]) -> Result<(), AllocError>
     Ok(())
 }
 
-/// Adds a piece of bytes as it is shown, which is this character, or none.
+/// Appends a piece of bytes as it is shown; the piece is this character, or no character.
 fn push_piece(text: &mut Vec<u8>, c: Option<char>, bytes: &[u8]) -> Result<(), AllocError>
     ensures { OnOk result (text.new.items ≡ text.old.items ++ model.piece_shown c bytes.now) }
 {
@@ -61,8 +61,10 @@ fn push_piece(text: &mut Vec<u8>, c: Option<char>, bytes: &[u8]) -> Result<(), A
     }
 }
 
-/// The bytes as they are shown: a control character (below U+0020, and U+007F to U+009F) but line feed and tab, a mark of direction (U+061C, U+200E, U+200F,
-/// U+202A to U+202E, U+2066 to U+2069) and what isn't UTF-8 as `\x` and two lower-case hexadecimal digits for each byte; any other character as it is.
+/// The bytes as they are shown. Each byte of the following becomes `\x` and two lower-case hexadecimal digits: a
+/// control character (below U+0020, and U+007F to U+009F) other than line feed and tab, a mark of direction (U+061C,
+/// U+200E, U+200F, U+202A to U+202E, U+2066 to U+2069), and anything that isn't UTF-8. Other characters are shown as
+/// they are.
 pub fn printed(alloc: Global, bytes: &[u8]) -> Result<Vec<u8>, AllocError>
     ensures { IfOk result (λ text. text.items ≡ model.shown bytes.now) }
 {
@@ -77,7 +79,7 @@ pub fn printed(alloc: Global, bytes: &[u8]) -> Result<Vec<u8>, AllocError>
     Ok(text)
 }
 
-/// How many bytes a character takes that begins with this one; 0 where none does.
+/// How many bytes a character takes that begins with this byte; 0 if none does.
 fn lead_length(first: u8) -> usize
     ensures { result ≡ lead_len first }
 {
@@ -90,7 +92,7 @@ fn lead_length(first: u8) -> usize
     }
 }
 
-/// Whether so many bytes at the end begin a character, and lack bytes of it.
+/// Whether this number of bytes at the end begin a character, and lack bytes of it.
 fn is_open(bytes: &[u8], size: usize) -> bool
     ensures { IsTrue result ↔ model.IsOpenEnd bytes.now size }
 {
@@ -102,7 +104,7 @@ fn is_open(bytes: &[u8], size: usize) -> bool
     c.is_none() && read == size && size < lead_length(end[0])
 }
 
-/// How many bytes at the end begin a character that may go on behind them.
+/// How many bytes at the end begin a character whose rest may follow.
 pub(crate) fn open_end(bytes: &[u8]) -> usize
     ensures open { (result ≡ 0) ⊎ model.IsOpenEnd bytes.now result }
     ensures longest { (size : ℕ) → model.IsOpenEnd bytes.now size → size ≤ result }

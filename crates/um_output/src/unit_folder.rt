@@ -9,10 +9,10 @@ use std::io::ErrorKind;
 use std::{fs, io};
 use um_model::ProcessNumber;
 
-/// Of a unit so many numbers stay that aren't live.
+/// How many numbers of a unit stay that aren't live.
 pub(crate) const KEPT: usize = 4;
 
-/// Moves a file to a folder that isn't there yet, and makes this: true where it was. Where no such file stands nothing is done.
+/// Makes a folder and moves a file into it; true if the folder is new. If there is no such file, nothing is done.
 fn place_in_new<R: Files>(rt: &R, folder: &str, old: &str, new: &str) -> io::Result<bool> {
     if length_of(rt, old)?.is_none() {
         return Ok(false);
@@ -22,7 +22,7 @@ fn place_in_new<R: Files>(rt: &R, folder: &str, old: &str, new: &str) -> io::Res
     Ok(true)
 }
 
-/// Moves a file into a folder, which is made where it isn't there: true where it was.
+/// Moves a file into a folder, which is made if it doesn't exist; true if it is new.
 fn place_at<R: Files>(rt: &R, folder: &str, old: &str, new: &str) -> io::Result<bool> {
     match fs::rename(rt, old, new) {
         Ok(()) => Ok(false),
@@ -31,8 +31,8 @@ fn place_at<R: Files>(rt: &R, folder: &str, old: &str, new: &str) -> io::Result<
     }
 }
 
-/// Moves the file of a number from one folder to another one, which is made where it isn't there: true where it was. Where no such file stands nothing
-/// is done.
+/// Moves the file of a number from one folder to another, which is made if it doesn't exist; true if it is new. If
+/// there is no such file, nothing is done.
 pub(crate) fn place<R: Files>(
     rt: &R,
     alloc: Global,
@@ -45,7 +45,7 @@ pub(crate) fn place<R: Files>(
     place_at(rt, folder, old.as_str(), new.as_str())
 }
 
-/// Cuts the file of a number where it is too long.
+/// Cuts the file of a number if it is too long.
 pub(crate) fn look_after<R: Files>(
     rt: &R,
     alloc: Global,
@@ -60,7 +60,7 @@ pub(crate) fn look_after<R: Files>(
     }
 }
 
-/// Removes the file of a number where it is empty.
+/// Removes the file of a number if it is empty.
 fn remove_empty<R: Files>(
     rt: &R,
     alloc: Global,
@@ -74,7 +74,7 @@ fn remove_empty<R: Files>(
     }
 }
 
-/// Cuts the file of a number that has ended where it is too long, and removes it where it is empty.
+/// Cuts the file of a number that has ended if it is too long, and removes it if it is empty.
 pub(crate) fn finish<R: Files>(
     rt: &R,
     alloc: Global,
@@ -128,7 +128,7 @@ fn remove_numbers<R: Files>(
     Ok(())
 }
 
-/// The numbers of these files but the live ones and so many of the newest of the others.
+/// The numbers of these files except the live ones and the `kept` newest of the others.
 fn old_in(
     alloc: Global,
     files: &[OutputFile],
@@ -139,7 +139,7 @@ fn old_in(
     old_numbers(alloc, kept, idle.as_slice())
 }
 
-/// Removes the files of all numbers in the folder but the live ones and so many of the newest of the others.
+/// Removes the files of all numbers in the folder except the live ones and the `kept` newest of the others.
 pub(crate) fn prune<R: Files>(
     rt: &R,
     alloc: Global,
@@ -152,7 +152,7 @@ pub(crate) fn prune<R: Files>(
     remove_numbers(rt, alloc, folder, files.as_slice(), old.as_slice())
 }
 
-/// Removes a draft that was left, and finishes a number that isn't live.
+/// Removes a leftover draft, and finishes a number that isn't live.
 fn tidy_file<R: Files>(
     rt: &R,
     alloc: Global,
@@ -170,7 +170,7 @@ fn tidy_file<R: Files>(
     }
 }
 
-/// Does that with each of these files. What fails of one holds up no other one; of these the last is told.
+/// Does the same with each of these files. A failure doesn't stop the others; the last failure is returned.
 fn tidy_files<R: Files>(
     rt: &R,
     alloc: Global,
@@ -186,8 +186,8 @@ fn tidy_files<R: Files>(
     tidied
 }
 
-/// Finishes the numbers in the folder that aren't live, removes what was left of drafts, and keeps the newest numbers alone. What fails of a file holds up
-/// no other one; of these the last is told.
+/// Finishes the numbers in the folder that aren't live, removes leftover drafts, and keeps only the newest numbers. A
+/// failure doesn't stop the others; the last failure is returned.
 pub(crate) fn tidy<R: Files>(
     rt: &R,
     alloc: Global,

@@ -1,4 +1,4 @@
-//! `umd check`: what a store that nobody serves stands for, or why it can't be opened.
+//! `umd check`: reports the state of a store that no manager serves, or why the store can't be opened.
 
 use crate::lines::put_line;
 use crate::messages::{DEVICE, REFUSED, put_text, tell_uncounted};
@@ -26,7 +26,7 @@ fn reply_text(alloc: Global, engine: &Engine, query: &Query) -> Result<Vec<u8>, 
     Ok(written?.bytes)
 }
 
-/// What `umd ctl` prints of the reply to a query.
+/// The text that `umd ctl` prints for the reply to a query.
 fn told_text(alloc: Global, engine: &Engine, verb: Verb, query: &Query) -> Result<String, Refusal> {
     let text = reply_text(alloc, engine, query)?;
     let Ok(value) = Value::from_slice(alloc, &text) else {
@@ -38,7 +38,7 @@ fn told_text(alloc: Global, engine: &Engine, verb: Verb, query: &Query) -> Resul
     }
 }
 
-/// What `umd ctl` prints of the units and of the jobs of a state.
+/// The text that `umd ctl` prints for the units and the jobs of a state.
 fn units_and_jobs(alloc: Global, engine: &Engine) -> Result<String, Refusal> {
     let mut text = told_text(alloc, engine, Verb::ListUnits, &Query::ListUnits)?;
     let jobs = told_text(alloc, engine, Verb::ListJobs, &Query::ListJobs)?;
@@ -46,14 +46,14 @@ fn units_and_jobs(alloc: Global, engine: &Engine) -> Result<String, Refusal> {
     Ok(text)
 }
 
-/// What is told of a store: the text on standard output, and the summary that says what doesn't count.
+/// A report on a store: the text on standard output, and the summary that says which records don't count.
 #[derive(Drop)]
 struct Told {
     text: String,
     summary: Summary,
 }
 
-/// What `umd ctl` prints of the units and of the jobs of a state.
+/// The text that `umd ctl` prints for the units and the jobs of a state.
 fn units_text(alloc: Global, state: State) -> Result<String, Refusal> {
     // a state that its store holds has room in the greatest one
     let Some(engine) = Engine::of(alloc, state, u64::MAX)? else {
@@ -73,7 +73,7 @@ fn look_at_units<D: Disk>(alloc: Global, disk: &mut D) -> Result<Told, Refusal> 
     })
 }
 
-/// What a summary says, in short.
+/// The text of a summary.
 fn summary_text(alloc: Global, summary: &Summary) -> Result<String, Refusal> {
     let (generation, records) = (summary.generation, summary.records);
     let (clock, next) = (summary.clock.micros(), summary.next.get());
@@ -83,7 +83,7 @@ fn summary_text(alloc: Global, summary: &Summary) -> Result<String, Refusal> {
     Ok(text)
 }
 
-/// What the store stands for, in short.
+/// A short report on the state that the store stands for.
 fn look_in_short<D: Disk>(alloc: Global, disk: &mut D) -> Result<Told, Refusal> {
     let summary = inspect(alloc, disk)?;
     Ok(Told {
@@ -92,7 +92,7 @@ fn look_in_short<D: Disk>(alloc: Global, disk: &mut D) -> Result<Told, Refusal> 
     })
 }
 
-/// Says why the store can't be opened, and gives the exit status.
+/// Says why the store can't be opened, and returns the exit status.
 fn refuses<R: Eprint>(rt: &R, alloc: Global, refusal: &Refusal) -> u8 {
     put_line(rt, alloc, format_args!("{refusal}"));
     match refusal {
@@ -101,7 +101,7 @@ fn refuses<R: Eprint>(rt: &R, alloc: Global, refusal: &Refusal) -> u8 {
     }
 }
 
-/// Says why the file isn't read, and gives the exit status.
+/// Says why the file can't be read, and returns the exit status.
 fn unread<R: Eprint>(rt: &R, alloc: Global, path: &str, fault: &FileFault) -> u8 {
     match fault {
         FileFault::InUse => put_line(
@@ -114,7 +114,7 @@ fn unread<R: Eprint>(rt: &R, alloc: Global, path: &str, fault: &FileFault) -> u8
     DEVICE
 }
 
-/// What is told of the store that a disk holds, for these words.
+/// The report on the store on a disk that these words ask for.
 fn told_of_disk<D: Disk + Drop>(
     alloc: Global,
     disk: D,
@@ -128,7 +128,7 @@ fn told_of_disk<D: Disk + Drop>(
     }
 }
 
-/// Puts out what is told, with what doesn't count on standard error, or says why the store can't be opened.
+/// Prints the report, and on standard error the records that don't count; or says why the store can't be opened.
 fn tell<R: Print + Eprint>(
     rt: &R,
     alloc: Global,
@@ -143,7 +143,7 @@ fn tell<R: Print + Eprint>(
     }
 }
 
-/// Looks at a store. Nothing is written.
+/// Reports on a store. Nothing is written.
 pub fn check<R>(rt: &R, alloc: Global, line: &CheckLine<'_>) -> Result<u8, Fault>
 where
     R: Files<File = File> + Print + Eprint + Clock,

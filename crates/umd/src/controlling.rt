@@ -1,4 +1,4 @@
-//! `umd ctl`: what the manager at a socket is asked, and what is told of its reply.
+//! `umd ctl`: sends a request to the manager at a socket, and prints its reply.
 
 use crate::messages::{USAGE, ctl_fault, put_text};
 use crate::surroundings::{Surroundings, told};
@@ -11,25 +11,25 @@ use um_line::CtlLine;
 use um_memory::Fault;
 use um_status::Goal;
 
-/// What is told where no socket is.
+/// The error if no socket is given.
 const NO_SOCKET: &str = "error: the socket is told neither by --socket nor by UMD_SOCKET
 
 For more information, try '--help'.
 ";
 
-/// What is told where there is nothing to wait for.
+/// The error if `--wait` has nothing to wait for.
 const NO_WAIT: &str = "error: --wait is for start, stop and restart of a unit
 
 For more information, try '--help'.
 ";
 
-/// Says that no socket is told, and gives the exit status.
+/// Says that no socket is given, and returns the exit status.
 pub fn lacks_socket<R: Eprint>(rt: &R) -> u8 {
     let _unheard = eprint!(rt; "{NO_SOCKET}");
     USAGE
 }
 
-/// Puts out a text of JSON; on a terminal without what could mislead it.
+/// Prints JSON text. On a terminal, everything that could mislead a reader is escaped.
 fn put_json<R: Print>(rt: &R, alloc: Global, text: &str, is_terminal: bool) -> Result<u8, Fault> {
     if is_terminal {
         put_text(rt, on_terminal(alloc, text)?.as_str())
@@ -38,7 +38,7 @@ fn put_json<R: Print>(rt: &R, alloc: Global, text: &str, is_terminal: bool) -> R
     }
 }
 
-/// Puts out what a reply tells.
+/// Prints a reply: its output, or its error.
 pub fn tell<R: Print + Eprint>(
     rt: &R,
     alloc: Global,
@@ -57,7 +57,7 @@ pub fn tell<R: Print + Eprint>(
     }
 }
 
-/// Asks the manager at the socket once.
+/// Sends one request to the manager at the socket.
 fn ask_once<R: Net + Clock + Input + Print + Eprint>(
     rt: &R,
     alloc: Global,
@@ -83,7 +83,7 @@ fn ask_once<R: Net + Clock + Input + Print + Eprint>(
     }
 }
 
-/// What a unit is to become by the verb, where that is waited for.
+/// The state that the verb brings a unit to; `None` if the verb can't be waited for.
 fn goal_of(verb: &str) -> Option<Goal> {
     match verb {
         "start" => Some(Goal::Up),
@@ -93,13 +93,13 @@ fn goal_of(verb: &str) -> Option<Goal> {
     }
 }
 
-/// Says that there is nothing to wait for, and gives the exit status.
+/// Says that there is nothing to wait for, and returns the exit status.
 fn lacks_goal<R: Eprint>(rt: &R) -> u8 {
     let _unheard = eprint!(rt; "{NO_WAIT}");
     USAGE
 }
 
-/// Asks the manager at the socket, and waits for what becomes of the unit.
+/// Sends the request to the manager at the socket, and waits until the unit has started or stopped.
 fn ask_and_wait<R: Net + Clock + Input + Eprint>(
     rt: &R,
     alloc: Global,
@@ -115,7 +115,7 @@ fn ask_and_wait<R: Net + Clock + Input + Eprint>(
     }
 }
 
-/// Asks the manager at a socket.
+/// Runs `umd ctl`: sends the request to the manager at a socket, and waits if the line says so.
 pub fn ctl<R: Net + Clock + Input + Print + Eprint>(
     rt: &R,
     alloc: Global,

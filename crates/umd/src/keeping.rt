@@ -1,4 +1,5 @@
-//! What the processes of a manager print, kept in a folder while it serves, and what is told of it.
+//! The output of a manager's processes: kept in a folder while it serves, with reports on standard error if that
+//! fails.
 
 use std::cell::{Cell, RefCell};
 use std::fs::Files;
@@ -9,40 +10,40 @@ use um_model::Moment;
 use um_output::{Failure, Outputs};
 use um_state::State;
 
-/// Where it is noted what becomes of processes, for what they print.
+/// Notes the starts and fates of processes, so that their output can be kept.
 pub trait Keeps {
-    /// What is noted from now on is of this moment.
+    /// Sets the moment of everything that is noted from now on.
     fn begin(&self, moment: Moment);
 
-    /// A process is started; where no file could be made for what it prints, why.
+    /// Notes that a process is started; `fault` says why no file could be made for its output.
     fn note_start(&self, number: ProcessNumber, fault: Option<&io::Error>);
 
-    /// The fate of a process is told.
+    /// Notes the fate of a process.
     fn note_fate(&self, number: ProcessNumber, fate: Fate);
 
-    /// A turn has left this state.
+    /// Follows a turn that ended in this state.
     fn settle(&self, state: &State);
 
-    /// Looks after the files of the processes that are live by this state, once a second.
+    /// Looks after the output files of the processes that are live in this state, once a second.
     fn tend(&self, state: &State, now: Instant);
 }
 
-/// The output in a folder, or that none is kept, and what was told of it.
+/// The output folder, or none if no output is kept, and what was reported about it.
 #[derive(Drop)]
 pub struct Keeping<'a, R: Files, E> {
     lines: &'a E,
     outputs: RefCell<Option<Outputs<'a, R>>>,
     folder: &'a str,
-    /// That no file can be made was told, and none was made since.
+    /// A failure to make a file was reported, and no file was made since.
     is_lacking: Cell<bool>,
-    /// That files aren't in order was told, and all were since.
+    /// A failure of the files was reported, and no look since found them all in order.
     is_told: Cell<bool>,
     /// Something failed since the last look.
     has_failed: Cell<bool>,
 }
 
 impl<'a, R: Files, E: Eprint> Keeping<'a, R, E> {
-    /// The output in a folder, where it is kept.
+    /// The keeper of the output in a folder, or of none.
     pub fn of(
         lines: &'a E,
         outputs: Option<Outputs<'a, R>>,
@@ -70,7 +71,7 @@ impl<'a, R: Files, E: Eprint> Keeping<'a, R, E> {
         }
     }
 
-    /// Says what couldn't be done for files, once until a look found them in order.
+    /// Reports the failure of the files, once until a look found them in order.
     fn tell_failure(&self, failure: Option<Failure>) {
         let Some(Failure { number, error }) = failure else {
             return;

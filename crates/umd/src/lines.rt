@@ -14,16 +14,17 @@ use um_ctl::shown;
 /// The descriptor of standard error.
 const STANDARD_ERROR: i32 = 2;
 
-/// A longer line is cut to so many bytes: a pipe that takes anything takes 4,096 bytes at once.
+/// A longer line is cut to this many bytes: a pipe that takes anything takes 4,096 bytes at once.
 const LONGEST: usize = 4_000;
 
-/// The line as it is shown.
+/// The line with its control characters escaped.
 fn shown_line<D: Display + Drop>(alloc: Global, line: D) -> Result<String, AllocError> {
     let text = String::format(alloc, line)?;
     shown(alloc, text.as_str())
 }
 
-/// Puts a line on standard error, and waits until it is taken. Where standard error fails, the exit status alone tells it.
+/// Puts a line on standard error, and waits until it is taken. If standard error fails, only the exit status shows
+/// the error.
 pub fn put_line<R: Eprint, D: Display + Drop>(rt: &R, alloc: Global, line: D) {
     let _unheard = match shown_line(alloc, line) {
         Ok(text) => eprintln!(rt; "{text}"),
@@ -42,12 +43,12 @@ fn cut(line: &str) -> &str {
     line
 }
 
-/// How it is known whether standard error takes a line at once.
+/// How to find out whether standard error takes a line at once.
 #[derive(Drop)]
 enum Readiness {
-    /// It is a file: it always does, and no event tells it.
+    /// It is a file: it always takes a line, and no event is available for it.
     Always,
-    /// It is asked, over a poll that was made at the start, since later there may be no descriptor for one.
+    /// It is polled. The poll was made at the start, since later there may be no descriptor for one.
     Asked { poll: Poll, events: Events },
     /// Even at the start there was no descriptor for a poll, or no memory.
     Unknown,
@@ -68,7 +69,8 @@ impl Readiness {
         }
     }
 
-    /// Whether standard error takes a line now. It is asked anew for each line, since an event tells that it takes one only once.
+    /// Whether standard error takes a line now. It is registered again for each line, since an event says only once
+    /// that it takes one.
     fn takes_line(&mut self) -> bool {
         let Readiness::Asked { poll, events } = self else {
             return matches!(self, Readiness::Always);

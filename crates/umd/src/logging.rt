@@ -1,4 +1,4 @@
-//! `umd logs`: what the processes of a unit printed.
+//! `umd logs`: prints the output of a unit's processes.
 
 use crate::lines::put_line;
 use crate::messages::{DEVICE, REFUSED, USAGE};
@@ -15,10 +15,10 @@ use um_proto::{Asked, Mode, Verb, read_request};
 use um_state::Query;
 use um_wire::Refusal;
 
-/// What comes is looked for so many milliseconds apart.
+/// New output is looked for at this interval, in milliseconds.
 const APART: u64 = 200;
 
-/// What is told where no folder is.
+/// The error if no folder is given.
 const NO_FOLDER: &str = "error: where output is kept is told neither by --output nor by UMD_OUTPUT
 
 Usage: umd logs [--output <OUT>] [-n <K>] [-f] [--raw] <UNIT>
@@ -26,7 +26,7 @@ Usage: umd logs [--output <OUT>] [-n <K>] [-f] [--raw] <UNIT>
 For more information, try '--help'.
 ";
 
-/// The text of the request to show them, as a client asks it.
+/// The text of the request to show them, as a client sends it.
 fn text_of<'a>(alloc: Global, units: &'a [&'a str]) -> Result<Vec<u8>, AllocError> {
     let words = Words {
         verb: "show",
@@ -48,7 +48,7 @@ fn unit_named(alloc: Global, unit: &str) -> Result<Option<UnitName>, Refusal> {
     }
 }
 
-/// The folder of output: what the option tells, or else the variable; an empty text tells none.
+/// The output folder: the option's value, or else the variable's; an empty text counts as none.
 fn folder_told<'x>(option: Option<&'x str>, variable: Option<&'x str>) -> Option<&'x str> {
     match option {
         Some(folder) if !folder.is_empty() => Some(folder),
@@ -56,7 +56,7 @@ fn folder_told<'x>(option: Option<&'x str>, variable: Option<&'x str>) -> Option
     }
 }
 
-/// Puts out what the line asks for, of the unit in the folder; where it is followed, without an end.
+/// Prints the unit's output in the folder as the line asks; with `--follow`, without an end.
 fn put<R: Files + Print + Clock>(
     rt: &R,
     alloc: Global,
@@ -83,7 +83,7 @@ fn put<R: Files + Print + Clock>(
     Ok(())
 }
 
-/// Says why it isn't put out, and gives the exit status.
+/// Says why the output can't be printed, and returns the exit status.
 fn tell<R: Eprint>(rt: &R, alloc: Global, unit: &UnitName, fault: LogFault) -> Result<u8, Fault> {
     match fault {
         LogFault::Absent => {
@@ -100,7 +100,7 @@ fn tell<R: Eprint>(rt: &R, alloc: Global, unit: &UnitName, fault: LogFault) -> R
     }
 }
 
-/// Says that the text names no unit, and gives the exit status.
+/// Says that the text names no unit, and returns the exit status.
 fn refuses<R: Eprint>(rt: &R, alloc: Global, refusal: Refusal) -> u8 {
     let status = match refusal {
         Refusal::NoMemory => REFUSED,
@@ -110,7 +110,7 @@ fn refuses<R: Eprint>(rt: &R, alloc: Global, refusal: Refusal) -> u8 {
     status
 }
 
-/// Puts out what the processes of a unit printed; the variable is what UMD_OUTPUT holds.
+/// Prints the output of a unit's processes; `variable` is the value of UMD_OUTPUT.
 pub fn logs<R: Files + Print + Eprint + Clock>(
     rt: &R,
     alloc: Global,

@@ -60,7 +60,7 @@ fn serve_memory<R: Input + Print>(rt: &R, alloc: Global) -> Result<u8, Fault> {
     }
 }
 
-/// Runs a command for the manager, and notes in a folder what becomes of it.
+/// Runs a command for the manager, and notes its claim and its fate in a folder.
 fn run_runner<R: Files + Net + Processes + Clock + Eprint>(
     rt: &R,
     alloc: Global,
@@ -70,7 +70,7 @@ fn run_runner<R: Files + Net + Processes + Clock + Eprint>(
         Ok(()) => Ok(0),
         Err(FolderFault::NoMemory) => Err(Fault::NoMemory),
         Err(FolderFault::System(e)) => {
-            // Where standard error fails too, the exit status alone tells it.
+            // If standard error fails too, only the exit status shows the error.
             let _unheard = eprintln!(rt; "umd: the folder: {e}");
             Ok(DEVICE)
         }
@@ -94,10 +94,10 @@ fn create<R: Files<File = File> + Eprint>(rt: &R, alloc: Global, line: &CreateLi
     }
 }
 
-/// The number of the refusal that tells a reason.
+/// The number of the refusal that gives a reason.
 const BAD_SETTING: u32 = 6;
 
-/// Puts out what the refusal of this number means; of one that tells a reason, what each reason means too.
+/// Prints the meaning of the refusal of this number; of a bad setting, also the meaning of each reason.
 fn explain<R: Print>(rt: &R, alloc: Global, number: u32) -> Result<u8, Fault> {
     let Some(line) = meaning_line(alloc, u64::from(number))? else {
         return Ok(USAGE);
@@ -110,12 +110,12 @@ fn explain<R: Print>(rt: &R, alloc: Global, number: u32) -> Result<u8, Fault> {
     }
 }
 
-/// Puts out what a word of a reply means.
+/// Prints the meaning of a word in a reply.
 fn explain_word<R: Print>(rt: &R, alloc: Global, line: TopicLine<'_>) -> Result<u8, Fault> {
     put_text(rt, topic_help(alloc, line.word, line.topic)?.as_str())
 }
 
-/// What is told of wrong words, as they are shown.
+/// The error for wrong words, of words that are already escaped.
 fn wrong_text(alloc: Global, words: &[String]) -> Result<String, AllocError> {
     match read_line(alloc, words)? {
         Line::Wrong(text) => Ok(text),
@@ -126,7 +126,7 @@ fn wrong_text(alloc: Global, words: &[String]) -> Result<String, AllocError> {
     }
 }
 
-/// What is told of wrong words, without their control characters.
+/// The error for wrong words, with their control characters escaped.
 fn shown_text(alloc: Global, words: &[String]) -> Result<String, AllocError> {
     let mut others = Vec::new(alloc);
     for word in words {
@@ -135,7 +135,7 @@ fn shown_text(alloc: Global, words: &[String]) -> Result<String, AllocError> {
     wrong_text(alloc, others.as_slice())
 }
 
-/// What the words ask for. What is told of wrong words is told of them as they are shown, without control characters.
+/// Reads the words of the command line. An error names the wrong words with their control characters escaped.
 fn read<'a>(alloc: Global, words: &'a [String]) -> Result<Line<'a>, AllocError> {
     let line = read_line(alloc, words)?;
     if !matches!(line, Line::Wrong(_)) {
@@ -145,8 +145,9 @@ fn read<'a>(alloc: Global, words: &'a [String]) -> Result<Line<'a>, AllocError> 
     Ok(Line::Wrong(shown_text(alloc, words)?))
 }
 
-/// Holds the descriptors of standard input, output and error where the program was started without them: else the next file that is opened, the
-/// store, would be taken for one of them, and a line for standard error written into it.
+/// Opens `/dev/null` for each of standard input, output and error that the program was started without. Otherwise the
+/// next file that is opened, the store, would get that descriptor, and a line for standard error would be written
+/// into it.
 fn hold_standard<R: Files<File = File>>(rt: &R) -> [Option<File>; 3] {
     [null(rt), null(rt), null(rt)]
 }
@@ -155,7 +156,7 @@ fn null<R: Files<File = File>>(rt: &R) -> Option<File> {
     File::open(rt, "/dev/null").ok()
 }
 
-/// Says what is wrong with the words. Where standard error fails too, the exit status alone tells it.
+/// Says what is wrong with the words. If standard error fails too, only the exit status shows the error.
 fn put_usage<R: Eprint>(rt: &R, text: &str) -> u8 {
     let _unheard = eprint!(rt; "{text}");
     USAGE
@@ -195,7 +196,7 @@ where
     }
 }
 
-/// Reads the words, and does what they ask for.
+/// Reads the words, and runs the command that they name.
 fn run_words<R>(
     rt: &R,
     alloc: Global,
@@ -209,7 +210,8 @@ where
     run_line(rt, alloc, &line, surroundings)
 }
 
-/// Runs the program, whose standard output is a terminal or not, and which is the first process or not, and gives its exit status.
+/// Runs the program, and returns its exit status. `is_terminal`: standard output is a terminal; `is_first`: it is the
+/// first process.
 fn run<R>(rt: &R, is_terminal: bool, is_first: bool) -> Result<u8, Fault>
 where
     R: AllocGlobal + Env + Input + Print + Eprint + Files<File = File> + Net + Processes + Clock,

@@ -1,4 +1,5 @@
-//! What is put on standard output and told on standard error. Where standard error fails too, the exit status alone tells it.
+//! Text for standard output, reports on standard error, and exit statuses. If standard error fails too, only the exit
+//! status shows the error.
 
 use crate::lines::put_line;
 use std::alloc::Global;
@@ -8,16 +9,16 @@ use um_keeper::Uncounted;
 use um_memory::Fault;
 use um_wire::Refusal;
 
-/// The exit status where a request was refused, at a length past the limit, and where a growth of memory was refused.
+/// The exit status if a request was refused, a length exceeded the limit, or an allocation failed.
 pub const REFUSED: u8 = 1;
 
-/// The exit status at an end inside a frame, and at wrong words.
+/// The exit status at an end of input inside a frame, and for wrong words.
 pub const USAGE: u8 = 2;
 
-/// The exit status where standard input or output failed, a file, or the folder of a runner.
+/// The exit status if standard input or output, a file, or the folder of a runner failed.
 pub const DEVICE: u8 = 5;
 
-/// Says what failed.
+/// Reports the fault on standard error.
 pub fn report<R: Eprint>(rt: &R, fault: &Fault) {
     let _unheard = match fault {
         Fault::NoMemory => eprintln!(rt; "E15 NoMemory"),
@@ -26,7 +27,7 @@ pub fn report<R: Eprint>(rt: &R, fault: &Fault) {
     };
 }
 
-/// The exit status for what failed.
+/// The exit status of a fault.
 pub fn status_of(fault: &Fault) -> u8 {
     match fault {
         Fault::NoMemory => REFUSED,
@@ -34,7 +35,7 @@ pub fn status_of(fault: &Fault) -> u8 {
     }
 }
 
-/// Puts a text on standard output, and gives the exit status.
+/// Puts a text on standard output, and returns the exit status.
 pub fn put_text<R: Print>(rt: &R, text: &str) -> Result<u8, Fault> {
     match print!(rt; "{text}") {
         Ok(()) => Ok(0),
@@ -42,7 +43,7 @@ pub fn put_text<R: Print>(rt: &R, text: &str) -> Result<u8, Fault> {
     }
 }
 
-/// Says of a store which whole records don't count, and which sector shows why.
+/// Says which whole records of a store don't count, and which sector shows why.
 pub fn tell_uncounted<R: Eprint>(rt: &R, cut_off: Option<Uncounted>, damaged: Option<Uncounted>) {
     if let Some(Uncounted { sector, records }) = cut_off {
         let _unheard = eprintln!(rt;
@@ -65,7 +66,7 @@ pub fn tell_create<R: Eprint>(rt: &R, alloc: Global, fault: &CreateFault, path: 
     }
 }
 
-/// Says why nothing is served any more, and below it what that means and what to do.
+/// Says why the manager stops serving, and on the next line the meaning of the refusal and what to do.
 pub fn tell_ending<R: Eprint>(rt: &R, refusal: &Refusal) {
     let _unheard = eprintln!(rt; "umd: ending: {refusal}");
     if let Some(sentence) = meaning(refusal.number()) {

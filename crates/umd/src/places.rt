@@ -1,4 +1,4 @@
-//! The places that a server is given: its store, the folder of its processes, its socket, and the folder of output.
+//! The places that a server uses: its store, the folder of its processes, its socket, and the output folder.
 
 use crate::messages::{DEVICE, REFUSED, USAGE, tell_ending};
 use std::alloc::Global;
@@ -17,52 +17,52 @@ use um_line::ServeLine;
 use um_runner::news_path;
 use um_wire::Refusal;
 
-/// A lock that another has is asked for so many times in all. A manager that was killed while it started a process leaves its locks, for a
-/// moment, to what was to become that process.
+/// How often a lock that another process has is tried in all. A manager that is killed while it starts a process
+/// leaves its locks, for a moment, to the child that was to become that process.
 const TRIES: u32 = 10;
 
-/// The tries come so many milliseconds apart.
+/// The interval between two tries, in milliseconds.
 const APART: u64 = 20;
 
-/// The path of the folder of processes has so many bytes at most: behind it come eleven of the socket in it, as that is made, and a socket's path has
-/// at most 107.
+/// The greatest length in bytes of the path of the folder of processes. The socket in it appends eleven bytes while
+/// it is made, and a socket's path has at most 107.
 const LONGEST_DIR: usize = 96;
 
 /// The bits of a mode.
 const MODE: u32 = 0o7777;
 
-/// Of these the bits by which a group or others write.
+/// The bits by which a group or others write.
 const OTHERS_WRITE: u32 = 0o022;
 
-/// And the sticky bit.
+/// The sticky bit.
 const STICKY: u32 = 0o1000;
 
-/// A place, by the word that tells it.
+/// A place, named by the word of the command line that gives it.
 #[derive(Clone, Copy)]
 struct Place<'a> {
     word: &'static str,
     path: &'a str,
 }
 
-/// What a server has of its places before its store is opened.
+/// The places that a server holds before its store is opened.
 #[derive(Drop)]
 pub struct Taken<'a, R: Files + Processes + Clock> {
     pub disk: FileDisk<'a, R>,
     pub children: RunnerDir<'a, R>,
-    /// No other manager has the folder for as long as it is held.
+    /// While it is held, no other manager has the folder.
     pub lock: DirectoryLock,
-    /// Nor the folder of output, where there is one.
+    /// The same of the output folder, if there is one.
     pub output_lock: Option<DirectoryLock>,
 }
 
-/// Says that something that is needed isn't there, and gives the exit status.
+/// Says that something required isn't there, and returns the exit status.
 pub fn lacks<R: Eprint, E: Display>(rt: &R, path: &str, fault: &E) -> u8 {
     let _unheard = eprintln!(rt; "umd: {path}: {fault}");
     DEVICE
 }
 
-/// Sees that two places aren't one: by the texts of their paths, and then by what stands there. The error is the exit status, 2 for words and 5
-/// for what was found.
+/// Checks that two places differ: by the texts of their paths, then by the files at them. The error is the exit
+/// status: 2 for equal texts, 5 for one file at both.
 fn are_apart<R: Files, E: Eprint>(
     rt: &R,
     lines: &E,
@@ -81,7 +81,8 @@ fn are_apart<R: Files, E: Eprint>(
     Err(status)
 }
 
-/// The path of the socket by which runners wake the manager. Where memory is wanting it has said so, and gives the exit status.
+/// The path of the socket by which runners wake the manager. Without memory for it, says so and returns the exit
+/// status.
 pub fn news_in<E: Eprint>(alloc: Global, lines: &E, dir: &str) -> Result<String, u8> {
     match news_path(alloc, dir) {
         Ok(path) => Ok(path),
@@ -92,7 +93,7 @@ pub fn news_in<E: Eprint>(alloc: Global, lines: &E, dir: &str) -> Result<String,
     }
 }
 
-/// Sees that the folder of output, where there is one, is another place than this.
+/// Checks that the output folder, if there is one, differs from this place.
 fn is_output_apart<R: Files, E: Eprint>(
     rt: &R,
     lines: &E,
@@ -204,7 +205,7 @@ fn lock_folder<R: Files<File = File> + Clock, E: Eprint>(
     }
 }
 
-/// Locks the folder of processes, and sees that the socket in it by which runners wake the manager is free.
+/// Locks the folder of processes, and checks that the socket in it by which runners wake the manager is free.
 fn take_free_folder<R: Files<File = File> + Net + Clock, E: Eprint>(
     rt: &R,
     lines: &E,
@@ -226,7 +227,7 @@ fn take_free_folder<R: Files<File = File> + Net + Clock, E: Eprint>(
     }
 }
 
-/// Sees that the socket is free, and takes the folder and its lock.
+/// Checks that the socket is free, and takes the folder and its lock.
 fn take_processes<'a, R, E>(
     rt: &'a R,
     lines: &E,
@@ -253,7 +254,7 @@ where
     }
 }
 
-/// Why the folder of output isn't taken.
+/// Says why the output folder can't be taken, and returns the exit status.
 fn lacks_output<R: Eprint>(rt: &R, path: &str, fault: &OpenFault) -> u8 {
     match fault {
         OpenFault::Owner => lacks(rt, path, &"the folder of output is another user's"),
@@ -262,7 +263,7 @@ fn lacks_output<R: Eprint>(rt: &R, path: &str, fault: &OpenFault) -> u8 {
     }
 }
 
-/// Takes the folder of output and its lock, where there is one.
+/// Takes the output folder and its lock, if there is one.
 fn take_output<R: Files<File = File> + Clock, E: Eprint>(
     rt: &R,
     lines: &E,
@@ -277,7 +278,7 @@ fn take_output<R: Files<File = File> + Clock, E: Eprint>(
     Ok(Some(lock_folder(rt, lines, path)?))
 }
 
-/// Takes both folders and their locks, and sees that the socket is free.
+/// Takes both folders and their locks, and checks that the socket is free.
 fn take_folders<'a, R, E>(
     rt: &'a R,
     lines: &E,
@@ -298,7 +299,8 @@ where
     }
 }
 
-/// Says that others than its owner may write what stands at the path; with the sticky bit none of them may replace what stands in a folder.
+/// Warns if others than its owner may write the file at the path. A sticky bit is enough for a folder: nobody else
+/// may replace its files then.
 fn tell_writable<R: Files, E: Eprint>(rt: &R, lines: &E, path: &str, is_safe_if_sticky: bool) {
     let Ok(found) = fs::metadata(rt, path) else {
         return;
@@ -318,8 +320,8 @@ fn folder_of(socket: &str) -> &str {
     }
 }
 
-/// Takes the store's file and the folders, and sees that the socket is free. Where one of them isn't to be had it has said so, and gives the exit
-/// status; nothing of the store, or of the files in the folders, was read or changed.
+/// Takes the store's file and the folders, and checks that the socket is free. If one of them can't be had, says so
+/// and returns the exit status; nothing of the store, or of the files in the folders, was read or changed.
 pub fn take_places<'a, R, E>(
     rt: &'a R,
     lines: &E,

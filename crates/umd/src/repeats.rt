@@ -1,13 +1,13 @@
-//! How often the same failure is told: ten times a second at most, and then once a second how many more there were.
+//! Limits how often one failure is reported: at most ten times a second, then once a second the count of the others.
 
 use std::alloc::{AllocError, Global};
 use std::fmt;
 use std::time::{Duration, Instant};
 
-/// So many lines of one failure go out within a second.
+/// One failure is reported at most this often within a second.
 const MOST: usize = 10;
 
-/// What is done for a process, and may fail.
+/// An action for a process that may fail.
 #[derive(Clone, Copy, PartialEq, Eq)]
 pub enum Deed {
     Start,
@@ -23,19 +23,19 @@ impl fmt::Display for Deed {
     }
 }
 
-/// A deed that fails, and why, whatever the number of its process.
+/// A deed that fails for one reason, of any process.
 #[derive(Drop)]
 struct Failure {
     deed: Deed,
     why: String,
-    /// When it was told, within the last second, the oldest first.
+    /// When it was reported within the last second, the oldest first.
     told: Vec<Instant>,
-    /// So often it wasn't told, since this moment.
+    /// How often it wasn't reported, since this moment.
     more: u64,
     since: Instant,
 }
 
-/// How often a failure wasn't told.
+/// How often a failure wasn't reported.
 #[derive(Drop)]
 pub struct Count {
     pub deed: Deed,
@@ -60,7 +60,7 @@ impl Failure {
         self.deed == deed && self.why.as_str() == why
     }
 
-    /// Whether it is told now; else it is counted.
+    /// Whether it may be reported now; if not, it is counted.
     fn is_told(&mut self, now: Instant) -> bool {
         self.told.retain(|told| !is_over(*told, now));
         if self.more == 0 && self.told.len() < MOST && self.told.push(now).is_ok() {
@@ -73,17 +73,17 @@ impl Failure {
         false
     }
 
-    /// Whether how often it wasn't told is told now.
+    /// Whether its count is to be reported now.
     fn is_due(&self, now: Instant) -> bool {
         self.more > 0 && is_over(self.since, now)
     }
 
-    /// Whether nothing is to be known of it any more.
+    /// Whether it can be forgotten.
     fn is_past(&self, now: Instant) -> bool {
         self.more == 0 && self.told.iter().all(|told| is_over(*told, now))
     }
 
-    /// How often it wasn't told, which begins anew.
+    /// Takes the number of times it wasn't reported, and starts the count again.
     fn take_count(&mut self, alloc: Global) -> Result<Count, AllocError> {
         let count = Count {
             deed: self.deed,
@@ -118,7 +118,7 @@ impl Repeats {
         Ok(())
     }
 
-    /// Whether the failure is told now; else it is counted. Where there is no memory for counting it is told.
+    /// Whether the failure is to be reported now; if not, it is counted. Without memory for a count it is reported.
     pub fn is_told(&mut self, deed: Deed, why: &str, now: Instant) -> bool {
         self.failures.retain(|failure| !failure.is_past(now));
         let at = self
@@ -135,12 +135,12 @@ impl Repeats {
         }
     }
 
-    /// Whether any failure waits to be told by its count.
+    /// Whether the count of any failure is still to be reported.
     pub fn is_counting(&self) -> bool {
         self.failures.iter().any(|failure| failure.more > 0)
     }
 
-    /// The next count that is to be told now.
+    /// The next count that is to be reported now.
     pub fn next_due(&mut self, now: Instant) -> Option<Count> {
         let at = self
             .failures

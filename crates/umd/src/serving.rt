@@ -27,33 +27,36 @@ use um_serve::{Buffered, pause};
 use um_state::BootId;
 use um_wire::Refusal;
 
-/// Behind a sleep of so many parts, of a second at most, comes a round in any case.
+/// A sleep of at most a second has this many parts, and is followed by a round in any case.
 const PARTS: u32 = 10;
 
 /// The least that the system waits for a socket, in microseconds.
 const LEAST_POLL: u64 = 1000;
 
-/// So many milliseconds are slept at most while a count of lines waits to be told.
+/// The longest sleep, in milliseconds, while a count of failures is to be reported.
 const COUNTING: u64 = 100;
 
-/// So many milliseconds are slept at most while a snapshot goes out, a part of it behind each turn, so that it ends also where nobody asks.
+/// The longest sleep, in milliseconds, while a snapshot is written, a part of it after each turn: it also ends if no
+/// request comes.
 const WRITING: u64 = 5;
 
-/// A block of so many bytes is taken, and given back, before anything is served. From then on the system's allocator keeps twice as much that is
-/// free; before, it would give back what is past 128 KiB behind each turn, and take it anew in the next.
+/// The size of a block that is allocated and freed before anything is served. From then on the system's allocator
+/// keeps twice as much free memory; otherwise it would return all free memory past 128 KiB after each turn, and fetch
+/// it again in the next.
 const BLOCK: usize = 1 << 19;
 
 fn take_block(alloc: Global) {
     let _block: Result<Vec<u8>, AllocError> = Vec::with_capacity(alloc, BLOCK);
 }
 
-/// Why nothing is served any more, as a line on standard error, and the exit status.
+/// Why the manager stops serving: reported on standard error, with this exit status.
 #[derive(Clone, Copy)]
 struct End {
     status: u8,
 }
 
-/// Says why nothing is served, and gives the exit status. Where standard error fails too, the exit status alone tells it.
+/// Says why the manager stops serving, and returns the exit status. If standard error fails too, only the exit status
+/// shows the error.
 fn ends<R: Eprint>(rt: &R, refusal: Refusal) -> End {
     tell_ending(rt, &refusal);
     End {
@@ -64,14 +67,15 @@ fn ends<R: Eprint>(rt: &R, refusal: Refusal) -> End {
     }
 }
 
-/// Says what becomes of a manager that is the first process, to which every process comes whose parent has ended.
+/// Says what happens to a manager that is the first process, which every process gets as its parent once its own has
+/// ended.
 fn tell_first<E: Eprint>(lines: &E) {
     let _unheard = eprintln!(lines;
         "umd: it is the first process: ended ones stay as zombies, and TERM does nothing; see examples/container"
     );
 }
 
-/// Says how the store stood that was opened, and what of it doesn't count.
+/// Reports the state in which the store was opened, and which of its records don't count.
 fn tell_opened<R: Eprint>(rt: &R, opened: OpenedStore) {
     let OpenedStore {
         generation,
@@ -95,7 +99,7 @@ fn boot_id(alloc: Global, boot: &str) -> Result<BootId, Refusal> {
     }
 }
 
-/// What goes from one round to the next in the program.
+/// The data that the program keeps from one round to the next.
 #[derive(Drop)]
 struct Loop<'a, R, E> {
     system: &'a R,
@@ -104,14 +108,14 @@ struct Loop<'a, R, E> {
     gate: Buffered<SocketGate>,
     waking: Waking,
     clock: SystemMoments<'a, R>,
-    /// The deadline that is slept for, as it was looked up last.
+    /// The deadline of the current sleep, as it was last looked up.
     deadline: Option<Deadline>,
-    /// Where the clock of the state stood then.
+    /// The clock of the state at that time.
     looked: Option<Moment>,
 }
 
 impl<'a, R: Files + Net + Clock, E: Eprint> Loop<'a, R, E> {
-    /// One round, and a sleep where nothing more is to be done at once. A refusal ends the serving, want of memory too.
+    /// One round, then a sleep unless more can be done at once. A refusal ends the serving, also a failed allocation.
     fn step<D: Disk, C: Children + News>(
         &mut self,
         manager: &mut Manager<D, C>,
@@ -125,8 +129,8 @@ impl<'a, R: Files + Net + Clock, E: Eprint> Loop<'a, R, E> {
         self.rest(manager, tally)
     }
 
-    /// Does what is due, whatever comes: says how often failures weren't told, looks after what processes print, and keeps the socket by which runners
-    /// wake the manager.
+    /// Does the work of each pass: reports the counts of failures, looks after the output files, and keeps the socket
+    /// by which runners wake the manager.
     fn mind<D: Disk, C: Children + News>(&mut self, manager: &Manager<D, C>) {
         let Ok(now) = Instant::now(self.system) else {
             return;
@@ -141,7 +145,8 @@ impl<'a, R: Files + Net + Clock, E: Eprint> Loop<'a, R, E> {
             .keep(self.system, self.alloc, self.lines, gate, now);
     }
 
-    /// How long is slept at most: shorter where a snapshot goes out, or a count is to be told once its second is over.
+    /// The longest sleep: shorter while a snapshot is written, or while a count is to be reported once its second is
+    /// over.
     fn longest<D: Disk, C: Children + News>(&self, manager: &Manager<D, C>) -> Duration {
         if manager.left() > 0 {
             Duration::from_millis(WRITING)
@@ -152,20 +157,21 @@ impl<'a, R: Files + Net + Clock, E: Eprint> Loop<'a, R, E> {
         }
     }
 
-    /// Whether the state may have changed since the deadline was looked up: its clock, which stands so, moves with whatever changes it, unless
-    /// that comes twice at one moment.
+    /// Whether the state may have changed since the deadline was looked up. The clock of the state moves with each
+    /// change, except if two changes have one moment.
     fn is_stale(&mut self, clock: Moment) -> bool {
         self.looked != Some(clock) || self.clock.moment().micros() <= clock.micros()
     }
 
-    /// Whether the deadline that is slept for has come.
+    /// Whether the deadline of the sleep has come.
     fn is_due(&mut self) -> bool {
         let now = self.clock.moment();
         self.deadline
             .is_some_and(|deadline| deadline.micros() <= now.micros())
     }
 
-    /// Sleeps until there is something to do, unless another round may have more to do at once. E15 where the deadlines find no memory.
+    /// Sleeps until there is something to do, unless another round may have more to do at once. E15 without memory
+    /// for the deadlines.
     fn rest<D: Disk, C: Children + News>(
         &mut self,
         manager: &Manager<D, C>,
@@ -183,8 +189,8 @@ impl<'a, R: Files + Net + Clock, E: Eprint> Loop<'a, R, E> {
         Ok(())
     }
 
-    /// Waits for the gate, no longer than this. A wait for sockets is one of whole milliseconds, so a shorter one is slept, and the gate is looked
-    /// at behind it.
+    /// Waits for the gate, at most this long. A wait for sockets takes whole milliseconds, so for a shorter one the
+    /// thread sleeps, and then looks at the gate.
     fn wait(&mut self, longest: Duration) -> bool {
         if longest >= Duration::from_micros(LEAST_POLL) {
             return self.gate.gate.wait(longest);
@@ -193,9 +199,9 @@ impl<'a, R: Files + Net + Clock, E: Eprint> Loop<'a, R, E> {
         self.gate.gate.wait(Duration::ZERO)
     }
 
-    /// Sleeps until the next deadline, a byte, a client, or news of the processes that are live: a runner wakes the manager, and once a second it is
-    /// looked for news of which nobody told. No round is needed before: it would take nothing, and its fates would tell nothing new. While a snapshot
-    /// goes out a round comes behind each wait.
+    /// Sleeps until the next deadline, a byte, a client, or news of a live process. A runner wakes the manager, and
+    /// once a second the manager looks for news itself. No round is needed before: it would take nothing, and its
+    /// fates would be the same. While a snapshot is written, each wait is followed by a round.
     fn sleep<D: Disk, C: Children + News>(&mut self, manager: &Manager<D, C>, is_live: bool) {
         for _ in 0..PARTS {
             self.mind(manager);
@@ -230,8 +236,8 @@ fn open_gate<R: Files + Net, E: Eprint>(
     }
 }
 
-/// What the rounds stand on, with the sockets, where moments are no earlier than the least. Only behind the opening of the store: one that can't
-/// be opened takes no socket.
+/// Opens the sockets and the clock of the rounds, whose moments are no earlier than `least`. This follows the opening
+/// of the store: if that fails, no socket is taken.
 fn open_loop<'a, R: Files + Net + Clock, E: Eprint>(
     system: &'a R,
     alloc: Global,
@@ -258,13 +264,13 @@ fn open_loop<'a, R: Files + Net + Clock, E: Eprint>(
     })
 }
 
-/// The manager of a store in a file, whose children run under runners, and tell.
+/// The manager of a store in a file, whose children run under runners and report on standard error.
 type Served<'a, 'b, R, K> = Manager<
     FileDisk<'b, R>,
     Telling<'a, RunnerDir<'b, R>, Lines<'b, R>, K>,
 >;
 
-/// Opens the manager over what was taken.
+/// Opens the manager over the store and children that were taken.
 fn open_manager<'a, 'b, R, K>(
     system: &'b R,
     alloc: Global,
@@ -295,15 +301,15 @@ where
     }
 }
 
-/// Says that the folder of output is another store's, which has output of this process.
+/// Says that the output folder belongs to another store, since it has output of this process.
 fn tell_foreign<E: Eprint>(lines: &E, folder: &str, number: u64) {
     let _unheard = eprintln!(lines;
         "umd: {folder}: it is another store's: it has output of process {number}, which this store never started"
     );
 }
 
-/// The output that is kept, by the state that the store stands for before anything is offered to it; none where none is kept. The children make its
-/// files from then on.
+/// The kept output, by the state that the store stands for before any input is offered to it; none if no output is
+/// kept. From then on the children make its files.
 fn open_outputs<'b, R, E, D>(
     system: &'b R,
     alloc: Global,
@@ -339,7 +345,7 @@ where
     }
 }
 
-/// Says how the store stood that was opened, and what became of its processes.
+/// Reports the state in which the store was opened, and how many of its processes were lost.
 fn tell_adopted<D: Disk, C: Children, R: Eprint>(rt: &R, manager: &Manager<D, C>, lost: u64) {
     tell_opened(rt, manager.opened());
     let adopted = manager.adopted();
@@ -358,7 +364,8 @@ fn serve_rounds<R: Files + Net + Clock, E: Eprint, D: Disk, C: Children + News>(
     Ok(())
 }
 
-/// Serves a manager that was opened over a socket, until it fails; before the first round it asks the request, where nothing ran yet.
+/// Serves a manager that was opened over a socket, until it fails. Before the first round the request is sent, if
+/// nothing ran yet since the boot.
 fn serve_opened<R: Files + Net + Clock, E: Eprint, D: Disk, C: Children + News>(
     system: &R,
     alloc: Global,
@@ -430,8 +437,9 @@ where
     ended
 }
 
-/// Serves a store over a socket, until it fails; then it has said why on standard error, and gives the exit status: 1 where the store, or
-/// memory, is refused, 5 where a file, the socket or the disk fails. As the first process it says first what that means.
+/// Serves a store over a socket, until it fails; then says why on standard error, and returns the exit status: 1 for
+/// a refusal of the store or of memory, 5 for a failed file, socket or disk. As the first process, the manager first
+/// says what that means.
 pub fn serve_store<R>(rt: &R, alloc: Global, line: &ServeLine<'_>, is_first: bool) -> u8
 where
     R: Files<File = File> + Net + Processes + Clock + Eprint,

@@ -1,4 +1,4 @@
-//! `umd status`: how units stand.
+//! `umd status`: prints the state of units.
 
 use crate::controlling::lacks_socket;
 use crate::lines::put_line;
@@ -22,18 +22,18 @@ use um_status::{
 };
 use um_verify::{Finding, verify_files};
 
-/// The exit status where a unit that was named isn't active.
+/// The exit status if a named unit isn't active.
 const NOT_ACTIVE: u8 = 3;
 
-/// So many of the last bytes of the ends of a unit are read: a line is shorter.
+/// The number of bytes that are read from the end of the file of a unit's ends: a line is shorter.
 const LINE: u64 = 256;
 
-/// Why nothing is shown.
+/// Why no status is printed.
 #[derive(Drop)]
 enum ShowFault {
     /// The manager refuses a query.
     Refused(Told),
-    /// It isn't reached, or doesn't answer.
+    /// The manager can't be reached, or doesn't answer.
     Asked(CtlFault),
     /// A file can't be read.
     Read(String, io::Error),
@@ -62,7 +62,7 @@ impl From<CtlFault> for ShowFault {
     }
 }
 
-/// Where processes and their ends are kept, as far as it is told.
+/// Where processes and their ends are kept, as far as that is given.
 #[derive(Clone, Copy)]
 struct Kept<'a> {
     dir: Option<&'a str>,
@@ -81,7 +81,7 @@ fn asked<'w, R: Net + Clock + Input>(
     }
 }
 
-/// What can't be read, and why; want of memory as such.
+/// The fault of a path that can't be read; out of memory is a fault of its own.
 fn unread(alloc: Global, path: &str, error: io::Error) -> ShowFault {
     if error.kind() == ErrorKind::OutOfMemory {
         return ShowFault::NoMemory;
@@ -92,12 +92,12 @@ fn unread(alloc: Global, path: &str, error: io::Error) -> ShowFault {
     }
 }
 
-/// That what came is no reply.
+/// The fault of a manager whose answer is no reply.
 fn no_reply() -> ShowFault {
     ShowFault::Asked(CtlFault::NoReply)
 }
 
-/// The pid of a process by the folder where it is kept.
+/// The pid of a process, read from the folder where it is kept.
 fn pid_in<R: Files>(
     rt: &R,
     alloc: Global,
@@ -112,7 +112,7 @@ fn pid_in<R: Files>(
     }
 }
 
-/// The pid of the main process, where it is told where that is kept.
+/// The pid of the main process, if the folder is given.
 fn pid_of<R: Files>(
     rt: &R,
     alloc: Global,
@@ -140,7 +140,7 @@ fn tail_of<R: Files>(rt: &R, alloc: Global, path: &str) -> io::Result<Vec<u8>> {
     Ok(bytes)
 }
 
-/// The last whole line of the text; what stands behind its last line feed is none.
+/// The last whole line of the text; text after its last line feed is ignored.
 fn last_line(text: &str) -> &str {
     let Some((lines, _begun)) = text.rsplit_once('\n') else {
         return "";
@@ -151,7 +151,7 @@ fn last_line(text: &str) -> &str {
     }
 }
 
-/// The last whole line of these bytes; an empty text where they are none.
+/// The last whole line of these bytes; an empty text if they are not UTF-8.
 fn last_of(alloc: Global, bytes: &[u8]) -> Result<String, AllocError> {
     match str::from_utf8(bytes) {
         Ok(text) => String::from_str(alloc, last_line(text)),
@@ -159,7 +159,7 @@ fn last_of(alloc: Global, bytes: &[u8]) -> Result<String, AllocError> {
     }
 }
 
-/// The last line of the file at the path; an empty text where it isn't there.
+/// The last line of the file at the path; an empty text if there is no file.
 fn end_at<R: Files>(rt: &R, alloc: Global, path: &str) -> Result<String, ShowFault> {
     match tail_of(rt, alloc, path) {
         Ok(bytes) => Ok(last_of(alloc, bytes.as_slice())?),
@@ -168,7 +168,7 @@ fn end_at<R: Files>(rt: &R, alloc: Global, path: &str) -> Result<String, ShowFau
     }
 }
 
-/// The last line by which it is kept how processes of the unit ended; an empty text where none is.
+/// The last line that is kept about the end of the unit's processes; an empty text if there is none.
 fn end_kept<R: Files>(
     rt: &R,
     alloc: Global,
@@ -182,14 +182,14 @@ fn end_kept<R: Files>(
     end_at(rt, alloc, path.as_str())
 }
 
-/// What is told of a unit that no line of its files tells.
+/// One line about the whole unit, rather than about a line of its files.
 fn whole(alloc: Global, text: &str) -> Result<Vec<String>, ShowFault> {
     let mut lines = Vec::new(alloc);
     lines.push(String::from_str(alloc, text)?)?;
     Ok(lines)
 }
 
-/// These, a line each.
+/// The findings, a line each.
 fn lines_of(alloc: Global, findings: &[Finding]) -> Result<Vec<String>, ShowFault> {
     let mut lines = Vec::new(alloc);
     for finding in findings {
@@ -198,7 +198,7 @@ fn lines_of(alloc: Global, findings: &[Finding]) -> Result<Vec<String>, ShowFaul
     Ok(lines)
 }
 
-/// What is told of a unit whose files tell this.
+/// The reasons why a unit with these findings isn't loaded.
 fn told_of(alloc: Global, findings: &[Finding]) -> Result<Vec<String>, ShowFault> {
     if findings.iter().any(|finding| finding.stops) {
         lines_of(alloc, findings)
@@ -207,14 +207,14 @@ fn told_of(alloc: Global, findings: &[Finding]) -> Result<Vec<String>, ShowFault
     }
 }
 
-/// What these files tell of the unit of this name.
+/// The reasons in these files of the unit of this name.
 fn reasons_in(alloc: Global, id: &str, files: &[Value]) -> Result<Vec<String>, ShowFault> {
     let given = files_given(alloc, files)?;
     let findings = verify_files(alloc, id, given.as_slice())?;
     told_of(alloc, findings.as_slice())
 }
 
-/// What the reply to `cat` tells of the unit of this name.
+/// The reasons in the reply to `cat` for the unit of this name.
 fn reasons_by(alloc: Global, id: &str, files: &Value) -> Result<Vec<String>, ShowFault> {
     match files.as_array() {
         Some(files) => reasons_in(alloc, id, files.as_slice()),
@@ -222,7 +222,7 @@ fn reasons_by(alloc: Global, id: &str, files: &Value) -> Result<Vec<String>, Sho
     }
 }
 
-/// Why a unit with a bad setting isn't loaded, of its files as they stand now.
+/// Why a unit with a bad setting isn't loaded, by its files as they are now.
 fn bad_setting<R: Net + Clock + Input>(
     asking: &Asking<'_, R>,
     unit: UnitShown<'_>,
@@ -240,7 +240,7 @@ fn bad_setting<R: Net + Clock + Input>(
     }
 }
 
-/// Why a unit isn't loaded; nothing of one that is.
+/// Why a unit isn't loaded; no lines for one that is.
 fn reasons_of<R: Net + Clock + Input>(
     asking: &Asking<'_, R>,
     unit: UnitShown<'_>,
@@ -254,7 +254,7 @@ fn reasons_of<R: Net + Clock + Input>(
     }
 }
 
-/// The warnings that the reply to `show` tells.
+/// The warnings in the reply to `show`.
 fn warnings_in(value: &Value) -> &[Value] {
     match value.get("Warnings").and_then(Value::as_array) {
         Some(warnings) => warnings.as_slice(),
@@ -262,7 +262,7 @@ fn warnings_in(value: &Value) -> &[Value] {
     }
 }
 
-/// The lines behind the row of a unit that was named.
+/// The lines that follow the row of a named unit.
 fn details<R: Net + Clock + Input + Files>(
     asking: &Asking<'_, R>,
     kept: Kept<'_>,
@@ -276,7 +276,7 @@ fn details<R: Net + Clock + Input + Files>(
     Ok(details_of(alloc, end, warnings_in(value), reasons.as_slice())?)
 }
 
-/// The same of a unit that was named, and nothing of others.
+/// The same for a named unit, and no lines for others.
 fn details_where<R: Net + Clock + Input + Files>(
     asking: &Asking<'_, R>,
     kept: Kept<'_>,
@@ -298,7 +298,7 @@ struct Shown {
     is_active: bool,
 }
 
-/// The row of a unit, with these lines behind it.
+/// The row of a unit, followed by these lines.
 fn shown_with<R: Net + Clock + Input + Files>(
     asking: &Asking<'_, R>,
     kept: Kept<'_>,
@@ -341,7 +341,7 @@ fn shown_unit<R: Net + Clock + Input + Files>(
     shown_by(asking, kept, &value, jobs, is_named)
 }
 
-/// The rows of these units, and whether all are active; these jobs are pending.
+/// The rows of these units, given the pending jobs, and whether all are active.
 fn rows_beside<R: Net + Clock + Input + Files>(
     asking: &Asking<'_, R>,
     kept: Kept<'_>,
@@ -392,7 +392,7 @@ fn names_in<'v>(alloc: Global, units: &'v Value) -> Result<Vec<&'v str>, ShowFau
     }
 }
 
-/// What is printed of all known units.
+/// The text for all known units.
 fn text_of_all<R: Net + Clock + Input + Files>(
     asking: &Asking<'_, R>,
     kept: Kept<'_>,
@@ -403,7 +403,7 @@ fn text_of_all<R: Net + Clock + Input + Files>(
     Ok(table_text(asking.alloc(), rows.as_slice())?)
 }
 
-/// What is printed of the units that were named, and the exit status.
+/// The text for the named units, and the exit status.
 fn text_of_named<R: Net + Clock + Input + Files>(
     asking: &Asking<'_, R>,
     kept: Kept<'_>,
@@ -414,7 +414,7 @@ fn text_of_named<R: Net + Clock + Input + Files>(
     Ok((text, if are_active { 0 } else { NOT_ACTIVE }))
 }
 
-/// What is printed of the units that the line names, and the exit status.
+/// The text for the units of the command line, and the exit status.
 fn text_of<R: Net + Clock + Input + Files>(
     asking: &Asking<'_, R>,
     kept: Kept<'_>,
@@ -427,14 +427,14 @@ fn text_of<R: Net + Clock + Input + Files>(
     }
 }
 
-/// Puts a line as it is shown.
+/// Appends a line, with its control characters escaped.
 pub fn push_shown(all: &mut String, alloc: Global, line: &str) -> Result<(), AllocError> {
     let line = shown(alloc, line)?;
     all.push_str(line.as_str())?;
     all.push_str("\n")
 }
 
-/// The text as it is shown, line by line.
+/// The text with the control characters of each line escaped.
 fn shown_lines(alloc: Global, text: &str) -> Result<String, AllocError> {
     let mut all = String::new(alloc);
     for line in text.lines() {
@@ -443,14 +443,14 @@ fn shown_lines(alloc: Global, text: &str) -> Result<String, AllocError> {
     Ok(all)
 }
 
-/// Puts out a text as it is shown, and gives the exit status that goes with it.
+/// Prints a text with its control characters escaped, and returns the exit status that goes with it.
 fn put_shown<R: Print>(rt: &R, alloc: Global, text: &str, status: u8) -> Result<u8, Fault> {
     let lines = shown_lines(alloc, text)?;
     put_text(rt, lines.as_str())?;
     Ok(status)
 }
 
-/// Says why nothing is shown, and gives the exit status.
+/// Says why no status is printed, and returns the exit status.
 fn tell<R: Net + Clock + Input + Eprint>(
     asking: &Asking<'_, R>,
     fault: &ShowFault,
@@ -470,7 +470,7 @@ fn tell<R: Net + Clock + Input + Eprint>(
     }
 }
 
-/// Shows how units stand.
+/// Prints the status of units.
 pub fn show_units<R>(
     rt: &R,
     alloc: Global,

@@ -1,4 +1,4 @@
-//! `umd serve --start UNIT`: the first request behind a new boot.
+//! `umd serve --start UNIT`: the first request after a new boot.
 
 use crate::messages::{REFUSED, USAGE};
 use crate::telling::News;
@@ -13,10 +13,10 @@ use um_sector::Disk;
 use um_serve::has_run_nothing;
 use um_wire::Refusal;
 
-/// The length of a frame stands in so many bytes in front of it.
+/// The number of bytes in front of a frame that give its length.
 const HEADER: usize = 4;
 
-/// The text of the request to start them, with mode replace, as a client asks it.
+/// The text of the request to start these units, with mode `replace`, as a client sends it.
 fn text_of<'a>(alloc: Global, units: &'a [&'a str]) -> Result<Vec<u8>, AllocError> {
     let words = Words {
         verb: "start",
@@ -44,7 +44,7 @@ fn tell_refusal<R: Eprint>(rt: &R, refusal: &Refusal) {
     let _unheard = eprintln!(rt; "umd: --start: {refusal}");
 }
 
-/// The frame that starts the unit, where one is told. The error is the exit status: 2 where the text is no unit's name.
+/// The frame that starts the unit, if one is given. The error is the exit status: 2 if the text is no unit's name.
 pub fn request_in<R: Eprint>(
     alloc: Global,
     rt: &R,
@@ -65,7 +65,7 @@ pub fn request_in<R: Eprint>(
     }
 }
 
-/// Says what the reply to the start tells, where it is refused.
+/// Reports the refusal in the reply to the start, if it is one.
 fn tell_reply<R: Eprint>(alloc: Global, rt: &R, reply: &[u8]) -> Result<(), Refusal> {
     let text = reply.get(HEADER..).unwrap_or(&[]);
     let Ok(value) = Value::from_slice(alloc, text) else {
@@ -80,7 +80,7 @@ fn tell_reply<R: Eprint>(alloc: Global, rt: &R, reply: &[u8]) -> Result<(), Refu
     Ok(())
 }
 
-/// One turn with these pieces, whose moment and outcome the children are told.
+/// One turn with these pieces; the children get its moment and the state that it leaves.
 fn take_turn<D: Disk, C: Children + News, M: Moments>(
     manager: &mut Manager<D, C>,
     clock: &mut M,
@@ -93,7 +93,8 @@ fn take_turn<D: Disk, C: Children + News, M: Moments>(
     Ok(())
 }
 
-/// Where nothing ran yet since the boot, one turn with the frame on the first connection, and one with its close. Refused as `Manager::turn` is.
+/// If nothing ran yet since the boot: one turn with the frame on the first connection, and one with its close.
+/// Refused as `Manager::turn` is.
 pub fn start_first<R: Eprint, D: Disk, C: Children + News, M: Moments>(
     alloc: Global,
     rt: &R,

@@ -1,21 +1,21 @@
-//! What a run of the program is given beside its words.
+//! The inputs of a run of the program beside its words.
 
-/// What a run of the program is given beside its words.
+/// The inputs of a run of the program beside its words.
 #[derive(Clone, Copy)]
 pub struct Surroundings<'a> {
     /// Standard output is a terminal.
     pub is_terminal: bool,
-    /// What the variable UMD_SOCKET holds.
+    /// The value of the variable UMD_SOCKET.
     pub socket: Option<&'a str>,
-    /// What the variable UMD_DIR holds.
+    /// The value of the variable UMD_DIR.
     pub dir: Option<&'a str>,
-    /// What the variable UMD_OUTPUT holds.
+    /// The value of the variable UMD_OUTPUT.
     pub output: Option<&'a str>,
     /// It is the first process of its machine or container.
     pub is_first: bool,
 }
 
-/// What an option tells, or else the variable; an empty text tells nothing.
+/// The option's value, or else the variable's; an empty text counts as none.
 pub fn told<'x>(option: Option<&'x str>, variable: Option<&'x str>) -> Option<&'x str> {
     match option {
         Some(text) if !text.is_empty() => Some(text),

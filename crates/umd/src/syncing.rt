@@ -1,4 +1,4 @@
-//! `umd ctl sync`: a manager's tree gets what a folder holds.
+//! `umd ctl sync`: brings the files of a folder into a manager's tree.
 
 use crate::controlling::lacks_socket;
 use crate::lines::put_line;
@@ -19,29 +19,29 @@ use um_sync::{Action, Ledger, Mark, Step, steps_of};
 use um_tree::{Entry, Tree};
 use um_verify::{Collected, Finding, collect_layers, verify};
 
-/// The file in a folder that keeps what was put of it, and its draft.
+/// The file in a folder that records which of its files were put, and its draft.
 const KEPT: &str = ".umd-sync";
 
 const DRAFT: &str = ".umd-sync.new";
 
-/// So many bytes of it are read: twice a tree's entries come to less.
+/// The most bytes of it that are read: twice the text of a tree's entries is less.
 const LONGEST: u64 = 1 << 23;
 
-/// The exit status where nobody read a request.
+/// The exit status if nobody read a request.
 const UNREAD: u8 = 4;
 
 /// Why a sync ends early.
 #[derive(Drop)]
 enum Stop {
-    /// It is told already, and this is the exit status.
+    /// The error is reported already; this is the exit status.
     Told(u8),
-    /// The manager refuses what was asked for the path, or the reload.
+    /// The manager refuses a request for the path, or the reload.
     Refused(Told),
-    /// The manager isn't reached, or doesn't answer.
+    /// The manager can't be reached, or doesn't answer.
     Asked(CtlFault),
-    /// What was put can't be read, or be kept.
+    /// The record of the files that were put can't be read or written.
     Kept(io::Error),
-    /// Standard output can't be written, or memory is wanting.
+    /// Standard output can't be written, or an allocation failed.
     Failed(Fault),
 }
 
@@ -63,14 +63,14 @@ impl From<io::Error> for Stop {
     }
 }
 
-/// The paths of the file in a folder that keeps what was put of it, and of its draft.
+/// The paths of the record in a folder and of its draft.
 #[derive(Drop)]
 struct Places {
     kept: String,
     draft: String,
 }
 
-/// What a sync goes by: what the folder holds, what was put of it, and what is to be done.
+/// The inputs of a sync: the folder's files, the record of the files that were put, and the steps to take.
 #[derive(Drop)]
 struct Plan {
     tree: Tree,
@@ -78,17 +78,17 @@ struct Plan {
     steps: Vec<Step>,
 }
 
-/// What came of the requests for one path.
+/// The result of the requests for one path.
 #[derive(Drop)]
 enum Outcome {
     Done,
-    /// It is refused, and all is as before.
+    /// It is refused, and nothing changed.
     Refused(Told),
-    /// What stood there is removed, and what was to come is refused.
+    /// The old entry is removed, and the new one is refused.
     Emptied(Told),
 }
 
-/// A manager that is asked, and what of a folder stands in its tree.
+/// A manager, and the record of the folder's files in its tree.
 #[derive(Drop)]
 struct Syncing<'a, R> {
     asking: Asking<'a, R>,
@@ -104,7 +104,7 @@ fn places_in(alloc: Global, folder: &str) -> Result<Places, AllocError> {
     })
 }
 
-/// The bytes of a file; none where no file is there.
+/// The bytes of a file; none if there is no file.
 fn bytes_at<R: Files>(rt: &R, alloc: Global, path: &str) -> io::Result<Vec<u8>> {
     let mut bytes = Vec::new(alloc);
     match File::open(rt, path) {
@@ -117,7 +117,7 @@ fn bytes_at<R: Files>(rt: &R, alloc: Global, path: &str) -> io::Result<Vec<u8>> 
     }
 }
 
-/// What these bytes keep. None where no sync wrote them.
+/// The record that these bytes hold; `None` if no sync wrote them.
 fn ledger_in(alloc: Global, bytes: Vec<u8>) -> Result<Option<Ledger>, AllocError> {
     match String::from_utf8(bytes) {
         Ok(text) => Ledger::read(alloc, text.as_str()),
@@ -125,7 +125,7 @@ fn ledger_in(alloc: Global, bytes: Vec<u8>) -> Result<Option<Ledger>, AllocError
     }
 }
 
-/// What was put of the folder, by the file that keeps it.
+/// The record of the files that were put, read from its file.
 fn ledger_at<R: Files + Eprint>(rt: &R, alloc: Global, kept: &str) -> Result<Ledger, Stop> {
     let bytes = bytes_at(rt, alloc, kept)?;
     match ledger_in(alloc, bytes)? {
@@ -141,20 +141,20 @@ fn ledger_at<R: Files + Eprint>(rt: &R, alloc: Global, kept: &str) -> Result<Led
     }
 }
 
-/// Gives the file its text, whole: by its draft, which is renamed.
+/// Replaces the whole text of the record: writes its draft and renames that.
 fn replace<R: Files>(rt: &R, places: &Places, text: &str) -> io::Result<()> {
     fs::write(rt, places.draft.as_str(), text)?;
     fs::rename(rt, places.draft.as_str(), places.kept.as_str())
 }
 
-/// Keeps what is put of the folder.
+/// Writes the record of the files that were put.
 fn keep<R: Files>(rt: &R, places: &Places, ledger: &Ledger) -> Result<(), Stop> {
     let text = ledger.to_text()?;
     replace(rt, places, text.as_str())?;
     Ok(())
 }
 
-/// What is told of the reply to a verb with these arguments.
+/// The answer to a verb with these arguments.
 fn ask_for<'w, R: Net + Clock + Input>(
     asking: &Asking<'_, R>,
     verb: &'w str,
@@ -167,7 +167,7 @@ fn ask_for<'w, R: Net + Clock + Input>(
     })
 }
 
-/// What is told of the reply to `put-file` with these arguments and this text.
+/// The answer to `put-file` with these arguments and this text.
 fn ask_file<'w, R: Net + Clock + Input>(
     asking: &Asking<'_, R>,
     arguments: &'w [&'w str],
@@ -181,7 +181,7 @@ fn ask_file<'w, R: Net + Clock + Input>(
     asking.ask_with(&words, &mut text.as_bytes())
 }
 
-/// What is told of the reply to `put-link`.
+/// The answer to `put-link`.
 fn ask_link<'w, R: Net + Clock + Input>(
     asking: &Asking<'_, R>,
     path: &'w str,
@@ -190,7 +190,7 @@ fn ask_link<'w, R: Net + Clock + Input>(
     ask_for(asking, "put-link", &[path, target])
 }
 
-/// Has what the folder holds put at the path.
+/// Puts the entry of the folder at the path.
 fn ask_put<R: Net + Clock + Input>(
     asking: &Asking<'_, R>,
     path: &str,
@@ -202,7 +202,7 @@ fn ask_put<R: Net + Clock + Input>(
     }
 }
 
-/// Has what stands at the path removed. None where nothing stands there now.
+/// Removes the entry at the path. `None` if none stands there now.
 fn ask_removal<R: Net + Clock + Input>(
     asking: &Asking<'_, R>,
     path: &str,
@@ -216,7 +216,7 @@ fn ask_removal<R: Net + Clock + Input>(
     }
 }
 
-/// What comes of putting this at the path, where what stood there was removed for it or not.
+/// The result of putting this entry at the path; `is_emptied`: the old entry was removed for it.
 fn put_outcome<R: Net + Clock + Input>(
     asking: &Asking<'_, R>,
     path: &str,
@@ -233,7 +233,7 @@ fn put_outcome<R: Net + Clock + Input>(
     }
 }
 
-/// Has a step done, of what the folder holds at its path.
+/// Sends the requests of a step; `entry` is what the folder has at its path.
 fn ask_step<R: Net + Clock + Input>(
     asking: &Asking<'_, R>,
     step: &Step,
@@ -253,14 +253,14 @@ fn ask_step<R: Net + Clock + Input>(
 }
 
 impl<'a, R: Net + Clock + Input + Files + Print> Syncing<'a, R> {
-    /// Notes what stands at the path, and whether a reload is owed, and keeps it.
+    /// Records the mark of the path, and whether a reload is owed, and writes the record.
     fn note(&mut self, path: &str, mark: Option<Mark>, owes_reload: bool) -> Result<(), Stop> {
         self.ledger.note(path, mark)?;
         self.ledger.owes_reload = owes_reload;
         keep(self.asking.rt(), self.places, &self.ledger)
     }
 
-    /// Notes what came of a step, by what was noted before it.
+    /// Records the outcome of a step, given the mark before it.
     fn note_outcome(
         &mut self,
         path: &str,
@@ -282,7 +282,7 @@ impl<'a, R: Net + Clock + Input + Files + Print> Syncing<'a, R> {
         }
     }
 
-    /// Notes that nobody took what was asked for the path, where that is known.
+    /// Records that the manager took no request for the path, if that is known.
     fn note_fault(
         &mut self,
         step: &Step,
@@ -295,7 +295,8 @@ impl<'a, R: Net + Clock + Input + Files + Print> Syncing<'a, R> {
         Err(Stop::Asked(fault))
     }
 
-    /// Does a step, of what the folder holds at its path. That it is asked for is kept before, so that the next sync knows it where this one is cut off.
+    /// Takes a step for the folder's entry at its path. The request is recorded first, so that the next sync knows of
+    /// it if this one is cut off.
     fn take_step(&mut self, step: &Step, entry: Option<Entry<'_>>) -> Result<(), Stop> {
         let path = step.path.as_str();
         let before = (self.ledger.mark(path), self.ledger.owes_reload);
@@ -306,14 +307,14 @@ impl<'a, R: Net + Clock + Input + Files + Print> Syncing<'a, R> {
         }
     }
 
-    /// Does a step, and prints its line.
+    /// Takes a step, and prints its line.
     fn do_step(&mut self, step: &Step, entry: Option<Entry<'_>>) -> Result<(), Stop> {
         self.take_step(step, entry)?;
         put_step(self.asking.rt(), self.asking.alloc(), step)?;
         Ok(())
     }
 
-    /// Has the tree loaded, if that is owed.
+    /// Reloads the tree, if that is owed.
     fn reload(&mut self) -> Result<(), Stop> {
         if !self.ledger.owes_reload {
             return Ok(());
@@ -329,7 +330,7 @@ impl<'a, R: Net + Clock + Input + Files + Print> Syncing<'a, R> {
     }
 }
 
-/// Says why a sync ended at this, and gives the exit status.
+/// Says why a sync ended early, and returns the exit status.
 fn tell_stop<R: Eprint>(
     rt: &R,
     alloc: Global,
@@ -358,7 +359,7 @@ fn tell_stop<R: Eprint>(
     }
 }
 
-/// Does the steps, one behind the other, and reloads.
+/// Takes the steps one by one, then reloads.
 fn take_steps<R: Net + Clock + Input + Files + Print + Eprint>(
     syncing: &mut Syncing<'_, R>,
     steps: &[Step],
@@ -391,7 +392,7 @@ fn put_steps<R: Print>(rt: &R, alloc: Global, steps: &[Step]) -> Result<u8, Faul
     Ok(0)
 }
 
-/// Tells those of the findings for which a unit can't be loaded.
+/// Reports the findings that keep a unit from being loaded.
 fn tell_stopping<R: Eprint>(rt: &R, alloc: Global, findings: &[Finding]) -> Result<(), AllocError> {
     for finding in findings {
         if finding.stops {
@@ -409,7 +410,7 @@ fn tell_unloadable<R: Eprint>(rt: &R, alloc: Global, collected: Collected) -> Re
     }
 }
 
-/// Tells what can't be put.
+/// Reports the files that can't be put.
 fn tell_misfits<R: Eprint>(rt: &R, alloc: Global, misfits: &[String]) -> Result<(), Stop> {
     for misfit in misfits {
         put_line(rt, alloc, misfit.as_str());
@@ -421,7 +422,7 @@ fn tell_misfits<R: Eprint>(rt: &R, alloc: Global, misfits: &[String]) -> Result<
     }
 }
 
-/// What the folder holds.
+/// The files that the folder has.
 fn collected_in<R: Files + Eprint>(rt: &R, alloc: Global, folder: &str) -> Result<Collected, Stop> {
     match collect_layers(rt, alloc, folder) {
         Ok(collected) => Ok(collected),
@@ -429,7 +430,7 @@ fn collected_in<R: Files + Eprint>(rt: &R, alloc: Global, folder: &str) -> Resul
     }
 }
 
-/// What the folder holds, as a tree, once what is wrong with it is told.
+/// The files of the folder as a tree, after everything wrong with them is reported.
 fn tree_in<R: Files + Eprint>(rt: &R, alloc: Global, folder: &str) -> Result<Tree, Stop> {
     let collected = collected_in(rt, alloc, folder)?;
     tell_misfits(rt, alloc, collected.misfits())?;
@@ -438,7 +439,7 @@ fn tree_in<R: Files + Eprint>(rt: &R, alloc: Global, folder: &str) -> Result<Tre
     Ok(tree)
 }
 
-/// What is to be done for the folder, whose file of what was put is at this path.
+/// The steps to take for the folder, given the path of its record.
 fn plan_of<R: Files + Eprint>(
     rt: &R,
     alloc: Global,
@@ -455,7 +456,7 @@ fn plan_of<R: Files + Eprint>(
     })
 }
 
-/// Does what is planned, by the manager at the socket.
+/// Takes the planned steps at the manager of the socket.
 fn carry_out<R: Net + Clock + Input + Files + Print + Eprint>(
     asking: Asking<'_, R>,
     places: &Places,
@@ -474,7 +475,7 @@ fn carry_out<R: Net + Clock + Input + Files + Print + Eprint>(
     take_steps(&mut syncing, steps.as_slice(), &tree)
 }
 
-/// Brings the manager at a socket what a folder holds, or only says what would be done.
+/// Brings the files of a folder to the manager at a socket, or only prints the steps.
 pub fn sync<R: Net + Clock + Input + Files + Print + Eprint>(
     rt: &R,
     alloc: Global,

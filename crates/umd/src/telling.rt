@@ -1,4 +1,4 @@
-//! Children that tell what an operator needs.
+//! Children that report failures and other news to the operator.
 
 ghost use Rattle.std.specs.Prelude.{◌≡◌};
 
@@ -17,14 +17,14 @@ use um_keeper::SpawnOrder;
 use um_model::Moment;
 use um_state::State;
 
-/// What was seen of the children since it was looked at last.
+/// What was seen of the children since the last look.
 #[derive(Drop)]
 pub struct Tally {
-    /// So many fates were asked, and so many processes started.
+    /// How many fates were queried and how many processes started, in all.
     live: Cell<u64>,
-    /// Of so many it was told that they are absent.
+    /// How many of these fates were `Absent`.
     absent: Cell<u64>,
-    /// When it was looked at last; None where the system told no time, and before the first look.
+    /// The time of the last look; `None` if the system gave no time, and before the first look.
     looked: Cell<Option<Instant>>,
 }
 
@@ -49,17 +49,17 @@ impl Tally {
         }
     }
 
-    /// Whether any process is live, as it was seen since the last look.
+    /// Whether any process was live since the last look.
     pub fn is_live(&self) -> bool {
         self.live.get() > 0
     }
 
-    /// Of how many it was told since the last look that they are absent.
+    /// How many processes were found absent since the last look.
     pub fn absent(&self) -> u64 {
         self.absent.get()
     }
 
-    /// What is seen from now on, and when that is.
+    /// Starts a new look, at this time.
     pub fn look(&self, now: Option<Instant>) {
         self.live.set(0);
         self.absent.set(0);
@@ -67,7 +67,7 @@ impl Tally {
     }
 }
 
-/// Children that tell on standard error which start or signal failed and what else an operator needs, and note what they see.
+/// Children that report failed starts and signals and other news on standard error, and note what they see.
 #[derive(Drop)]
 pub struct Telling<'a, C: Children + Seen, R: Eprint, K: Keeps> {
     children: C,
@@ -75,14 +75,14 @@ pub struct Telling<'a, C: Children + Seen, R: Eprint, K: Keeps> {
     alloc: Global,
     tally: &'a Tally,
     keeping: &'a K,
-    /// What failed within the last second.
+    /// The failures of the last second.
     repeats: RefCell<Repeats>,
-    /// That the folder is gone was told, and it hasn't been seen since.
+    /// The loss of the folder was reported, and the folder wasn't seen since.
     is_gone: bool,
 }
 
 impl<'a, C: Children + Seen, R: Eprint, K: Keeps> Telling<'a, C, R, K> {
-    /// These children.
+    /// Wraps these children.
     pub fn new(
         children: C,
         rt: &'a R,
@@ -117,7 +117,7 @@ impl<'a, C: Children + Seen, R: Eprint, K: Keeps> Telling<'a, C, R, K> {
         }
     }
 
-    /// Whether the failure is told now; else it is counted.
+    /// Whether the failure is to be reported now; if not, it is counted.
     fn is_told(&self, deed: Deed, why: &str) -> bool {
         match (self.tally.looked.get(), self.repeats.try_borrow_mut()) {
             (Some(now), Ok(mut repeats)) => repeats.is_told(deed, why, now),
@@ -125,8 +125,8 @@ impl<'a, C: Children + Seen, R: Eprint, K: Keeps> Telling<'a, C, R, K> {
         }
     }
 
-    /// Says that something couldn't be done for a process, and why, unless that was said too often just now. Where standard error fails too,
-    /// nobody hears it, here and below.
+    /// Reports an action for a process that failed, and why, unless that was reported too often just now. Here and
+    /// below a failure of standard error is ignored.
     fn tell_why(&self, deed: Deed, number: ProcessNumber, why: &str) {
         if self.is_told(deed, why) {
             let number = number.get();
@@ -134,7 +134,7 @@ impl<'a, C: Children + Seen, R: Eprint, K: Keeps> Telling<'a, C, R, K> {
         }
     }
 
-    /// Says that something couldn't be done for a process, where it couldn't.
+    /// Reports an action for a process, if it failed.
     fn tell(&self, deed: Deed, number: ProcessNumber, answer: &Result<(), ChildFault>) {
         let Err(fault) = answer else {
             return;
@@ -145,7 +145,7 @@ impl<'a, C: Children + Seen, R: Eprint, K: Keeps> Telling<'a, C, R, K> {
         }
     }
 
-    /// How often a failure wasn't told, where that is to be told now.
+    /// The count of a failure that is to be reported now.
     fn next_count(&self, now: Instant) -> Option<Count> {
         let mut repeats = self.repeats.try_borrow_mut().ok()?;
         repeats.next_due(now)
@@ -158,13 +158,13 @@ impl<'a, C: Children + Seen, R: Eprint, K: Keeps> Telling<'a, C, R, K> {
         }
     }
 
-    /// Notes for what a process prints that it was started.
+    /// Notes the start of a process, for its output.
     fn note_start(&self, number: ProcessNumber) {
         self.keeping
             .note_start(number, self.children.output_fault());
     }
 
-    /// Notes for what a process prints what became of it.
+    /// Notes the fate of a process, for its output.
     fn note_fate(&self, number: ProcessNumber, answer: &Result<Fate, ChildFault>) {
         if let Ok(fate) = answer {
             self.keeping.note_fate(number, *fate);
@@ -195,7 +195,7 @@ impl<'a, C: Children + Seen, R: Eprint, K: Keeps> Telling<'a, C, R, K> {
         self.is_gone = is_gone;
     }
 
-    /// Says what was found as the folder was looked through.
+    /// Reports the findings of the look through the folder.
     fn tell_found(&self) {
         if !self.children.has_runner() {
             let runner = self.children.program();
@@ -210,9 +210,9 @@ impl<'a, C: Children + Seen, R: Eprint, K: Keeps> Telling<'a, C, R, K> {
     }
 }
 
-/// Children of which more can be seen than what they answer.
+/// Children that show more than their answers.
 pub trait Seen {
-    /// What failed in the last call that failed, and where.
+    /// The failure of the last call that failed, and its place.
     fn trouble(&self) -> Option<(&str, &Cause)>;
 
     /// The folder of their files.
@@ -227,19 +227,19 @@ pub trait Seen {
     /// Whether the folder is gone.
     fn is_gone(&self) -> bool;
 
-    /// The number whose fate was asked last, where nobody has claimed it for too long and it is to be told now.
+    /// The number whose fate was queried last, if nobody has claimed it for too long and that is to be reported now.
     fn silent(&self) -> Option<ProcessNumber>;
 
-    /// The number whose fate was asked last, where a kept signal couldn't be sent to its process, which is there.
+    /// The number whose fate was queried last, if a kept signal couldn't be sent to its process, which is there.
     fn unsignalled(&self) -> Option<ProcessNumber>;
 
     /// How many processes run that nobody manages any more.
     fn unmanaged(&self) -> u64;
 
-    /// The greatest number of which files stand there although it was never started.
+    /// The greatest number that has files in the folder although it was never started.
     fn foreign(&self) -> Option<ProcessNumber>;
 
-    /// Why no file could be made for what the process prints that was started last.
+    /// Why no file could be made for the output of the process that was started last.
     fn output_fault(&self) -> Option<&io::Error>;
 }
 
@@ -285,27 +285,27 @@ impl<'a, R: Files + Processes + Clock> Seen for RunnerDir<'a, R> {
     }
 }
 
-/// Children of which it can be seen, without asking any of them, that something may have happened.
+/// Children that show, without a query of any of them, whether something may have happened.
 pub trait News {
-    /// Whether a round of fates may tell or do anything that the last one didn't.
+    /// Whether a round of fates may report or do anything that the last one didn't.
     fn has_news(&self) -> bool;
 
     /// Whether the next round of fates should come soon, though no runner may wake the manager.
     fn is_pressed(&self) -> bool;
 
-    /// Whether a failure was told too often, and waits to be told by its count.
+    /// Whether a failure occurred too often, and its count is still to be reported.
     fn is_counting(&self) -> bool;
 
-    /// Says how often failures weren't told, each that is due at this moment.
+    /// Reports the counts of failures that are due at this moment.
     fn tell_counts(&self, now: Instant);
 
-    /// What is noted from now on is of this moment.
+    /// Sets the moment of everything that is noted from now on.
     fn begin(&self, moment: Moment);
 
-    /// A turn has left this state.
+    /// Follows a turn that ended in this state.
     fn settle(&self, state: &State);
 
-    /// Looks after what processes print that are live by this state.
+    /// Looks after the output files of the processes that are live in this state.
     fn tend(&self, state: &State, now: Instant);
 }
 
@@ -354,7 +354,8 @@ impl<'a, 'b, R: Files + Processes + Clock, E: Eprint, K: Keeps> Telling<
     E,
     K,
 > {
-    /// Says that the folder is another store's, where it is. Nothing was done in it then, and nothing will be.
+    /// Says that the folder belongs to another store, if it does. In that case nothing was done in it, and nothing
+    /// will be.
     pub fn is_foreign(&self) -> bool {
         let Some(number) = self.children.foreign() else {
             return false;

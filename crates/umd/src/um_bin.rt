@@ -1,5 +1,5 @@
-//! The calls that carry the program, by one name: its words, its answers to frames, its rounds over a socket. Each stands in a crate of its own, where
-//! its contract is.
+//! The calls that do the program's work, under one name: reading its words, answering frames, running rounds over a
+//! socket. Each stands in a crate of its own, with its contract.
 
 pub use um_line::read_line;
 pub use um_memory::memory;

@@ -9,13 +9,13 @@ use um_line::VerifyLine;
 use um_memory::Fault;
 use um_verify::{Finding, VerifyFault, collect};
 
-/// Puts the line of what is told.
+/// Appends the line of a finding.
 fn push_finding(text: &mut String, alloc: Global, finding: &Finding) -> Result<(), AllocError> {
     let line = finding.to_line(alloc)?;
     push_shown(text, alloc, line.as_str())
 }
 
-/// All that is told, a line each.
+/// The lines of all findings.
 fn text_of(alloc: Global, findings: &[Finding]) -> Result<String, AllocError> {
     let mut text = String::new(alloc);
     for finding in findings {
@@ -24,7 +24,7 @@ fn text_of(alloc: Global, findings: &[Finding]) -> Result<String, AllocError> {
     Ok(text)
 }
 
-/// What is told of the units in folders and files.
+/// The findings of the units in folders and files.
 fn findings_in<R: Files>(
     rt: &R,
     alloc: Global,
@@ -33,7 +33,7 @@ fn findings_in<R: Files>(
     um_verify::verify(collect(rt, alloc, paths)?)
 }
 
-/// Says why nothing is looked at, and gives the exit status.
+/// Says why nothing could be verified, and returns the exit status.
 pub fn tell_unread<R: Eprint>(rt: &R, alloc: Global, fault: &VerifyFault) -> Result<u8, Fault> {
     match fault {
         VerifyFault::Twice { path, other } => {
@@ -56,7 +56,7 @@ pub fn tell_unread<R: Eprint>(rt: &R, alloc: Global, fault: &VerifyFault) -> Res
     }
 }
 
-/// Puts out what is told, and gives the exit status.
+/// Prints the findings, and returns the exit status.
 fn put_findings<R: Print>(rt: &R, alloc: Global, findings: &[Finding]) -> Result<u8, Fault> {
     let text = text_of(alloc, findings)?;
     put_text(rt, text.as_str())?;
@@ -67,7 +67,7 @@ fn put_findings<R: Print>(rt: &R, alloc: Global, findings: &[Finding]) -> Result
     }
 }
 
-/// Looks at unit files.
+/// Verifies unit files.
 pub fn verify<R: Files + Print + Eprint>(
     rt: &R,
     alloc: Global,

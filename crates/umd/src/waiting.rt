@@ -1,4 +1,4 @@
-//! `umd ctl --wait`: what becomes of a unit that was started or stopped.
+//! `umd ctl --wait`: waits until a unit has started or stopped.
 
 use crate::lines::put_line;
 use crate::messages::{DEVICE, REFUSED, ctl_fault};
@@ -13,13 +13,13 @@ use um_line::CtlLine;
 use um_memory::Fault;
 use um_status::{Goal, Standing, standing_line, standing_of, unit_shown};
 
-/// It is asked so many milliseconds apart.
+/// The interval between two queries, in milliseconds.
 const APART: u64 = 50;
 
-/// A process that is still the same after so many milliseconds counts as running.
+/// A process that is still the same after this many milliseconds counts as running.
 const STAYS: u64 = 1_000;
 
-/// A manager that is asked again and again, within one time.
+/// A manager that is queried repeatedly, within a time limit.
 #[derive(Clone, Copy)]
 pub struct Asking<'a, R> {
     rt: &'a R,
@@ -36,7 +36,7 @@ fn rounded_up(time: Duration) -> u64 {
     time.as_secs().saturating_add(more)
 }
 
-/// How many of these seconds are left, rounded up; none left is `Late`.
+/// How many of these seconds are left, rounded up; `Late` if none is.
 fn left_of(seconds: u32, spent: Duration) -> Result<u32, CtlFault> {
     match Duration::from_secs(u64::from(seconds)).checked_sub(spent) {
         Some(left) if !left.is_zero() => Ok(u32::try_from(rounded_up(left)).unwrap_or(seconds)),
@@ -45,7 +45,7 @@ fn left_of(seconds: u32, spent: Duration) -> Result<u32, CtlFault> {
 }
 
 impl<'a, R: Net + Clock + Input> Asking<'a, R> {
-    /// The time begins now.
+    /// Starts the time limit now.
     pub fn starting(
         rt: &'a R,
         alloc: Global,
@@ -63,12 +63,12 @@ impl<'a, R: Net + Clock + Input> Asking<'a, R> {
         }
     }
 
-    /// The system that it goes by.
+    /// The system that it uses.
     pub fn rt(&self) -> &'a R {
         self.rt
     }
 
-    /// Where memory comes from.
+    /// Its allocator.
     pub fn alloc(&self) -> Global {
         self.alloc
     }
@@ -78,7 +78,7 @@ impl<'a, R: Net + Clock + Input> Asking<'a, R> {
         self.socket
     }
 
-    /// How long ago it began.
+    /// The time since the start.
     fn spent(&self) -> Duration {
         match self.begun {
             Some(begun) => begun.elapsed(self.rt).unwrap_or(Duration::ZERO),
@@ -86,7 +86,7 @@ impl<'a, R: Net + Clock + Input> Asking<'a, R> {
         }
     }
 
-    /// How many seconds are left, rounded up; none left is `Late`.
+    /// How many seconds are left, rounded up; `Late` if none is.
     fn left(&self) -> Result<Option<u32>, CtlFault> {
         match self.timeout {
             Some(seconds) => Ok(Some(left_of(seconds, self.spent())?)),
@@ -94,12 +94,12 @@ impl<'a, R: Net + Clock + Input> Asking<'a, R> {
         }
     }
 
-    /// What is told of the reply to these words.
+    /// The answer to these words.
     pub fn ask(&self, words: &Words<'_>) -> Result<Told, CtlFault> {
         self.ask_with(words, &mut self.rt.reader())
     }
 
-    /// What is told of the reply to these words, with the text of a file from the input.
+    /// The answer to these words, with the text of a file from the input.
     pub fn ask_with<I: Read>(&self, words: &Words<'_>, input: &mut I) -> Result<Told, CtlFault> {
         let patience = Patience {
             retry: self.retry,
@@ -111,7 +111,7 @@ impl<'a, R: Net + Clock + Input> Asking<'a, R> {
         }
     }
 
-    /// A time that is up is told as the whole of it, and not as what was left of it.
+    /// A timeout, reported with the whole time limit rather than the time that was left.
     fn of_whole(&self, fault: CtlFault) -> CtlFault {
         match fault {
             CtlFault::Late(left) => CtlFault::Late(self.timeout.unwrap_or(left)),
@@ -119,7 +119,7 @@ impl<'a, R: Net + Clock + Input> Asking<'a, R> {
         }
     }
 
-    /// Waits until it is asked again. `Late` where the time is up.
+    /// Waits for one interval. `Late` if the time is up.
     fn pause(&self) -> Result<(), CtlFault> {
         let _left = self.left()?;
         thread::sleep(self.rt, Duration::from_millis(APART));
@@ -127,7 +127,7 @@ impl<'a, R: Net + Clock + Input> Asking<'a, R> {
     }
 }
 
-/// A value that was asked for, or what is told of its refusal.
+/// The value of a reply, or its refusal.
 #[derive(Drop)]
 pub enum Answer {
     Value(Value),
@@ -143,7 +143,7 @@ fn value_in(alloc: Global, text: &str) -> Result<Answer, CtlFault> {
     }
 }
 
-/// The value of a reply, or what is told of its refusal.
+/// The value of a reply, or its refusal.
 fn answer_of(alloc: Global, told: Told) -> Result<Answer, CtlFault> {
     if told.status == 0 {
         value_in(alloc, told.output.as_str())
@@ -152,7 +152,7 @@ fn answer_of(alloc: Global, told: Told) -> Result<Answer, CtlFault> {
     }
 }
 
-/// The value of the reply to a query, of a unit where one is named.
+/// The value of the reply to a query, for a unit if one is named.
 pub fn value_of<'w, R: Net + Clock + Input>(
     asking: &Asking<'_, R>,
     verb: &'w str,
@@ -166,15 +166,15 @@ pub fn value_of<'w, R: Net + Clock + Input>(
     answer_of(asking.alloc, asking.ask(&words)?)
 }
 
-/// What is known of a unit that is waited for.
+/// The state of the unit that is waited for.
 #[derive(Drop)]
 enum Found {
-    /// How it stands, and the line that says so.
+    /// The unit's standing, and the line that describes it.
     Standing(Standing, String),
     Refused(Told),
 }
 
-/// How a unit stands by the replies to `show` and `list-jobs`.
+/// The standing of a unit by the replies to `show` and `list-jobs`.
 fn found_by(alloc: Global, goal: Goal, value: &Value, jobs: &Value) -> Result<Found, CtlFault> {
     let (Some(unit), Some(jobs)) = (unit_shown(value), jobs.as_array()) else {
         return Err(CtlFault::NoReply);
@@ -183,7 +183,7 @@ fn found_by(alloc: Global, goal: Goal, value: &Value, jobs: &Value) -> Result<Fo
     Ok(Found::Standing(standing_of(goal, unit, jobs.as_slice()), line))
 }
 
-/// How the unit stands now, by the reply to `list-jobs`.
+/// The unit's standing now, given the reply to `list-jobs`.
 fn look_beside<R: Net + Clock + Input>(
     asking: &Asking<'_, R>,
     goal: Goal,
@@ -196,7 +196,7 @@ fn look_beside<R: Net + Clock + Input>(
     }
 }
 
-/// How the unit stands now.
+/// The unit's standing now.
 fn look<R: Net + Clock + Input>(
     asking: &Asking<'_, R>,
     goal: Goal,
@@ -208,23 +208,23 @@ fn look<R: Net + Clock + Input>(
     }
 }
 
-/// A process that ran when it was looked at, and when that was for the first time.
+/// A running process, and when it was first seen.
 #[derive(Clone, Copy)]
 struct Running {
     number: u64,
     since: Duration,
 }
 
-/// What comes of a look.
+/// What a look decides.
 #[derive(Clone, Copy)]
 enum Next {
-    /// It is looked again.
+    /// Look again.
     Again(Option<Running>),
     Reached,
     Missed,
 }
 
-/// What comes of a look at which a process runs under this number, where this ran before.
+/// What a look decides that finds a process running under this number, given the process that ran before.
 fn next_of_running(number: u64, before: Option<Running>, spent: Duration) -> Next {
     let Some(running) = before else {
         let since = spent;
@@ -240,7 +240,7 @@ fn next_of_running(number: u64, before: Option<Running>, spent: Duration) -> Nex
     }
 }
 
-/// What comes of a look at which the unit stands so, where this ran before.
+/// What a look decides that finds this standing, given the process that ran before.
 fn next_of(standing: Standing, before: Option<Running>, spent: Duration) -> Next {
     match standing {
         Standing::Moving => Next::Again(before),
@@ -254,20 +254,20 @@ fn next_of(standing: Standing, before: Option<Running>, spent: Duration) -> Next
 #[derive(Drop)]
 enum Outcome {
     Reached,
-    /// The line that says how the unit stands.
+    /// The line that describes the unit's standing.
     Missed(String),
     Refused(Told),
 }
 
-/// What a look leads to.
+/// The step that follows a look.
 #[derive(Drop)]
 enum Step {
-    /// It is looked again.
+    /// Look again.
     Again(Option<Running>),
     Ended(Outcome),
 }
 
-/// The step that comes of a look, of which the line says how the unit stands.
+/// The step for a decision, with the line that describes the unit's standing.
 fn step_of(next: Next, line: String) -> Step {
     match next {
         Next::Again(running) => Step::Again(running),
@@ -276,7 +276,7 @@ fn step_of(next: Next, line: String) -> Step {
     }
 }
 
-/// Looks at the unit, where this ran before.
+/// Looks at the unit, given the process that ran before.
 fn next_step<R: Net + Clock + Input>(
     asking: &Asking<'_, R>,
     goal: Goal,
@@ -291,7 +291,7 @@ fn next_step<R: Net + Clock + Input>(
     }
 }
 
-/// Looks at the unit again and again.
+/// Looks at the unit until the wait ends.
 fn watch<R: Net + Clock + Input>(
     asking: &Asking<'_, R>,
     goal: Goal,
@@ -308,7 +308,7 @@ fn watch<R: Net + Clock + Input>(
     Ok(Outcome::Reached)
 }
 
-/// Puts what a refusal tells on standard error, and gives the exit status.
+/// Prints the text of a refusal on standard error, and returns the exit status.
 pub fn refused<R: Eprint>(rt: &R, told: &Told) -> Result<u8, Fault> {
     let error = &told.error;
     match eprint!(rt; "{error}") {
@@ -317,7 +317,7 @@ pub fn refused<R: Eprint>(rt: &R, told: &Told) -> Result<u8, Fault> {
     }
 }
 
-/// The exit status of a fault behind the command: that the manager is gone is one of the device then.
+/// The exit status of a fault after the command: then the loss of the manager is a device failure.
 fn status_behind(fault: &CtlFault) -> u8 {
     match fault {
         CtlFault::NoConnection(_) | CtlFault::Unread => DEVICE,
@@ -325,7 +325,7 @@ fn status_behind(fault: &CtlFault) -> u8 {
     }
 }
 
-/// Waits for what becomes of the unit, and gives the exit status.
+/// Waits until the unit has started or stopped, and returns the exit status.
 fn wait_behind<R: Net + Clock + Input + Eprint>(
     asking: &Asking<'_, R>,
     line: &CtlLine<'_>,
@@ -346,7 +346,8 @@ fn wait_behind<R: Net + Clock + Input + Eprint>(
     }
 }
 
-/// Asks the manager at the socket to start or to stop a unit, waits for what becomes of it, and gives the exit status.
+/// Sends the request to start or stop a unit to the manager at the socket, waits for the result, and returns the exit
+/// status.
 pub fn wait<R: Net + Clock + Input + Eprint>(
     rt: &R,
     alloc: Global,

@@ -9,21 +9,21 @@ use std::net::Net;
 use std::time::{Duration, Instant};
 use um_gate::SocketGate;
 
-/// So many milliseconds apart it is looked whether the socket still stands.
+/// The interval at which the socket is checked, in milliseconds.
 const APART: u64 = 500;
 
 /// The socket in the folder of processes by which runners wake the manager.
 #[derive(Drop)]
 pub struct Waking {
     path: String,
-    /// When it was looked at last.
+    /// The time of the last check.
     looked: Option<Instant>,
-    /// That it fails was told, and it hasn't gone well since.
+    /// A failure was reported, and no check since succeeded.
     is_told: bool,
 }
 
 impl Waking {
-    /// Makes the socket at the path, for this gate. Where it can't be made it has said so, and gives the exit status.
+    /// Makes the socket at the path, for this gate. If that fails, says so and returns the exit status.
     pub fn open<R: Files + Net, E: Eprint>(
         rt: &R,
         alloc: Global,
@@ -41,7 +41,7 @@ impl Waking {
         }
     }
 
-    /// Whether it is to be looked at now.
+    /// Whether it is to be checked now.
     fn is_due(&self, now: Instant) -> bool {
         match self.looked {
             Some(looked) => now.duration_since(looked) >= Duration::from_millis(APART),
@@ -49,7 +49,8 @@ impl Waking {
         }
     }
 
-    /// Says that nobody is woken, and why, once until it goes well again. That the folder is gone is told elsewhere.
+    /// Says that no runner can wake the manager, and why, once until that works again. The loss of the folder is
+    /// reported elsewhere.
     fn tell<E: Eprint>(&mut self, lines: &E, fault: &io::Error) {
         if self.is_told || fault.kind() == ErrorKind::NotFound {
             return;
@@ -61,7 +62,7 @@ impl Waking {
         self.is_told = true;
     }
 
-    /// Makes the socket again where it was removed, and says where it fails, if it wasn't looked at just now.
+    /// Makes the socket again if it was removed, and reports a failure, unless it was checked just now.
     pub fn keep<R: Files + Net, E: Eprint>(
         &mut self,
         rt: &R,

@@ -2,7 +2,7 @@ use Rattle.std.proofs.Common.{◌≡◌, ◌-◌, length}
 use Rattle.um_output.specs.Lines.{behind, feeds}
 use Rattle.um_output.proofs.lines.behind_feeds.Given as goal
 
--- what is left of the bytes and of the feeds ends as the whole does
+-- the bytes and feeds that are left end as the whole does
 abbrev pub invariant-loop-left : goal.invariant-loop-left
 invariant-loop-left l = record {
   rest : behind l.left l.rest ≡ behind l.initial.left l.initial.rest;
