@@ -9,7 +9,7 @@ pub data_in-items_of : (ds : List Data) → data_in (items_of ds) ≡ ds
 data_in-items_of [] = refl
 data_in-items_of (d ∷ ds) = ap (λ es. d ∷ es) (data_in-items_of ds)
 
--- the items of a list of values, seen
+-- the items of a list of values, as the definitions have them
 pub details_seen : (o : Option (Bor (Vec Value Global)))
     → option_map (λ v. map view v.now.items) o ≡ option_map data_in (option_map (λ v. items_view v.now.items) o)
 details_seen None = refl

@@ -1,4 +1,4 @@
--- What is shown holds no character that misleads.
+-- Shown text holds no character that misleads.
 use Rattle.std.proofs.Common.{◌≡◌, ◌<◌, ◌⊎◌, ℕ, false, true, List, [], ◌∷◌, ◌++◌, flat_map, inl, inr, refl, sym, ap, ◌∙◌, arith, rules, tests, ⊎_elim}
 use Rattle.std.specs.Char.{encode_utf8, is_control}
 use Rattle.std.specs.List.{list_any}

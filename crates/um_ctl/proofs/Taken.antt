@@ -15,14 +15,14 @@ pub takes_reply : (a b d : Option (List ℕ)) (h reply : List ℕ) (size : ℕ) 
 takes_reply a b d h reply size four is len low p q =
     (h, four, sym is ∙ sym len, subst (λ n. n ≤ reply_limit) (sym len) low, Consumes-trans a b d h reply p q)
 
--- of two ways to cut a list with fronts of one length, the parts are the same
+-- two ways to cut a list with fronts of one length have the same parts
 same_parts : (a b x y : List ℕ) → length a ≡ length b → a ++ x ≡ b ++ y → (a ≡ b) × (x ≡ y)
 same_parts a b x y len e = (
   sym (take-append_seam a x) ∙ ap (λ n. take n (a ++ x)) len ∙ ap (take (length b)) e ∙ take-append_seam b y,
   sym (drop-append_seam a x) ∙ ap (λ n. drop n (a ++ x)) len ∙ ap (drop (length b)) e ∙ drop-append_seam b y,
 )
 
--- of an input one reply is taken
+-- only one reply can be taken from an input
 pub one_reply : (input a b r q : List ℕ) → TakesReply (Some input) (Some r) a → TakesReply (Some input) (Some q) b → (a ≡ b) × (r ≡ q)
 one_reply input a b r q (h, four, is, low, whole) (k, other_four, other_is, other_low, other_whole) =
     let split = sym (append_assoc h a r) ∙ sym whole ∙ other_whole ∙ append_assoc k b q in

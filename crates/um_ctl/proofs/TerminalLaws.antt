@@ -1,4 +1,4 @@
--- What goes to a terminal holds no character that misleads and stands in JSON as it is.
+-- Text for a terminal holds no character that misleads and that JSON doesn't escape.
 use Rattle.std.proofs.Common.{◌≡◌, ◌<◌, ◌⊎◌, ℕ, false, true, List, [], ◌∷◌, ◌++◌, flat_map, inl, inr, refl, sym, ap, ◌∙◌, arith, rules, tests, ⊎_elim}
 use Rattle.std.specs.Int.{is_in_range}
 use Rattle.std.specs.List.{list_any}

@@ -1,4 +1,4 @@
--- What was asked and told, and why nothing was told, by the step that failed.
+-- The request and its report, and the fault if there is no report, by the step that failed.
 use Rattle.std.proofs.Common.{ℕ, List, Option, Vec, Global, Result, Ok, Err, IfOk, IfErr}
 use Rattle.um_ctl.specs.Prepares.{Prepares, IsAsked, IsLateBy, IsOfConnection, IsUnprepared, IsUntold, IsNoReply, TellsReply}
 use Rattle.um_ctl.specs.declared.fault.CtlFault.{CtlFault}
@@ -22,7 +22,7 @@ untold_meanwhile words old new p timeout (Write e) h is = (p, h)
 untold_meanwhile words old new p timeout NoReply h is = absurd is
 untold_meanwhile words old new p timeout NoMemory h is = tt
 
--- the time of one that is of the connection
+-- a fault of the connection has the given time
 pub late_meanwhile : (timeout : Option ℕ) (e : CtlFault) → IsOfConnection timeout e → IsLateBy timeout e
 late_meanwhile timeout Usage is = tt
 late_meanwhile timeout TooLarge is = tt
@@ -50,7 +50,7 @@ late_before timeout old new (Write e) is = tt
 late_before timeout old new NoReply is = tt
 late_before timeout old new NoMemory is = tt
 
--- what came is no reply, so that no time was up
+-- the received bytes are no reply, so that no time was up
 late_after : (timeout : Option ℕ) (verb : Verb) (bytes : List ℕ) (e : CtlFault) → IsNoReply verb bytes e → IsLateBy timeout e
 late_after timeout verb bytes Usage is = tt
 late_after timeout verb bytes TooLarge is = tt
@@ -64,7 +64,7 @@ late_after timeout verb bytes (Write e) is = tt
 late_after timeout verb bytes NoReply is = tt
 late_after timeout verb bytes NoMemory is = tt
 
--- what came is no reply
+-- the received bytes are no reply
 pub untold_after : (words : Words) (old new : Option (List ℕ)) (p : Verb × Vec ℕ Global) (verb : Verb) (bytes : List ℕ) (e : CtlFault)
     → Prepares words old new p → IsNoReply verb bytes e → IsUntold words old new e
 untold_after words old new p verb bytes Usage h none = absurd none
@@ -79,7 +79,7 @@ untold_after words old new p verb bytes (Write e) h none = absurd none
 untold_after words old new p verb bytes NoReply h none = (p, h)
 untold_after words old new p verb bytes NoMemory h none = tt
 
--- the same of what a function gives
+-- the same for a function's result
 pub untold_reply : {T : Type 0} (words : Words) (old new : Option (List ℕ)) (p : Verb × Vec ℕ Global) (verb : Verb) (bytes : List ℕ) (r : Result T CtlFault)
     → Prepares words old new p → IfErr r (IsNoReply verb bytes) → IfErr r (IsUntold words old new)
 untold_reply words old new p verb bytes (Ok t) h none = tt

@@ -1,4 +1,4 @@
--- How a verb is called, put out piece by piece.
+-- The usage of a verb, written piece by piece.
 use Rattle.std.proofs.Common.{◌≡◌, ℕ, List, ◌++◌, ap, ◌∙◌}
 use Rattle.std.proofs.lemmas.List.{append_assoc}
 

@@ -1,6 +1,6 @@
--- What the help says: a line for each verb, from the table of requests, and a sentence for each refusal.
--- No manual page has this: the verbs are those of systemctl(1), the rest is the project's own (docs/FORMATS.md, "The program").
--- The help of the client stands on this file.
+-- The help of the client: a line for each verb, from the table of requests, and a sentence for each refusal. No
+-- manual page has this: the verbs are those of systemctl(1), the rest is the project's own (docs/FORMATS.md, "The
+-- program"). The help of the client stands on this file.
 use Rattle.std.specs.Prelude.{◌≡◌, ℕ, List, [], ◌++◌, Bool, Option, Some, None, codes, decimal, filter, flat_map, if◌then◌else◌, String, string_bytes}
 use Rattle.std.specs.declared.alloc.Global.{Global}
 use Rattle.um_model.specs.Requests.{Row, row_of, verbs_in}
@@ -13,15 +13,15 @@ use Rattle.um_ctl.specs.Words.{is_argument, takes_mode, takes_text}
 abbrev pub between : List ℕ → List ℕ → List ℕ → List ℕ
 between left right name = left ++ (name ++ right)
 
--- the fields that arguments tell, each between these
+-- the fields that are arguments, each between these
 abbrev pub arguments_shown : List ℕ → List ℕ → List (List ℕ) → List ℕ
 arguments_shown left right names = flat_map (between left right) (filter is_argument names)
 
--- these words, where this holds
+-- these words, if this holds
 abbrev pub words_where : Bool → List ℕ → List ℕ
 words_where holds words = if holds then words else []
 
--- how a verb is called: `start [--mode <MODE>] <unit>`, `put-file <path> < FILE`
+-- the usage of a verb: `start [--mode <MODE>] <unit>`, `put-file <path> < FILE`
 abbrev pub verb_usage : Row → List ℕ
 verb_usage r =
     r.text ++ (words_where (takes_mode r) (codes " [--mode <MODE>]")

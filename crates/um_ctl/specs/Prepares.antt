@@ -1,6 +1,5 @@
--- What is prepared of words before anything is connected, and why nothing was told in the end.
--- No manual page has this: it is the project's own (docs/FORMATS.md, "The program").
--- The client stands on this file.
+-- The request that is prepared from the words before any connection, and why there is no report in the end. No manual
+-- page has this: it is the project's own (docs/FORMATS.md, "The program"). The client stands on this file.
 use Rattle.std.specs.Prelude.{⊤, ◌≡◌, ℕ, List, true, Option, Some, None, map, option_map, length, codes, IsUtf8, Vec}
 use Rattle.std.specs.Io.KnownBytes.{Keeps}
 use Rattle.std.specs.declared.alloc.Global.{Global}
@@ -18,19 +17,20 @@ use Rattle.um_ctl.specs.declared.fault.CtlFault.TheVariants.{Usage, TooLarge, No
 use Rattle.um_ctl.specs.declared.reply.Told.{Told}
 use Rattle.um_ctl.specs.declared.words.Words.{Words}
 
--- the verb that the words ask for; none where they are wrong
+-- the verb of the words; none if they are wrong
 abbrev pub verb_told : Words → Option Verb
 verb_told words = verb_of words.verb.now (length words.arguments.now) (option_map (λ s. s.now) words.mode)
 
--- the words' own verb, and a text that a manager reads as the request of that verb with the words' arguments and mode, and with
--- the text of a file where the verb takes one
+-- the words' own verb, and a text that a manager reads as the request of that verb with the words' arguments and
+-- mode, and with the text of a file if the verb takes one
 abbrev pub Prepares : Words → Option (List ℕ) → Option (List ℕ) → Verb × Vec ℕ Global → Type 0
 Prepares words old new (verb, bytes) =
     (verb_told words ≡ Some verb)
     × (text : Option (List ℕ)) × IsTextRead (takes_text (row_of verb)) old new text
     × IsReadAs bytes.items (request_data verb (map (λ s. s.now) words.arguments.now) text (option_map (λ s. s.now) words.mode))
 
--- why nothing was prepared: wrong words are told before the input is read, a text that is too long before one that is no text
+-- why nothing was prepared: wrong words are a fault before the input is read, a text that is too long before one that
+-- isn't UTF-8
 abbrev pub IsUnprepared : Option (List ℕ) → Option (List ℕ) → CtlFault → Type 0
 IsUnprepared old new Usage = Keeps old new
 IsUnprepared old new TooLarge = IsTooLong old new
@@ -39,7 +39,7 @@ IsUnprepared old new (Input e) = ⊤
 IsUnprepared old new NoMemory = ⊤
 IsUnprepared old new other = ⊥
 
--- why nothing was told: nothing was prepared, or else the connection failed
+-- why there is no report: nothing was prepared, or else the connection failed
 abbrev pub IsUntold : Words → Option (List ℕ) → Option (List ℕ) → CtlFault → Type 0
 IsUntold words old new Usage = Keeps old new
 IsUntold words old new TooLarge = IsTooLong old new
@@ -48,26 +48,26 @@ IsUntold words old new (Input e) = ⊤
 IsUntold words old new NoMemory = ⊤
 IsUntold words old new other = (prepared : Verb × Vec ℕ Global) × Prepares words old new prepared
 
--- the text is JSON and says this
+-- the text is this value in JSON
 abbrev pub IsJson : List ℕ → Data → Type 0
 IsJson bytes d = IsUtf8 bytes × (read bytes ≡ Some d)
 
--- what is told of the text of a reply to the verb
+-- the report of the text of a reply to the verb
 abbrev pub TellsReply : Verb → List ℕ → Told → Type 0
 TellsReply verb bytes told = (d : Data) × IsJson bytes d × (is_plain (get (codes "value") d) ≡ true → told_of verb d ≡ Some (told_view told))
 
--- what was prepared was asked, and a reply to it told
+-- a request was prepared, and this is the report of a reply to it
 abbrev pub IsAsked : Words → Option (List ℕ) → Option (List ℕ) → Told → Type 0
 IsAsked words old new told =
     (prepared : Verb × Vec ℕ Global) × Prepares words old new prepared × (bytes : List ℕ) × TellsReply prepared.0 bytes told
 
--- why nothing was told of the text of a reply to the verb: it is none, or memory was wanted
+-- why the text of a reply to the verb has no report: it is no reply, or there was no memory
 abbrev pub IsNoReply : Verb → List ℕ → CtlFault → Type 0
 IsNoReply verb bytes NoReply = (d : Data) → IsJson bytes d → is_plain (get (codes "value") d) ≡ true → told_of verb d ≡ None
 IsNoReply verb bytes NoMemory = ⊤
 IsNoReply verb bytes other = ⊥
 
--- only a time that was told is up
+-- only a time that is given can be up
 abbrev pub IsLateBy : Option ℕ → CtlFault → Type 0
 IsLateBy timeout (Late seconds) = timeout ≡ Some seconds
 IsLateBy timeout other = ⊤

@@ -1,6 +1,5 @@
--- What is taken of an input: the text of a file, and the frame of a reply.
--- No manual page has this: it is the project's own protocol (docs/FORMATS.md, "Frames" and "The program").
--- The client stands on this file.
+-- The parts that are read from an input: the text of a file, and the frame of a reply. No manual page has this: it is
+-- the project's own protocol (docs/FORMATS.md, "Frames" and "The program"). The client stands on this file.
 use Rattle.std.specs.Prelude.{◌≡◌, ◌≤◌, ◌<◌, ℕ, List, ◌++◌, length, Bool, true, false, Option, Some, None, IsUtf8, string_bytes}
 use Rattle.std.specs.Io.KnownBytes.{Appends, Consumes, IsAtEnd, Keeps}
 use Rattle.byteorder.specs.Endian.{big_number}
@@ -13,21 +12,21 @@ use Rattle.um_ctl.specs.declared.text.FileText.TheVariants.{Text, TooLarge, NoTe
 abbrev pub text_limit : ℕ
 text_limit = 65536
 
--- so much was read of the input that it is too long for a text of a file
+-- the bytes read from the input are too many for the text of a file
 abbrev pub IsTooLong : Option (List ℕ) → Option (List ℕ) → Type 0
 IsTooLong old new = (bytes : List ℕ) × Consumes old new bytes × (text_limit < length bytes)
 
--- the input up to its end isn't too long, and no text
+-- the input up to its end isn't too long, and isn't UTF-8
 abbrev pub IsUnreadable : Option (List ℕ) → Option (List ℕ) → Type 0
 IsUnreadable old new = (bytes : List ℕ) × Consumes old new bytes × (length bytes ≤ text_limit) × (¬ IsUtf8 bytes) × IsAtEnd new
 
--- the input is a text of a file up to its end, or it is too long, or no text
+-- the input up to its end is the text of a file, or it is too long, or isn't UTF-8
 abbrev pub IsFileText : Option (List ℕ) → Option (List ℕ) → FileText → Type 0
 IsFileText old new (Text text) = Consumes old new (string_bytes text) × (length (string_bytes text) ≤ text_limit) × IsAtEnd new
 IsFileText old new TooLarge = IsTooLong old new
 IsFileText old new NoText = IsUnreadable old new
 
--- a text was read, where one is taken
+-- a text was read, if the verb takes one
 abbrev pub IsTextRead : Bool → Option (List ℕ) → Option (List ℕ) → Option (List ℕ) → Type 0
 IsTextRead true old new (Some text) = Consumes old new text × (length text ≤ text_limit) × IsAtEnd new
 IsTextRead true old new None = ⊥
@@ -39,6 +38,6 @@ abbrev pub TakesReply : Option (List ℕ) → Option (List ℕ) → List ℕ →
 TakesReply old new reply =
     (header : List ℕ) × (length header ≡ 4) × (big_number 4 header ≡ length reply) × (length reply ≤ reply_limit) × Consumes old new (header ++ reply)
 
--- a beginning of the frame of a request was put out, and nothing else
+-- a beginning of the frame of a request was written, and nothing else
 abbrev pub BeginsFrame : List ℕ → Option (List ℕ) → Option (List ℕ) → Type 0
 BeginsFrame request old new = (front more : List ℕ) × (frame_of request ≡ front ++ more) × Appends old new front

@@ -1,6 +1,5 @@
--- What is printed for a reply, and with which status the program ends.
--- No manual page has this: texts and statuses are the project's own (docs/FORMATS.md, "The program").
--- The client stands on this file.
+-- The text that is printed for a reply, and the exit status of the program. No manual page has this: texts and
+-- statuses are the project's own (docs/FORMATS.md, "The program"). The client stands on this file.
 use Rattle.std.specs.Prelude.{ℕ, List, [], ◌∷◌, ◌++◌, Bool, true, false, not, ◌==◌, Option, Some, None, is_some, option_map, option_and_then, find, flat_map, codes, decimal, if◌then◌else◌}
 use Rattle.std.specs.List.{list_all}
 use Rattle.serde_json.specs.Data.{Data, Items, no_items, item}
@@ -14,7 +13,7 @@ use Rattle.um_model.specs.declared.requests.Verb.{Verb}
 use Rattle.um_model.specs.declared.requests.Verb.TheVariants as verb
 use Rattle.um_ctl.specs.Shown.{shown}
 
--- what goes to standard output, what to standard error, and the exit status
+-- the text for standard output, the text for standard error, and the exit status
 pub record Told : Type 0 where
   pub output : List ℕ
   pub error : List ℕ
@@ -28,7 +27,7 @@ done text status = record { output = text; error = []; status = status }
 abbrev pub line : List ℕ → List ℕ
 line text = text ++ 10 ∷ []
 
--- a detail stands behind a space
+-- a detail after a space
 abbrev pub spaced : List ℕ → List ℕ
 spaced text = 32 ∷ text
 
@@ -56,7 +55,7 @@ abbrev pub data_in : Items → List Data
 data_in no_items = []
 data_in (item d ds) = d ∷ data_in ds
 
--- the text, where the value is one
+-- the text, if the value is one
 abbrev pub text_in : Option (List ℕ) → List (List ℕ)
 text_in None = []
 text_in (Some text) = text ∷ []
@@ -75,7 +74,7 @@ details_in d = option_map data_in (option_and_then as_array (get (codes "detail"
 abbrev pub number_in : Data → Option ℕ
 number_in d = option_and_then as_u64 (option_and_then as_number (get (codes "error") d))
 
--- the refusal that a reply tells: each of its details has to be a text
+-- the refusal in a reply: each of its details has to be a text
 unfoldable pub refused_in : Data → Option Refused
 refused_in d = do
   n ← number_in d
@@ -88,18 +87,18 @@ abbrev pub is_word : List (List ℕ) → Option (List ℕ) → Bool
 is_word words None = false
 is_word words (Some word) = is_among word words
 
--- how a unit is enabled that counts as not enabled
+-- the states of a unit that count as not enabled
 abbrev pub not_enabled : List (List ℕ)
 not_enabled = codes "not-found" ∷ codes "masked" ∷ codes "disabled" ∷ []
 
--- what `is-active`, `is-failed` and `is-enabled` find is told by the status too
+-- the answers of `is-active`, `is-failed` and `is-enabled` are also shown by the exit status
 abbrev pub status_of : Verb → Data → ℕ
 status_of verb.IsActive value = if is_word (codes "active" ∷ []) (as_str value) then 0 else 3
 status_of verb.IsFailed value = if is_word (codes "failed" ∷ []) (as_str value) then 0 else 3
 status_of verb.IsEnabled value = if is_word not_enabled (as_str value) then 3 else 0
 status_of v value = 0
 
--- a value is printed as compact JSON; where there is none, nothing is
+-- a value is printed as compact JSON; without a value nothing is printed
 abbrev pub done_told : Verb → Option Data → Told
 done_told v None = done [] 0
 done_told v (Some value) = done (line (compact_text value)) (status_of v value)
@@ -109,11 +108,11 @@ told_by v d None = None
 told_by v d (Some true) = Some (done_told v (get (codes "value") d))
 told_by v d (Some false) = option_map refused_told (refused_in d)
 
--- what is told of a reply to the verb; none where it is no reply
+-- the report of a reply to the verb; none if it is no reply
 abbrev pub told_of : Verb → Data → Option Told
 told_of v d = told_by v d (option_and_then as_bool (get (codes "ok") d))
 
--- the value has no float, as none of a manager's replies has
+-- the value has no float; no reply of a manager has one
 abbrev pub is_plain : Option Data → Bool
 is_plain None = true
 is_plain (Some d) = not (has_float d)

@@ -1,4 +1,4 @@
-//! Connections to a manager, until one is read or the patience is over.
+//! Connects to a manager until one reads the request or the patience is over.
 
 ghost use Rattle.std.specs.Prelude.{◌≢◌, ◌<◌, ◌^◌, length, IfErr};
 ghost use Rattle.um_ctl.specs.Prepares.{IsOfConnection};
@@ -22,7 +22,7 @@ fn is_closed(error: &io::Error) -> bool {
     )
 }
 
-/// What a fault of a connection is, by whether a byte of a reply came and by the time that is told for it.
+/// The client's fault for a fault of a connection, given whether a byte of a reply came, and the time for the reply.
 fn fault_by(fault: Fault, has_heard: bool, timeout: Option<u32>) -> CtlFault
     ensures kind { IsOfConnection timeout result }
     ensures other { result ≢ CtlFault.Usage }
@@ -51,7 +51,7 @@ fn is_nobody(fault: &CtlFault) -> bool {
     }
 }
 
-/// The text of the reply to a request, over a connection of its own.
+/// The text of the reply to a request, over one connection.
 fn ask_once<R: Net + Clock>(
     rt: &R,
     alloc: Global,
@@ -75,7 +75,8 @@ fn ask_once<R: Net + Clock>(
     }
 }
 
-/// The text of the reply to a request; where nobody is there to read it, it connects again until the time for that is up.
+/// The text of the reply to a request. While nobody is there to read it, it connects again until the time for that is
+/// up.
 pub(crate) fn reply_of<R: Net + Clock>(
     rt: &R,
     alloc: Global,

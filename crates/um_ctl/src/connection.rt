@@ -45,10 +45,10 @@ fn file_text<I: Read>(alloc: Global, verb: Verb, input: &mut I) -> Result<Option
     }
 }
 
-/// The verb that the words ask for, and the text of its request. Nothing is connected yet.
+/// The verb of the words, and the text of its request. Nothing is connected yet.
 ///
-/// `Usage` for wrong words, before the input is read; then `TooLarge` and `NoText` for the text of a file; `Input` where the input
-/// can't be read.
+/// `Usage` for wrong words, before the input is read; then `TooLarge` and `NoText` for the text of a file; `Input` if
+/// the input can't be read.
 pub fn prepare<I: Read>(
     alloc: Global,
     words: &Words,
@@ -71,7 +71,7 @@ fn cut_short() -> Fault {
     Fault::Read(io::Error::from(ErrorKind::UnexpectedEof))
 }
 
-/// Writes the frame of a request, and gives the text of the reply.
+/// Writes the frame of a request, and returns the text of the reply.
 pub fn exchange<R: Read, W: Write>(
     alloc: Global,
     output: &mut W,
@@ -99,7 +99,7 @@ pub fn exchange<R: Read, W: Write>(
     Ok(reply)
 }
 
-/// What is told of the text of a reply to the verb.
+/// The report of the text of a reply to the verb.
 fn tell_reply(alloc: Global, verb: Verb, bytes: &[u8]) -> Result<Told, CtlFault>
     ensures told { IfOk result (TellsReply verb bytes.now) }
     ensures err { IfErr result (IsNoReply verb bytes.now) }
@@ -115,12 +115,13 @@ fn tell_reply(alloc: Global, verb: Verb, bytes: &[u8]) -> Result<Told, CtlFault>
     }
 }
 
-/// Asks the manager at a socket for what the words say, with the text of a file from the input.
+/// Sends the request of the words to the manager at a socket, with the text of a file from the input.
 ///
-/// The faults of `prepare` come first, before it connects; then `NoConnection` where nobody serves the socket; `Unread` where the connection
-/// was closed before a byte of a reply came; `Read` and `Write` for the connection; `Late` where the time for the reply is up, if one is told:
-/// the request may have been taken all the same; `NoReply`. `NoConnection` for want of a socket or of a server, and `Unread`, come only once
-/// the time for retries is up.
+/// The faults of `prepare` come first, before it connects; then `NoConnection` if nobody serves the socket; `Unread`
+/// if the connection was closed before a byte of a reply came; `Read` and `Write` for the connection; `Late` if the
+/// time for the reply is up, if one is given: the request may have been taken all the same; `NoReply`.
+/// `NoConnection`, for lack of a socket or of a server, and `Unread` are returned only once the time for retries is
+/// up.
 #[tactic(auto, using(crate::proofs::Untold::late_before))]
 pub fn ask<N: Net + Clock, I: Read>(
     rt: &N,

@@ -1,5 +1,5 @@
-//! Text as it is shown on standard error, where a control character of a name, a path or a key, or a mark that turns the direction of text,
-//! could mislead a terminal or a script.
+//! Text as it is shown on standard error: a control character of a name, a path or a key, or a mark that turns the
+//! direction of text, could mislead a terminal or a script.
 
 ghost use Rattle.std.specs.Prelude.{◌≡◌, ◌++◌, ◌<◌, IfOk, OnOk, flat_map, string_bytes};
 ghost use Rattle.std.specs.Char.{digit_char};
@@ -18,7 +18,7 @@ pub(crate) fn hex_digit(n: u8) -> char
     char::from(if n < 10 { b'0' + n } else { b'a' - 10 + n })
 }
 
-/// Puts `\x` and the two digits of a byte.
+/// Appends `\x` and the two digits of a byte.
 fn push_byte(text: &mut String, byte: u8) -> Result<(), AllocError>
     ensures { OnOk result (string_bytes text.new ≡ string_bytes text.old ++ byte_escape byte) }
 {
@@ -27,7 +27,7 @@ fn push_byte(text: &mut String, byte: u8) -> Result<(), AllocError>
     text.push(hex_digit(byte % 16))
 }
 
-/// Puts `\x` and two digits for each of the bytes.
+/// Appends `\x` and two digits for each of the bytes.
 fn push_bytes(text: &mut String, bytes: &[u8]) -> Result<(), AllocError>
     ensures { OnOk result (string_bytes text.new ≡ string_bytes text.old ++ flat_map byte_escape bytes.now) }
 {
@@ -47,7 +47,7 @@ pub(crate) fn is_direction(c: char) -> bool
     )
 }
 
-/// Puts a character as it is shown.
+/// Appends a character as it is shown.
 #[tactic(auto, using(crate::proofs::ShownLaws::escapes_of_misleading))]
 fn push_shown(text: &mut String, c: char) -> Result<(), AllocError>
     ensures { OnOk result (string_bytes text.new ≡ string_bytes text.old ++ encode_utf8_all (model.shown_char c)) }
@@ -60,9 +60,9 @@ fn push_shown(text: &mut String, c: char) -> Result<(), AllocError>
     }
 }
 
-/// The text as it is shown on standard error: a control character (below U+0020, and U+007F to U+009F) and a mark of direction (U+061C, U+200E,
-/// U+200F, U+202A to U+202E, U+2066 to U+2069) as `\x` and two lower-case hexadecimal digits for each of its bytes in UTF-8, so a line feed as
-/// `\x0a`; any other character as it is.
+/// The text as it is shown on standard error. A control character (below U+0020, and U+007F to U+009F) and a mark of
+/// direction (U+061C, U+200E, U+200F, U+202A to U+202E, U+2066 to U+2069) become `\x` and two lower-case hexadecimal
+/// digits for each of their bytes in UTF-8; a line feed becomes `\x0a`. Any other character is shown as it is.
 pub fn shown(alloc: Global, text: &str) -> Result<String, AllocError>
     ensures { IfOk result (λ s. string_bytes s ≡ model.shown text.now) }
 {

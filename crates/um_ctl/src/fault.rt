@@ -1,3 +1,4 @@
+//! The faults of the client, and their exit statuses.
 ghost use Rattle.std.specs.Prelude.{◌≡◌};
 ghost use Rattle.um_ctl.specs.View.{fault_of, status_of};
 
@@ -18,7 +19,7 @@ pub enum CtlFault {
     NoConnection(io::Error),
     /// The connection was closed before the frame was read whole: the manager has 64 clients, or it ended.
     Unread,
-    /// No reply came within so many seconds.
+    /// No reply came within this many seconds.
     Late(u32),
     /// Standard input couldn't be read.
     Input(io::Error),
@@ -26,14 +27,14 @@ pub enum CtlFault {
     Read(io::Error),
     /// The connection couldn't be written.
     Write(io::Error),
-    /// What came is no reply.
+    /// The received bytes are no reply.
     NoReply,
     /// A growth of memory was refused.
     NoMemory,
 }
 
 impl CtlFault {
-    /// The exit status: 1 refused, 2 for wrong words, 4 where nobody read the request, 5 where reading or writing failed, 6 where the time
+    /// The exit status: 1 refused, 2 wrong words, 4 nobody read the request, 5 reading or writing failed, 6 the time
     /// was up.
     pub fn status(&self) -> u8
         ensures { result ≡ status_of self.now }

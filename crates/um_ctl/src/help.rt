@@ -9,7 +9,7 @@ use crate::words::{is_among, is_argument, takes_text};
 use std::alloc::{AllocError, Global};
 use um_proto::{Mode, Verb, row_of, verbs_in};
 
-/// Puts the fields that arguments tell, each between these.
+/// Appends the fields that are arguments, each between these.
 fn push_arguments(
     text: &mut String,
     left: &str,
@@ -28,21 +28,21 @@ fn push_arguments(
     Ok(())
 }
 
-/// Whether a mode may be told to the verb.
+/// Whether a mode may be given to the verb.
 fn takes_mode(verb: Verb) -> bool
     ensures { result ≡ takes_mode_of (table.row_of verb) }
 {
     is_among("mode", row_of(verb).optional)
 }
 
-/// Puts the words, where this holds.
+/// Appends the words, if this holds.
 fn push_where(text: &mut String, holds: bool, words: &str) -> Result<(), AllocError>
     ensures { OnOk result (string_bytes text.new ≡ string_bytes text.old ++ model.words_where holds words.now) }
 {
     if holds { text.push_str(words) } else { Ok(()) }
 }
 
-/// Puts how the verb is called: `start [--mode <MODE>] <unit>`.
+/// Appends the usage of the verb: `start [--mode <MODE>] <unit>`.
 fn push_usage(text: &mut String, verb: Verb) -> Result<(), AllocError>
     ensures { OnOk result (string_bytes text.new ≡ string_bytes text.old ++ model.verb_usage (table.row_of verb)) }
 {
@@ -55,7 +55,7 @@ fn push_usage(text: &mut String, verb: Verb) -> Result<(), AllocError>
     Ok(())
 }
 
-/// Puts the line of the verb.
+/// Appends the line of the verb.
 fn push_line(text: &mut String, verb: Verb) -> Result<(), AllocError>
     ensures { OnOk result (string_bytes text.new ≡ string_bytes text.old ++ model.verb_line verb) }
 {
@@ -64,8 +64,8 @@ fn push_line(text: &mut String, verb: Verb) -> Result<(), AllocError>
     text.push_str("\n")
 }
 
-/// A line for each verb that a manager knows at its socket: the verb with its arguments in their order, `<unit>` where one has to be given
-/// and `[unit]` where it may be left out.
+/// A line for each verb that a manager knows at its socket: the verb with its arguments in their order, a required
+/// one as `<unit>`, an optional one as `[unit]`.
 pub fn verb_lines(alloc: Global) -> Result<String, AllocError>
     ensures { IfOk result (λ s. string_bytes s ≡ model.verb_lines) }
 {

@@ -1,4 +1,5 @@
-//! The client of a manager: words become the frame of exactly the request that they mean, and a reply what is printed and the exit status.
+//! The client of a manager: words become the frame of exactly the request that they mean, and a reply becomes the
+//! printed text and the exit status.
 #![tactic(auto)]
 
 mod asking;

@@ -1,4 +1,4 @@
-//! What each refusal means to an operator.
+//! The meaning of each refusal to an operator.
 
 ghost use Rattle.std.specs.Prelude.{◌≡◌, IfOk, is_some};
 ghost use Rattle.um_ctl.specs.Help.{MeansRefusal};
@@ -7,7 +7,8 @@ ghost use Rattle.um_ctl.specs.Told as model;
 use crate::reply::name_of;
 use std::alloc::{AllocError, Global};
 
-/// What the refusal of this number means and what to do about it, in one sentence. None where there is none.
+/// The meaning of the refusal of this number and what to do about it, in one sentence. `None` if there is no such
+/// refusal.
 pub fn meaning(number: u64) -> Option<&'static str>
     ensures { is_some result ≡ is_some (model.name_of number) }
 {
@@ -58,7 +59,7 @@ pub fn meaning(number: u64) -> Option<&'static str>
     Some(sentence)
 }
 
-/// The line of `umd help E4`: number, name and what it means. None where there is no refusal of this number.
+/// The line of `umd help E4`: number, name and meaning. `None` if there is no refusal of this number.
 pub fn meaning_line(alloc: Global, number: u64) -> Result<Option<String>, AllocError>
     ensures { IfOk result (MeansRefusal number) }
 {

@@ -1,4 +1,4 @@
-//! What is told of a reply.
+//! The report of a reply: text and exit status.
 
 ghost use Rattle.std.specs.Prelude.{◌≡◌, ◌++◌, true, IfOk, OnOk, codes, flat_map, option_map, map, string_bytes};
 ghost use Rattle.std.specs.List.{list_all};
@@ -14,12 +14,12 @@ use serde_json::Value;
 use std::alloc::{AllocError, Global};
 use um_proto::Verb;
 
-/// What is told of a reply.
+/// The report of a reply.
 #[derive(Debug, Drop)]
 pub struct Told {
-    /// What goes to standard output.
+    /// The text for standard output.
     pub output: String,
-    /// What goes to standard error.
+    /// The text for standard error.
     pub error: String,
     /// The exit status.
     pub status: u8,
@@ -57,7 +57,7 @@ pub(crate) fn name_of(number: u64) -> Option<&'static str>
     Some(name)
 }
 
-/// Adds the details, each behind a space.
+/// Adds the details, each after a space.
 fn add_details(text: &mut String, details: &[Value]) -> Result<(), AllocError>
     ensures { OnOk result (string_bytes text.new ≡ string_bytes text.old ++ flat_map model.spaced (model.texts_in (map view details.now))) }
 {
@@ -70,14 +70,14 @@ fn add_details(text: &mut String, details: &[Value]) -> Result<(), AllocError>
     Ok(())
 }
 
-/// The number of the refusal that a reply tells.
+/// The number of the refusal in a reply.
 fn number_in(reply: &Value) -> Option<u64>
     ensures { result ≡ model.number_in (view reply.now) }
 {
     reply.get("error")?.as_u64()
 }
 
-/// The details of the refusal that a reply tells.
+/// The details of the refusal in a reply.
 fn details_in(reply: &Value) -> Option<&Vec<Value>>
     ensures { option_map (λ v. map view v.now.items) result ≡ model.details_in (view reply.now) }
 {
@@ -91,7 +91,7 @@ fn are_texts(values: &[Value]) -> bool
     values.iter().all(Value::is_string)
 }
 
-/// What a reply tells of a refusal.
+/// A refusal in a reply.
 #[derive(Clone, Copy)]
 struct Refused<'v> {
     number: u64,
@@ -99,7 +99,7 @@ struct Refused<'v> {
     details: &'v [Value],
 }
 
-/// The refusal that a reply tells; each of its details has to be a text.
+/// The refusal in a reply; each of its details has to be a text.
 #[tactic(auto, unfolding(crate::specs::Told::refused_in))]
 fn refused_in(reply: &Value) -> Option<Refused<'_>>
     ensures { option_map (λ r. refused_of r.number r.name.now (model.texts_in (map view r.details.now))) result ≡ model.refused_in (view reply.now) }
@@ -117,7 +117,7 @@ fn refused_in(reply: &Value) -> Option<Refused<'_>>
     })
 }
 
-/// How a refusal is written: `E4 NotFound b.service`.
+/// The text of a refusal: `E4 NotFound b.service`.
 fn refusal_text(alloc: Global, refused: Refused<'_>) -> Result<String, AllocError>
     ensures { IfOk result (λ s. string_bytes s ≡ model.refusal_text (refused_of refused.entry.number refused.entry.name.now (model.texts_in (map view refused.entry.details.now)))) }
 {
@@ -140,7 +140,7 @@ fn refusal_line(alloc: Global, refused: Refused<'_>) -> Result<String, AllocErro
     Ok(line)
 }
 
-/// What `is-active`, `is-failed` and `is-enabled` find is told by the status too.
+/// The answers of `is-active`, `is-failed` and `is-enabled` are also shown by the exit status.
 fn status_of(verb: Verb, value: &Value) -> u8
     ensures { result ≡ model.status_of verb (view value.now) }
 {
@@ -156,7 +156,7 @@ fn status_of(verb: Verb, value: &Value) -> u8
     }
 }
 
-/// What is told of a reply that isn't refused.
+/// The report of a reply that isn't a refusal.
 fn done_told(alloc: Global, verb: Verb, value: Option<&Value>) -> Result<Told, AllocError>
     ensures { IfOk result (λ t. model.is_plain (option_map (λ v. view v.now) value.entry) ≡ true → told_view t ≡ model.done_told verb (option_map (λ v. view v.now) value.entry)) }
 {
@@ -177,7 +177,7 @@ fn done_told(alloc: Global, verb: Verb, value: Option<&Value>) -> Result<Told, A
     })
 }
 
-/// What is told of a refusal.
+/// The report of a refusal.
 fn refused_told(alloc: Global, refused: Refused<'_>) -> Result<Told, AllocError>
     ensures { IfOk result (λ t. told_view t ≡ model.refused_told (refused_of refused.entry.number refused.entry.name.now (model.texts_in (map view refused.entry.details.now)))) }
 {
@@ -189,8 +189,8 @@ fn refused_told(alloc: Global, refused: Refused<'_>) -> Result<Told, AllocError>
     })
 }
 
-/// What is told of a reply to the verb: its value as compact JSON and a line feed on standard output, or the line of its refusal
-/// on standard error. None where it is no reply.
+/// The report of a reply to the verb: its value as compact JSON and a line feed on standard output, or the line of
+/// its refusal on standard error. `None` if it is no reply.
 pub fn told_of(alloc: Global, verb: Verb, reply: &Value) -> Result<Option<Told>, AllocError>
     ensures { IfOk result (λ o. model.is_plain (get (codes "value") (view reply.now)) ≡ true → option_map told_view o ≡ model.told_of verb (view reply.now)) }
 {

@@ -1,4 +1,4 @@
-//! JSON as it goes to a terminal, which a character of a name or a text could mislead.
+//! JSON for a terminal, which a character of a name or a text could mislead.
 
 ghost use Rattle.std.specs.Prelude.{◌≡◌, ◌++◌, ◌<◌, ◌%◌, IfOk, OnOk, string_bytes};
 ghost use Rattle.std.specs.Char.{digit_char};
@@ -8,7 +8,7 @@ ghost use Rattle.um_ctl.specs.Shown as model;
 use crate::escapes::{hex_digit, is_direction};
 use std::alloc::{AllocError, Global};
 
-/// Whether a terminal may be misled by the character, which JSON has as it is.
+/// Whether the character may mislead a terminal, and JSON doesn't escape it.
 fn misleads(c: char) -> bool
     ensures { result ≡ model.misleads_in_json c }
 {
@@ -23,7 +23,7 @@ fn last_digit(n: u32) -> char
     hex_digit((n % 16) as u8)
 }
 
-/// Puts JSON's escape of a character.
+/// Appends JSON's escape of a character.
 fn push_escape(text: &mut String, c: char) -> Result<(), AllocError>
     ensures { OnOk result (string_bytes text.new ≡ string_bytes text.old ++ model.json_escape c) }
 {
@@ -35,7 +35,7 @@ fn push_escape(text: &mut String, c: char) -> Result<(), AllocError>
     text.push(last_digit(n))
 }
 
-/// Puts a character as it goes to a terminal.
+/// Appends a character as it goes to a terminal.
 #[tactic(auto, using(crate::proofs::TerminalLaws::escape_of_misleading))]
 fn push_terminal(text: &mut String, c: char) -> Result<(), AllocError>
     ensures { OnOk result (string_bytes text.new ≡ string_bytes text.old ++ encode_utf8_all (model.terminal_char c)) }
@@ -47,8 +47,9 @@ fn push_terminal(text: &mut String, c: char) -> Result<(), AllocError>
     }
 }
 
-/// A text of JSON as it goes to a terminal: U+007F to U+009F and the marks of direction (U+061C, U+200E, U+200F, U+202A to U+202E, U+2066 to
-/// U+2069) as `\u` and four lower-case hexadecimal digits, which JSON reads as the same character; any other character as it is.
+/// A text of JSON as it goes to a terminal. U+007F to U+009F and the marks of direction (U+061C, U+200E, U+200F,
+/// U+202A to U+202E, U+2066 to U+2069) become `\u` and four lower-case hexadecimal digits, which JSON reads as the
+/// same character; any other character stays as it is.
 pub fn on_terminal(alloc: Global, text: &str) -> Result<String, AllocError>
     ensures { IfOk result (λ s. string_bytes s ≡ model.on_terminal text.now) }
 {

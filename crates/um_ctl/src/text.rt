@@ -1,3 +1,4 @@
+//! The text of a file from standard input.
 ghost use Rattle.std.specs.Prelude.{IfOk};
 ghost use Rattle.um_ctl.specs.Streams.{IsFileText};
 
@@ -8,13 +9,13 @@ use um_stream::{Fault, read_up_to};
 /// The longest text of a file, in bytes.
 const TEXT_LIMIT: usize = 65_536;
 
-/// What came on standard input as the text of a file.
+/// The text of a file, as it was read from standard input.
 #[derive(Debug, Drop)]
 pub enum FileText {
     Text(String),
     /// It has more than 65,536 bytes, which aren't all read.
     TooLarge,
-    /// It is no text: not UTF-8.
+    /// It isn't UTF-8.
     NoText,
 }
 

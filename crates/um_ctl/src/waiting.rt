@@ -1,4 +1,4 @@
-//! How long the client waits, and a connection that waits no longer.
+//! The times for which the client waits, and a connection that waits no longer.
 
 ghost use Rattle.std.specs.Prelude.{◌≡◌};
 
@@ -7,15 +7,15 @@ use std::os::unix::net::UnixStream;
 use std::time::{Clock, Duration, Instant};
 use std::{io, thread};
 
-/// Between two connections it waits so many milliseconds.
+/// The wait between two connections, in milliseconds.
 const APART: u64 = 50;
 
 /// How long the client waits, in seconds from its first connection.
 #[derive(Clone, Copy, Debug, PartialEq, Eq)]
 pub struct Patience {
-    /// So long it connects again where nobody is there to read the request. None: it doesn't.
+    /// How long it connects again while nobody is there to read the request. `None`: it doesn't.
     pub retry: Option<u32>,
-    /// So long it waits for the reply, retries included. None: for ever.
+    /// How long it waits for the reply, retries included. `None`: for ever.
     pub timeout: Option<u32>,
 }
 
@@ -23,7 +23,7 @@ pub struct Patience {
 #[derive(Clone, Copy)]
 pub(crate) struct Waiting {
     pub patience: Patience,
-    /// None where the system told no time.
+    /// `None` if the system gave no time.
     begun: Option<Instant>,
 }
 
@@ -46,7 +46,7 @@ impl Waiting {
         }
     }
 
-    /// How much longer a reply is waited for, more than nothing; None for ever. `TimedOut` where the time is up.
+    /// How much longer to wait for a reply, more than nothing; `None` for ever. `TimedOut` if the time is up.
     fn left<R: Clock>(self, rt: &R) -> io::Result<Option<Duration>> {
         let Some(seconds) = self.patience.timeout else {
             return Ok(None);
@@ -66,7 +66,7 @@ impl Waiting {
         }
     }
 
-    /// Waits until it connects again. `TimedOut` where the time for the reply is up.
+    /// Waits before it connects again. `TimedOut` if the time for the reply is up.
     pub fn pause<R: Clock>(self, rt: &R) -> io::Result<()> {
         let apart = Duration::from_millis(APART);
         let wait = match self.left(rt)? {
@@ -78,7 +78,7 @@ impl Waiting {
     }
 }
 
-/// A connection of which no read and no write waits longer than the patience is.
+/// A connection whose reads and writes wait no longer than the patience.
 #[derive(Drop)]
 pub(crate) struct Timed<'a, 'b, R> {
     stream: &'a UnixStream,
@@ -100,7 +100,7 @@ impl<'a, 'b, R> Timed<'a, 'b, R> {
     }
 }
 
-/// What a wait that was too long tells.
+/// The error of a wait that was too long, as `TimedOut`; other errors are unchanged.
 fn in_time(error: io::Error) -> io::Error {
     match error.kind() {
         ErrorKind::WouldBlock => io::Error::from(ErrorKind::TimedOut),

@@ -1,3 +1,4 @@
+//! The words of `umd ctl`, and the verb that they stand for.
 ghost use Rattle.std.specs.Prelude.{◌≡◌, ◌++◌, IfOk, length, map, option_map, filter, is_some};
 ghost use Rattle.um_ctl.specs.Words as model;
 ghost use Rattle.um_model.specs.Requests.{job_mode_of, is_among as is_among_texts};
@@ -6,23 +7,23 @@ ghost use Rattle.um_model.specs.Requests as table;
 use std::alloc::{AllocError, Global};
 use um_proto::{Mode, Verb, row_of, verb_in};
 
-/// The words behind `umd ctl`, as they stand.
+/// The words after `umd ctl`, as they are written.
 #[derive(Clone, Copy, Debug)]
 pub struct Words<'a> {
     pub verb: &'a str,
     pub arguments: &'a [&'a str],
-    /// What `--mode` told.
+    /// The value of `--mode`.
     pub mode: Option<&'a str>,
 }
 
-/// Whether an argument tells the field: neither the text nor the mode.
+/// Whether an argument gives the field: neither the text nor the mode.
 pub(crate) fn is_argument(name: &str) -> bool
     ensures { result ≡ model.is_argument name.now }
 {
     name != "text" && name != "mode"
 }
 
-/// How many of these fields arguments tell.
+/// How many of these fields are arguments.
 fn argument_count(names: &[&str]) -> usize
     ensures { result ≡ length (filter model.is_argument (map (λ s. s.now) names.now)) }
 {
@@ -35,7 +36,7 @@ fn argument_count(names: &[&str]) -> usize
     count
 }
 
-/// The fields, and behind them those of these that arguments tell.
+/// The fields, followed by those of these that are arguments.
 fn with_argument_names(
     found: Vec<&'static str>,
     names: &'static [&'static str],
@@ -51,7 +52,7 @@ fn with_argument_names(
     Ok(all)
 }
 
-/// The fields that arguments tell, in their order.
+/// The fields that are arguments, in their order.
 pub(crate) fn argument_names(alloc: Global, verb: Verb) -> Result<Vec<&'static str>, AllocError>
     ensures { IfOk result (λ names. map (λ s. s.now) names.items ≡ model.argument_names (table.row_of verb)) }
 {
@@ -73,7 +74,7 @@ pub(crate) fn takes_text(verb: Verb) -> bool
     is_among("text", row_of(verb).required)
 }
 
-/// Whether the verb has fields for so many arguments.
+/// Whether the verb takes this number of arguments.
 fn fits_count(verb: Verb, count: usize) -> bool
     ensures { result ≡ model.fits_count (table.row_of verb) count }
 {
@@ -82,14 +83,14 @@ fn fits_count(verb: Verb, count: usize) -> bool
     required <= count && count - required <= argument_count(row.optional)
 }
 
-/// Whether the word says what becomes of pending jobs in a command's way.
+/// Whether the word is a job mode, which decides about pending jobs in a command's way.
 fn is_job_mode(word: &str) -> bool
     ensures { result ≡ is_some (job_mode_of word.now) }
 {
     word == "replace" || word == "fail"
 }
 
-/// Whether such a mode may be told to the verb.
+/// Whether this mode may be given to the verb.
 fn fits_mode(verb: Verb, mode: Option<&str>) -> bool
     ensures { result ≡ model.fits_mode (table.row_of verb) (option_map (λ s. s.now) mode.entry) }
 {
@@ -100,8 +101,8 @@ fn fits_mode(verb: Verb, mode: Option<&str>) -> bool
 }
 
 impl<'a> Words<'a> {
-    /// The verb that is asked for. None for words that are wrong: an unknown verb, another number of arguments than the verb
-    /// has fields for, and a mode where the verb has none or by another word than `replace` and `fail`.
+    /// The verb of the words. `None` for wrong words: an unknown verb, a number of arguments that the verb doesn't
+    /// take, a mode for a verb that has none, or a mode other than `replace` and `fail`.
     pub fn verb(&self) -> Option<Verb>
         ensures { result ≡ model.verb_of self.now.verb.now (length self.now.arguments.now) (option_map (λ s. s.now) self.now.mode) }
     {

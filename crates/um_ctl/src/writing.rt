@@ -11,7 +11,7 @@ use serde_json::{Map, Value};
 use std::alloc::{AllocError, Global};
 use um_proto::{Verb, row_of};
 
-/// A field with its text goes in.
+/// Adds a field with its text.
 fn tell(
     alloc: Global,
     members: &mut Map<String, Value>,
@@ -26,7 +26,7 @@ fn tell(
     Ok(())
 }
 
-/// A field that may be left out.
+/// Adds an optional field.
 fn tell_some(
     alloc: Global,
     members: &mut Map<String, Value>,
@@ -41,7 +41,7 @@ fn tell_some(
     }
 }
 
-/// The arguments go in, each under its name.
+/// Adds the arguments, each under its name.
 fn tell_arguments(
     alloc: Global,
     members: &mut Map<String, Value>,
@@ -78,8 +78,8 @@ fn request_value(
     Ok(Value::Object(members))
 }
 
-/// The text of the request for a verb, with the arguments and the mode of the words and the text of a file: compact JSON, and
-/// read again by a manager just this request.
+/// The text of the request for a verb, with the arguments and the mode of the words and the text of a file. It is
+/// compact JSON, which a manager reads as exactly this request.
 pub fn request(
     alloc: Global,
     verb: Verb,

@@ -14,7 +14,7 @@ pub list_all-map : {X Y : Type 0} (p : Y → Bool) (f : X → Y) (xs : List X) �
 list_all-map p f [] = refl
 list_all-map p f (x ∷ xs) = ap (λ b. p (f x) && b) (list_all-map p f xs)
 
--- the keys of a map are those of the object that it is
+-- the keys of a map are those of its object
 pub keys_seen : (p : List ℕ → Bool) (es : List (String Global × Value))
     → list_all (λ k. p (string_bytes k)) (keys_of es) ≡ list_all p (model.member_keys (members_view es))
 keys_seen p [] = refl

@@ -1,4 +1,5 @@
--- How long the text of a reply is at least that tells actions: each word of a start takes its bytes, two quotes, and a comma or a bracket.
+-- The least length of the text of a reply with actions: each word of a start takes its bytes, two quotes, and a comma
+-- or a bracket.
 use Rattle.std.proofs.Common.{◌≡◌, ◌<◌, ◌≤◌, ℕ, ◌+◌, ◌-◌, ◌^◌, Bool, true, false, ◌&&◌, cond, List, [], ◌∷◌, ◌++◌, length, map, Some, None, refl, sym, ap, ◌∙◌, inl, inr, arith}
 use Rattle.std.specs.Prelude.{nat_le, nat_lt, codes}
 use Rattle.std.specs.List.{list_all, sum_by, flat_map}
@@ -35,7 +36,7 @@ escape_longer (b ∷ s) = omega (arith, byte_there b, escape_longer s, length-ap
 quoted_longer : (s : List ℕ) → length s + 2 ≤ length (quoted s)
 quoted_longer s = omega (arith, escape_longer s, length-append (escape s) (34 ∷ []))
 
--- what a value takes in a list
+-- the room of a value in a list
 abbrev room_in_list : Data → ℕ
 room_in_list d = length (compact_text d) + 1
 
@@ -95,7 +96,7 @@ valued_longer value =
 told_longer : (actions : List Action) → sizes_of 3 (flat_map words_told actions) ≤ length (compact_text (reply_data (Told actions)))
 told_longer actions = omega (arith, actions_longer actions, list_longer (map action_data actions), valued_longer (list_data action_data actions))
 
--- ---- what doesn't fit
+-- ---- texts that don't fit
 
 each_fits : (beside most : ℕ) (texts : List (List ℕ)) → sizes_of beside texts ≤ most → list_all (λ text. nat_le (size_of beside text) most) texts ≡ true
 each_fits beside most [] low = refl
@@ -103,7 +104,7 @@ each_fits beside most (t ∷ texts) low =
     let here : nat_le (size_of beside t) most ≡ true = (let cons = sum_by-cons (size_of beside) t texts in grind (arith, nat_tests)) in
     ap (λ b. b && list_all (λ text. nat_le (size_of beside text) most) texts) here ∙ each_fits beside most texts (omega (arith, sum_by-cons (size_of beside) t texts))
 
--- texts that have no room where each may take all of it are longer than it
+-- texts that don't fit, where each may take the whole room, are longer than it
 past_room : (room : Room) (texts : List (List ℕ)) → room.longest ≡ room.total → left room texts ≡ None → room.total < sizes_of room.beside texts
 past_room room texts same none = elim (cases_lt room.total (sizes_of room.beside texts)) [
   | inl high ↦ high
@@ -115,7 +116,7 @@ past_room room texts same none = elim (cases_lt room.total (sizes_of room.beside
       ∙ ap (λ b. cond b (Some (record room { total = room.total - sizes_of room.beside texts })) None) all))
 ]
 
--- a reply that tells these actions isn't told whole where their words have no room
+-- a reply with these actions isn't whole if their words don't fit
 pub not_whole : (room : Room) (actions : List Action) → room.total ≡ 2 ^ 24 → room.longest ≡ room.total → room.beside ≡ 3 → left room (flat_map words_told actions) ≡ None
     → is_told_whole (Told actions) ≡ false
 unfolding is_told_whole

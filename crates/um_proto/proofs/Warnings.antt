@@ -1,4 +1,4 @@
--- How the warnings of a shown unit stand in the text of its reply.
+-- The place of a shown unit's warnings in the text of its reply.
 use Rattle.std.proofs.Common.{◌≡◌, ◌<◌, ◌≤◌, ℕ, ◌+◌, ◌-◌, ◌^◌, Bool, true, false, List, [], ◌∷◌, ◌++◌, length, map, take, Option, Some, None, refl, sym, ap, ◌∙◌, append_assoc, arith}
 use Rattle.std.specs.Prelude.{codes, unwrap_or, option_to_list, MatchOption, Box}
 use Rattle.std.specs.declared.alloc.Global.{Global}
@@ -21,7 +21,7 @@ use Rattle.um_state.specs.declared.reply.UnitShown.{UnitShown}
 use Rattle.um_state.specs.declared.reply.Reply as reply
 use Rattle.um_state.specs.declared.reply.Reply.TheVariants as replies
 
--- ---- where they stand
+-- ---- their place
 
 regroup : (comma key value x y : List ℕ) → comma ++ (key ++ 58 ∷ (value ++ (x ++ y))) ≡ (comma ++ (key ++ 58 ∷ (value ++ x))) ++ y
 regroup comma key value x y = simp append_assoc
@@ -29,7 +29,7 @@ regroup comma key value x y = simp append_assoc
 regroup_last : (comma key x y : List ℕ) → comma ++ (key ++ 58 ∷ ((x ++ y) ++ 125 ∷ [])) ≡ (comma ++ (key ++ 58 ∷ x)) ++ (y ++ 125 ∷ [])
 regroup_last comma key x y = simp append_assoc
 
--- the text of members up to some place in that of the later ones, of which x stands before it
+-- the text of members up to some place in the later ones; x is the text of the later ones before it
 abbrev up_to : Bool → List ℕ → Data → List ℕ → List ℕ
 up_to later key value x = comma_if later ++ (quoted key ++ 58 ∷ (compact_text value ++ x))
 
@@ -38,7 +38,7 @@ split_member : (later : Bool) (key : List ℕ) (value : Data) (others : Members)
 split_member later key value others x y e =
     ap (λ text. comma_if later ++ (quoted key ++ 58 ∷ (compact_text value ++ text))) e ∙ regroup (comma_if later) (quoted key) (compact_text value) x y
 
--- the same of a last member, in its value
+-- the same for a last member, in its value
 split_last : (later : Bool) (key : List ℕ) (value : Data) (x y : List ℕ) → compact_text value ≡ x ++ y
     → members_text later (member key value no_members) ≡ (comma_if later ++ (quoted key ++ 58 ∷ x)) ++ (y ++ 125 ∷ [])
 split_last later key value x y e =
@@ -94,14 +94,14 @@ reply_split u =
     ap (λ text. 123 ∷ text) (split_member false (codes "ok") (boolean true) value _ behind at_value) in
     all ∙ ap (λ text. front u ++ text) (append_assoc (items_told u.warnings) (125 ∷ []) (125 ∷ []))
 
--- the warnings aren't looked at there
+-- the text up to the warnings doesn't depend on them
 same_front : (u : model.UnitShown) → front (without_warnings u) ≡ front u
 unfolding front unit_front
 same_front u = refl
 
--- ---- with a comma behind each
+-- ---- with a comma after each
 
--- the warnings behind the first, a comma before each
+-- the warnings after the first, a comma before each
 later : List Warning → List ℕ
 later [] = []
 later (w ∷ ws) = 44 ∷ (compact_text (warning_data w) ++ later ws)
@@ -119,7 +119,7 @@ comma_moved (w ∷ ws) =
     let text = compact_text (warning_data w) in
     ap (λ xs. 44 ∷ xs) (append_assoc text (44 ∷ []) (warnings_text ws) ∙ ap (λ xs. text ++ xs) (comma_moved ws) ∙ sym (append_assoc text (later ws) (44 ∷ [])))
 
--- all of them, with no comma behind the last
+-- all of them, with no comma after the last
 joined : Warning → List Warning → List ℕ
 joined w ws = compact_text (warning_data w) ++ later ws
 
@@ -135,7 +135,7 @@ comma_last w ws =
     let text = compact_text (warning_data w) in
     append_assoc text (44 ∷ []) (warnings_text ws) ∙ ap (λ xs. text ++ xs) (comma_moved ws) ∙ sym (append_assoc text (later ws) (44 ∷ []))
 
--- the text up to the warnings, and they without the comma behind the last
+-- the text up to the warnings, then the warnings without the comma after the last
 told_so_far : (front : List ℕ) (w : Warning) (ws : List Warning) → front ++ warnings_text (w ∷ ws) ≡ (front ++ joined w ws) ++ 44 ∷ []
 told_so_far front w ws = ap (λ xs. front ++ xs) (comma_last w ws) ∙ sym (append_assoc front (joined w ws) (44 ∷ []))
 
@@ -146,14 +146,14 @@ told_all front w ws =
 
 -- ---- as it is written
 
--- without warnings it is closed as it stands
+-- without warnings the text is closed as it is
 closed_empty : (front : List ℕ) (ws : List Warning) (text : List ℕ) → text ≡ front ++ warnings_text ws → length text ≤ length front
     → text ++ 93 ∷ 125 ∷ 125 ∷ [] ≡ front ++ (items_told ws ++ 125 ∷ 125 ∷ [])
 closed_empty front [] text is short = ap (λ xs. xs ++ 93 ∷ 125 ∷ 125 ∷ []) (is ∙ append-nil front)
 closed_empty front (w ∷ ws) text is short =
     absurd (omega (arith, short, ap length (is ∙ told_so_far front w ws), length-append (front ++ joined w ws) (44 ∷ []), length-append front (joined w ws)))
 
--- else the last comma goes
+-- otherwise the last comma is removed
 closed : (front : List ℕ) (ws : List Warning) (text popped : List ℕ) (last : ℕ) → text ≡ front ++ warnings_text ws → length front < length text
     → text ≡ popped ++ last ∷ [] → popped ++ 93 ∷ 125 ∷ 125 ∷ [] ≡ front ++ (items_told ws ++ 125 ∷ 125 ∷ [])
 closed front [] text popped last is long split = absurd (omega (arith, long, ap length (is ∙ append-nil front)))
@@ -161,7 +161,7 @@ closed front (w ∷ ws) text popped last is long split =
     let same : popped ≡ front ++ joined w ws = (same_from_push popped (front ++ joined w ws) last 44 (sym split ∙ is ∙ told_so_far front w ws)).0 in
     ap (λ xs. xs ++ 93 ∷ 125 ∷ 125 ∷ []) same ∙ sym (told_all front w ws)
 
--- the text is longer than what is written before it is closed
+-- the text is at least as long as the written text before it is closed
 longer : (front : List ℕ) (ws : List Warning) → length (front ++ warnings_text ws) ≤ length (front ++ (items_told ws ++ 125 ∷ 125 ∷ []))
 longer front [] = omega (arith, length-append front [], length-append front (93 ∷ 125 ∷ 125 ∷ []))
 longer front (w ∷ ws) =
@@ -175,12 +175,12 @@ longer front (w ∷ ws) =
 
 -- ---- the reply's own text
 
--- a value that is the reply's has its text
+-- a value that equals the reply's has the reply's text
 pub own_written : (reply : Reply) (value : Data) (text : List ℕ) → value ≡ reply_data reply → (has_float value ≡ false → text ≡ compact_text value)
     → text ≡ compact_text (reply_data reply)
 own_written reply value text is written = written (ap has_float is ∙ reply_plain reply) ∙ ap compact_text is
 
--- of a reply that shows no unit nothing is left out
+-- a reply that shows no unit is complete without warnings
 pub nothing_left_out : (r : reply.Reply) → ((u : Box UnitShown Global) → r ≡ replies.Shown u → ⊥) → unwarned (reply_of r) ≡ reply_of r
 nothing_left_out replies.Done others = refl
 nothing_left_out (replies.Shown u) others = absurd (others u refl)
@@ -193,7 +193,7 @@ nothing_left_out (replies.Jobs jobs) others = refl
 nothing_left_out (replies.Told actions) others = refl
 nothing_left_out (replies.Refused refusal) others = refl
 
--- what the text without warnings has before its last three bytes
+-- the text without warnings, except its last three bytes
 pub cut_front : (u : model.UnitShown) (text cut : List ℕ) (size : ℕ) → text ≡ compact_text (reply_data (Shown (without_warnings u))) → size ≡ length text
     → cut ≡ take (size - 3) text → cut ≡ front u
 cut_front u text cut size is of_size of_cut =
@@ -218,7 +218,7 @@ without_last_comma u begun text popped seen None size left same all is long spli
 without_last_comma u begun text popped seen (Some last) size left same all is long split of_size cases =
     closed (front u) u.warnings text popped last (is ∙ written_so_far u begun seen same all) (omega (arith, long, ap length same)) split ∙ sym (reply_split u)
 
--- a reply isn't told whole where what is written of it is past the limit
+-- a reply isn't whole if its written text is past the limit
 pub past_whole : (u : model.UnitShown) (begun : List ℕ) (seen : List Warning) → begun ≡ front u → seen ≡ u.warnings
     → 2 ^ 24 < length (begun ++ warnings_text seen) → is_told_whole (Shown u) ≡ false
 unfolding is_told_whole

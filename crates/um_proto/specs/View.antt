@@ -22,11 +22,11 @@ asked_of asked.Actions = model.OfActions
 abbrev pub request_of : Request → model.Request
 request_of r = record { at = r.at; asked = asked_of r.asked }
 
--- this of the unit that a text names
+-- this request, for the unit that a text names
 abbrev pub of_named : (List ℕ → model.Asked) → List ℕ → Result model.Asked Refused
 of_named ask unit = result_map ask (model.name_asked unit)
 
--- what fields ask for, as the texts in the frame have it
+-- the request of the fields, as the texts in the frame have it
 abbrev pub asking_of : Asking → Result model.Asked Refused
 asking_of (asking.PutFile path text) = Ok (model.command (PutFile path.now text.now))
 asking_of (asking.PutLink path target) = Ok (model.command (PutLink path.now target.now))
@@ -49,11 +49,11 @@ asking_of (asking.ProcessEnded number end) = Ok (model.OfEvent (Happened (Proces
 asking_of (asking.ProcessExecuted number) = Ok (model.OfEvent (Happened (ProcessExecuted number)))
 asking_of asking.Actions = Ok model.OfActions
 
--- a request at that moment, if one is told
+-- a request at that moment, if one is given
 abbrev pub request_at : Option ℕ → model.Asked → model.Request
 request_at at asked = record { at = at; asked = asked }
 
--- the request that a draft is, once its unit is named
+-- the request of a draft, once its unit is named
 abbrev pub request_drafted : Draft → Result model.Request Refused
 request_drafted draft = result_map (request_at draft.at) (asking_of draft.asking)
 
@@ -62,7 +62,7 @@ abbrev pub refused_for : Cause → Refused
 refused_for BadRequest = bad_request
 refused_for (UnknownVerb text) = unknown_verb text.now
 
--- what becomes of a draft, or of a cause why there is none
+-- the request of a draft, or the refusal for the cause why there is none
 abbrev pub leads_to : Result Draft Cause → Result model.Request Refused
 leads_to (Ok draft) = request_drafted draft
 leads_to (Err cause) = Err (refused_for cause)

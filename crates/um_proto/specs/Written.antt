@@ -1,6 +1,5 @@
--- What is written of a file, a unit, a job and the paths of an install, each by itself, and of warnings.
--- Follows the definition of a reply's text, which has them in place.
--- Writing replies stands on this file.
+-- The values of a file, a unit, a job and the paths of an install, each by itself, and the text of warnings. Follows
+-- the definition of a reply's text, which has them in place. Writing replies stands on this file.
 use Rattle.std.specs.Prelude.{◌≡◌, ℕ, List, [], ◌∷◌, ◌++◌, Option, Some, None, false, Vec, codes, decimal}
 use Rattle.std.specs.declared.alloc.Global.{Global}
 use Rattle.std.specs.List.{flat_map}
@@ -27,11 +26,11 @@ relinked_data made removed = object (member (codes "made") (texts_data made) (me
 abbrev pub unit_data : UnitListed → Data
 unit_data u = texts_data (u.unit ∷ active_state_text (active_state_of u.sub) ∷ sub_state_text u.sub ∷ [])
 
--- a pending job: its unit, what it does, and how far it is
+-- a pending job: its unit, its action, and its progress
 abbrev pub job_data : JobShown → Data
 job_data j = texts_data (j.unit ∷ job_kind_text j.kind ∷ job_state_text j.state ∷ [])
 
--- the words that an action tells
+-- the words of an action
 abbrev pub words_told : Action → List (List ℕ)
 words_told (SpawnProcess number words environment) = words
 words_told (SendSignal number signal) = []
@@ -45,15 +44,15 @@ abbrev pub unwarned : Reply → Reply
 unwarned (Shown u) = Shown (without_warnings u)
 unwarned reply = reply
 
--- a warning of the code as it is told, and a comma, for the JSON text of its path; 91, 44 and 93 are the bytes of [ , ]
+-- a warning of the code as text, and a comma, given the JSON text of its path; 91, 44 and 93 are the bytes of [ , ]
 abbrev pub warning_behind : List ℕ → Warning → List ℕ
 warning_behind path w = 91 ∷ (decimal (warning_number w.kind) ++ 44 ∷ (path ++ 44 ∷ (decimal w.line ++ 93 ∷ 44 ∷ [])))
 
--- these warnings as they are told, a comma behind each
+-- these warnings as text, a comma after each
 abbrev pub warnings_text : List model.Warning → List ℕ
 warnings_text = flat_map (λ w. compact_text (warning_data w) ++ 44 ∷ [])
 
--- the reply's own text; None only where the reply isn't told whole
+-- the reply's own text; `None` only if the reply isn't whole
 abbrev pub IsOwnText : Reply → Option (Vec ℕ Global) → Type 0
 IsOwnText reply None = is_told_whole reply ≡ false
 IsOwnText reply (Some text) = text.items ≡ compact_text (reply_data reply)

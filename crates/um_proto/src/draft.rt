@@ -1,4 +1,4 @@
-//! A request as it lies in its frame: what it asks for or why it asks for nothing is found without memory.
+//! A request as it is in its frame: found, or refused, without memory.
 
 ghost use Rattle.std.specs.Prelude.{◌≡◌, None, if◌then◌else◌, option_map};
 ghost use Rattle.serde_json.specs.View.{view};
@@ -11,7 +11,7 @@ use crate::verb::verb_in;
 use serde_json::Value;
 use um_model::{End, InstallVerb, JobMode, Mode, Moment, UnitVerb, Verb};
 
-/// What the fields of a request ask for. Whether `unit` names a unit isn't known yet.
+/// The meaning of a request's fields. Whether `unit` names a unit isn't known yet.
 #[derive(Clone, Copy)]
 pub enum Asking<'v> {
     PutFile {
@@ -72,7 +72,7 @@ pub enum Asking<'v> {
 /// A request with the right fields.
 #[derive(Clone, Copy)]
 pub struct Draft<'v> {
-    /// The moment that it tells.
+    /// The moment that the request gives.
     pub at: Option<Moment>,
     pub asking: Asking<'v>,
 }
@@ -143,7 +143,7 @@ fn run_asked<'v>(value: &'v Value) -> Option<Asking<'v>>
     Some(Asking::ProcessExecuted { number })
 }
 
-/// That failures are forgotten: of all units where none is told.
+/// The request to forget failures: of all units if no unit is given.
 #[tactic(auto, unfolding(um_model::specs::Requests::of_unit))]
 fn reset_asked<'v>(value: &'v Value) -> Option<Asking<'v>>
     ensures { option_map asking_of result ≡ (model.row_of verbs.ResetFailed).asks (view value.now) }
@@ -155,7 +155,7 @@ fn reset_asked<'v>(value: &'v Value) -> Option<Asking<'v>>
     Some(Asking::ResetFailed { unit: Some(unit) })
 }
 
-/// What a verb asks for with its fields.
+/// The request of a verb with its fields.
 #[tactic(auto, unfolding(um_model::specs::Requests::of_unit))]
 fn asking_with<'v>(verb: Verb, value: &'v Value) -> Option<Asking<'v>>
     ensures { option_map asking_of result ≡ (model.row_of verb).asks (view value.now) }
@@ -207,7 +207,7 @@ fn asking_with<'v>(verb: Verb, value: &'v Value) -> Option<Asking<'v>>
     }
 }
 
-/// What a verb asks for with exactly its fields.
+/// The request of a verb with exactly its fields.
 fn asking_by<'v>(mode: Mode, verb: Verb, value: &'v Value) -> Option<Asking<'v>>
     ensures { option_map asking_of result ≡ (if model.has_its_fields mode (model.row_of verb) (view value.now) then (model.row_of verb).asks (view value.now) else None) }
 {
@@ -217,7 +217,8 @@ fn asking_by<'v>(mode: Mode, verb: Verb, value: &'v Value) -> Option<Asking<'v>>
     asking_with(verb, value)
 }
 
-/// The request that an object is, or the first cause why it is none; a unit's name is looked at last, and not here.
+/// The request of an object, or the first cause why it is none. A unit's name would be checked last, and is not
+/// checked here.
 #[tactic(auto, unfolding(um_model::specs::Requests::request_of_data))]
 pub fn draft_of<'v>(mode: Mode, value: &'v Value) -> Result<Draft<'v>, Cause<'v>>
     ensures { leads_to result ≡ model.request_of_data mode (view value.now) }

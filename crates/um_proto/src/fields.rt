@@ -1,3 +1,4 @@
+//! The fields of a request, as their types.
 ghost use Rattle.std.specs.Prelude.{◌≡◌, ◌≤◌, IfSome, is_some, map, option_and_then, option_map};
 ghost use Rattle.std.specs.List.{list_all};
 ghost use Rattle.serde_json.specs.Find.{get};
@@ -8,7 +9,7 @@ use crate::verb::{may_have, row_of};
 use serde_json::Value;
 use um_model::{End, JobMode, Mode, Moment, Verb};
 
-/// The text of a field: none where it is missing, no text, or has U+0000.
+/// The text of a field: `None` if it is missing, is no text, or has U+0000.
 #[tactic(auto, unfolding(um_model::specs::Requests::text_told))]
 pub fn text_told<'v>(value: &'v Value, name: &str) -> Option<&'v str>
     ensures { option_map (λ s. s.now) result ≡ model.text_told name.now (view value.now) }
@@ -20,7 +21,7 @@ pub fn text_told<'v>(value: &'v Value, name: &str) -> Option<&'v str>
     Some(text)
 }
 
-/// The whole number that a value is, of at most this size.
+/// The whole number of a value, of at most this size.
 fn number_in(value: &Value, limit: u64) -> Option<u64>
     ensures number { result ≡ model.number_in limit (view value.now) }
     ensures within { IfSome result (λ n. n ≤ limit) }
@@ -40,7 +41,7 @@ pub fn number_told(value: &Value, name: &str, limit: u64) -> Option<u64>
     number_in(field, limit)
 }
 
-/// The moment that a request tells, if any; over a socket it tells none. None where what it tells is no moment.
+/// The moment that a request gives, if any; over a socket it gives none. `None` if the field is no moment.
 #[tactic(auto, unfolding(um_model::specs::Requests::moment_told))]
 pub fn moment_told(value: &Value, mode: Mode) -> Option<Option<Moment>>
     ensures { result ≡ model.moment_told mode (view value.now) }
@@ -55,7 +56,7 @@ pub fn moment_told(value: &Value, mode: Mode) -> Option<Option<Moment>>
     Some(Some(moment))
 }
 
-/// How a process ended: exactly one field tells it.
+/// How a process ended: exactly one field gives it.
 #[tactic(auto, unfolding(um_model::specs::Requests::end_told))]
 pub fn end_told(value: &Value) -> Option<End>
     ensures { result ≡ model.end_told (view value.now) }
@@ -80,8 +81,8 @@ pub fn end_told(value: &Value) -> Option<End>
     }
 }
 
-/// What becomes of pending jobs in a command's way; they are dropped where nothing is told. None where what is told is no such
-/// word.
+/// The job mode, which decides about pending jobs in a command's way; without the field they are dropped. `None` if
+/// the field is no such word.
 #[tactic(auto, unfolding(um_model::specs::Requests::job_mode_told))]
 pub fn job_mode_told(value: &Value) -> Option<JobMode>
     ensures { result ≡ model.job_mode_told (view value.now) }

@@ -1,4 +1,4 @@
-//! Requests and replies as JSON: `read_request` gives exactly the request that the bytes of a frame are, or the first refusal
+//! Requests and replies as JSON: `read_request` returns exactly the request of a frame's bytes, or the first refusal
 //! that holds, and `write_reply` exactly the compact text of a reply.
 #![tactic(auto)]
 

@@ -1,3 +1,4 @@
+//! Reads a request from the bytes of a frame.
 ghost use Rattle.std.specs.Prelude.{◌≡◌, string_bytes, IfOk};
 ghost use Rattle.serde_json.specs.View.{view};
 ghost use Rattle.um_model.specs.Requests as model;
@@ -16,7 +17,7 @@ use um_name::{UnitName, suffix_of};
 use um_state::{Command, Event, Happening, Query};
 use um_wire::{Refusal, bad_name, unknown_verb};
 
-/// The name with a suffix: that of a service where it has none.
+/// The name with a suffix: `.service` if it has none.
 fn completed(alloc: Global, text: &str) -> Result<String, AllocError>
     ensures { IfOk result (λ s. string_bytes s ≡ model.completed text.now) }
 {
@@ -27,7 +28,7 @@ fn completed(alloc: Global, text: &str) -> Result<String, AllocError>
     Ok(name)
 }
 
-/// The unit that a text asks for; what isn't a name is refused as it was asked.
+/// The unit of a text; a text that is no name is refused as it was sent.
 fn name_asked(alloc: Global, text: &str) -> Result<UnitName, Refusal>
     ensures { Gives (λ n. n) result (model.name_asked text.now) }
 {
@@ -50,7 +51,7 @@ fn happened(happening: Happening) -> Asked
     Asked::Event(Event::Happened(happening))
 }
 
-/// What is asked for, with its texts copied and its unit named.
+/// The request, with its texts copied and its unit named.
 fn asked_by(alloc: Global, asking: Asking) -> Result<Asked, Refusal>
     ensures { Gives asked_of result (asking_of asking.entry) }
 {
@@ -118,7 +119,7 @@ fn asked_by(alloc: Global, asking: Asking) -> Result<Asked, Refusal>
     }
 }
 
-/// The request, with its texts copied and its unit named.
+/// The request with its moment, its texts copied and its unit named.
 fn request_by(alloc: Global, draft: Draft) -> Result<Request, Refusal>
     ensures { Gives request_of result (request_drafted draft.entry) }
 {
@@ -139,7 +140,7 @@ fn refusal_for(alloc: Global, cause: Cause) -> Result<Refusal, AllocError>
     }
 }
 
-/// The request that an object is.
+/// The request of an object.
 fn request_of_value(alloc: Global, mode: Mode, value: &Value) -> Result<Request, Refusal>
     ensures { Gives request_of result (model.request_of_data mode (view value.now)) }
 {
@@ -149,11 +150,11 @@ fn request_of_value(alloc: Global, mode: Mode, value: &Value) -> Result<Request,
     }
 }
 
-/// The request that the bytes of a frame are.
+/// The request of the bytes of a frame.
 ///
-/// The first refusal that holds: `BadRequest` for bytes that are no JSON object, a verb that is missing or no text, a text with
-/// U+0000; `UnknownVerb`; `BadRequest` for a moment past 2^62 microseconds, and for fields other than the verb's; `BadName` for
-/// a unit that isn't named, with the text as it was asked; `NoMemory` in place of any of these.
+/// The first refusal that holds: `BadRequest` for bytes that are no JSON object, a verb that is missing or no text, a
+/// text with U+0000; `UnknownVerb`; `BadRequest` for a moment past 2^62 microseconds, and for fields other than the
+/// verb's; `BadName` for a unit that isn't named, with the text as it was sent; `NoMemory` in place of any of these.
 #[tactic(auto, unfolding(um_model::specs::Requests::request_of))]
 pub fn read_request(alloc: Global, bytes: &[u8], mode: Mode) -> Result<Request, Refusal>
     ensures { Gives request_of result (model.request_of mode bytes.now) }

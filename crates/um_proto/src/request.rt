@@ -1,21 +1,22 @@
+//! A request.
 use um_model::Moment;
 use um_state::{Event, Query};
 
-/// What a request asks for.
+/// The kinds of a request.
 #[derive(Drop)]
 pub enum Asked {
-    /// That something happens to the manager.
+    /// An event for the manager.
     Event(Event),
-    /// How something stands.
+    /// A question about its state.
     Query(Query),
-    /// The actions since they were last asked for.
+    /// The actions since the last such request.
     Actions,
 }
 
-/// A request.
+/// A request, with its moment.
 #[derive(Drop)]
 pub struct Request {
-    /// The moment that it tells; none where it tells none.
+    /// The moment that it gives, if any.
     pub at: Option<Moment>,
     pub asked: Asked,
 }

@@ -1,3 +1,4 @@
+//! The verbs of requests, and the fields of each.
 ghost use Rattle.std.specs.Prelude.{◌≡◌, ◌∷◌, ◌&&◌, [], map, codes};
 ghost use Rattle.std.specs.Str.{bytes_eq};
 ghost use Rattle.um_model.specs.Requests as model;
@@ -61,11 +62,11 @@ const VERBS: [Verb; 25] = [
 /// A row of the table of requests.
 #[derive(Clone, Copy)]
 pub struct Row {
-    /// The verb, as it is written.
+    /// The text of the verb.
     pub text: &'static str,
-    /// The fields that it must have.
+    /// The required fields.
     pub required: &'static [&'static str],
-    /// Those that it may have.
+    /// The optional fields.
     pub optional: &'static [&'static str],
 }
 
@@ -159,7 +160,7 @@ pub fn verbs_in(mode: Mode) -> &'static [Verb]
     }
 }
 
-/// Whether the verb is written so.
+/// Whether the verb has this text.
 fn is_written(verb: Verb, text: &str) -> bool
     ensures { result ≡ bytes_eq text.now (model.row_of verb).text }
 {

@@ -1,3 +1,4 @@
+//! Writes the text of a reply.
 ghost use Rattle.std.specs.Prelude.{◌≡◌, ◌∷◌, [], map, string_bytes, false, ◌++◌, IfOk, IsOkAnd, IsTrue, OnOk, length, unwrap_or, ◌<◌, ◌≤◌};
 ghost use Rattle.serde_json.specs.Data.{array, string};
 ghost use Rattle.std.specs.List.{flat_map};
@@ -27,7 +28,7 @@ use um_words::Room;
 /// The longest text of a reply, in bytes.
 const REPLY_LIMIT: usize = 1 << 24;
 
-/// The room of a reply for the words of its actions: each has two quotes and a comma or a bracket beside it.
+/// The room of a reply for the words of its actions: each takes two quotes and a comma or a bracket beside it.
 fn room_of_words() -> Room
     ensures total { result.total ≡ model.reply_limit }
     ensures longest { result.longest ≡ result.total }
@@ -100,7 +101,7 @@ fn refused_value(alloc: Global, refusal: &Refusal) -> Result<Value, AllocError>
     json!(in alloc; {"detail": detail_value(alloc, refusal)?, "error": refusal.number(), "ok": false})
 }
 
-/// The number of a process; 0 where there is none.
+/// The number of a process; 0 if there is none.
 fn main_number(process: Option<ProcessNumber>) -> u64
     ensures { result ≡ unwrap_or process 0 }
 {
@@ -110,7 +111,7 @@ fn main_number(process: Option<ProcessNumber>) -> u64
     }
 }
 
-/// What is told of a unit, with an empty list in place of its warnings.
+/// The value of a shown unit, with an empty list in place of its warnings.
 fn shown_value(alloc: Global, shown: &UnitShown) -> Result<Value, AllocError>
     ensures { IfOk result (λ v. view v ≡ model.shown_data (written.without_warnings (shown_of shown.now))) }
 {
@@ -142,7 +143,7 @@ fn words_value(alloc: Global, start: &Start) -> Result<Value, AllocError>
     texts_value(alloc, start.words(alloc)?.as_slice())
 }
 
-/// What an action does, to which process, and what it tells of it.
+/// An action's name, its process, and its details.
 fn told_value(
     alloc: Global,
     action: &str,
@@ -219,7 +220,7 @@ fn units_value(alloc: Global, units: &[UnitListed]) -> Result<Value, AllocError>
     Ok(Value::Array(list))
 }
 
-/// A pending job: its unit, what it does, and how far it is.
+/// A pending job: its unit, its action, and its progress.
 fn job_value(alloc: Global, job: &JobShown) -> Result<Value, AllocError>
     ensures { IfOk result (λ v. view v ≡ written.job_data (job_of job.now)) }
 {
@@ -243,14 +244,14 @@ fn valued(alloc: Global, value: Value) -> Result<Value, AllocError>
     json!(in alloc; {"ok": true, "value": value})
 }
 
-/// A reply with this value, where it could be made.
+/// A reply with this value, if it could be made.
 fn valued_by(alloc: Global, value: Result<Value, AllocError>) -> Result<Value, AllocError>
     ensures { IfOk result (λ v. IsOkAnd value (λ w. view v ≡ model.valued (view w))) }
 {
     valued(alloc, value?)
 }
 
-/// A reply, with an empty list in place of the warnings of a unit that it shows.
+/// A reply, with an empty list in place of the warnings of a shown unit.
 fn reply_value(alloc: Global, reply: &Reply) -> Result<Value, AllocError>
     ensures { IfOk result (λ v. view v ≡ model.reply_data (written.unwarned (reply_of reply.now))) }
 {
@@ -297,7 +298,7 @@ fn room_after_all(alloc: Global, room: Room, actions: &[Action]) -> Result<Optio
     Ok(Some(free))
 }
 
-/// Whether the words of the starts alone make a reply too long that tells these actions. They are not put together.
+/// Whether the words of the starts alone make a reply with these actions too long. The words are not put together.
 fn are_too_long(alloc: Global, actions: &[Action]) -> Result<bool, AllocError>
     ensures { IfOk result (λ told. IsTrue told → model.is_told_whole (Told (map action_of actions.now)) ≡ false) }
 {
@@ -305,7 +306,7 @@ fn are_too_long(alloc: Global, actions: &[Action]) -> Result<bool, AllocError>
     Ok(free.is_none())
 }
 
-/// Whether the reply is too long by the words that it tells.
+/// Whether the words of the reply make it too long.
 fn is_too_long(alloc: Global, reply: &Reply) -> Result<bool, AllocError>
     ensures { IfOk result (λ told. IsTrue told → model.is_told_whole (reply_of reply.now) ≡ false) }
 {
@@ -315,7 +316,7 @@ fn is_too_long(alloc: Global, reply: &Reply) -> Result<bool, AllocError>
     }
 }
 
-/// Writes a warning behind a text, and a comma; of its path the JSON text is passed.
+/// Appends a warning and a comma to a text; `path` is the JSON text of its path.
 fn add_warning(
     alloc: Global,
     path: &str,
@@ -328,7 +329,8 @@ fn add_warning(
     text.extend_from_slice(told.as_bytes())
 }
 
-/// Writes the warnings of a file behind a text, a comma behind each; false, and no more is written, where the text gets too long.
+/// Appends the warnings of a file to a text, a comma after each. False if the text gets too long; then no more is
+/// written.
 fn add_warnings(alloc: Global, file: &FileWarnings, text: &mut Vec<u8>) -> Result<bool, AllocError>
     ensures all { IfOk result (λ all. IsTrue all → text.new.items ≡ text.old.items ++ written.warnings_text (warned_by file.now)) }
     ensures long { IfOk result (λ all. all ≡ false → model.reply_limit < length (text.old.items ++ written.warnings_text (warned_by file.now))) }
@@ -343,7 +345,7 @@ fn add_warnings(alloc: Global, file: &FileWarnings, text: &mut Vec<u8>) -> Resul
     Ok(true)
 }
 
-/// The same with several files.
+/// The same for several files.
 fn add_all_warnings(
     alloc: Global,
     files: &[FileWarnings],
@@ -361,8 +363,8 @@ fn add_all_warnings(
     Ok(true)
 }
 
-/// Writes the warnings of a shown unit into the text of its reply, which has none. None, and no more is written, where they make it
-/// too long.
+/// Writes the warnings of a shown unit into the text of its reply, which has none. `None` if they make it too long;
+/// then no more is written.
 fn with_warnings(
     alloc: Global,
     shown: &UnitShown,
@@ -371,7 +373,7 @@ fn with_warnings(
     requires { text.items ≡ compact_text (model.reply_data (Shown (written.without_warnings (shown_of shown.now)))) }
     ensures { IfOk result (λ text. written.IsOwnText (Shown (shown_of shown.now)) text) }
 {
-    // the list's, the unit's and the reply's brackets close again behind the warnings
+    // the list's, the unit's and the reply's brackets are closed again after the warnings
     text.truncate(text.len() - 3);
     let begin = text.len();
     let is_whole = add_all_warnings(alloc, shown.warnings.as_slice(), &mut text)?;
@@ -379,14 +381,14 @@ fn with_warnings(
         return Ok(None);
     }
     if text.len() > begin {
-        // no comma behind the last one
+        // no comma after the last one
         text.pop();
     }
     text.extend_from_slice(b"]}}")?;
     Ok(Some(text))
 }
 
-/// The reply's own text, however long. None where it is found too long before it is whole.
+/// The reply's own text, however long. `None` if it is found to be too long before it is whole.
 fn own_text(alloc: Global, reply: &Reply) -> Result<Option<Vec<u8>>, AllocError>
     ensures { IfOk result (λ text. written.IsOwnText (reply_of reply.now) text) }
 {
@@ -402,7 +404,7 @@ fn own_text(alloc: Global, reply: &Reply) -> Result<Option<Vec<u8>>, AllocError>
 pub struct ReplyText {
     /// Compact JSON, at most 2^24 bytes.
     pub bytes: Vec<u8>,
-    /// Whether it is the reply's own; else it is the refusal `TooLarge` `reply`.
+    /// Whether it is the reply's own text; otherwise it is the refusal `TooLarge` `reply`.
     pub is_whole: bool,
 }
 
@@ -416,7 +418,7 @@ fn too_long_value(alloc: Global) -> Result<Value, AllocError>
     refused_value(alloc, &refusal)
 }
 
-/// In place of a reply whose text is too long.
+/// The text that replaces a reply whose text is too long.
 fn refused_text(alloc: Global) -> Result<ReplyText, AllocError>
     ensures text { IfOk result (λ text. text.bytes.items ≡ compact_text (model.refused_data (too_large TooLong))) }
     ensures whole { IfOk result (λ text. text.is_whole ≡ false) }
@@ -429,8 +431,9 @@ fn refused_text(alloc: Global) -> Result<ReplyText, AllocError>
     })
 }
 
-/// The text of a reply; in place of one past 2^24 bytes that of the refusal `TooLarge` `reply`. Where the words of the actions that it
-/// tells are too long already, they are not put together; of the warnings that it tells none is written behind the first past the limit.
+/// The text of a reply; a text past 2^24 bytes is replaced by that of the refusal `TooLarge` `reply`. If the words of
+/// the reply's actions are too long already, they are not put together; of its warnings none is written after the
+/// first past the limit.
 #[tactic(auto, unfolding(um_model::specs::Replies::reply_text))]
 pub fn write_reply(alloc: Global, reply: &Reply) -> Result<ReplyText, AllocError>
     ensures text { IfOk result (λ text. text.bytes.items ≡ model.reply_text (reply_of reply.now)) }

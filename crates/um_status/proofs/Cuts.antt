@@ -21,7 +21,7 @@ digits_lack (b ∷ bs) digits (suc i) below = digits_lack bs digits.1 i (omega a
 decimal_lacks : (n : ℕ) → n < 2 ^ 64 → Lacks 32 (decimal n)
 decimal_lacks n small = digits_lack (decimal n) (decimal_is_IsNumeral n small).0.1
 
--- a text is cut at its first such byte in one way
+-- a text can be cut at its first such byte in one way
 cut_once : (c : ℕ) (xs us ys vs : List ℕ) → Lacks c xs → Lacks c us → xs ++ c ∷ ys ≡ us ++ c ∷ vs → (xs ≡ us) × (ys ≡ vs)
 cut_once c [] [] ys vs none lacks same = (refl, cc)
 cut_once c [] (u ∷ us) ys vs none lacks same = let first : u ≡ c = cc in absurd (lacks 0 (omega arith) first)
@@ -32,7 +32,7 @@ cut_once c (x ∷ xs) (u ∷ us) ys vs none lacks same =
     let both = cut_once c xs us ys vs (λ (i : ℕ) (h : i < length xs). none (suc i) (omega arith)) (λ (i : ℕ) (h : i < length us). lacks (suc i) (omega arith)) rest in
     (cc (both.0, first), both.1)
 
--- what lacks a byte has none behind anything
+-- a text that lacks a byte can't be cut at it
 never_cut : (c : ℕ) (bs xs ys : List ℕ) → Lacks c bs → bs ≢ xs ++ c ∷ ys
 never_cut c bs xs ys lacks same = lacks (length xs) (omega (arith, ap length same, length-append xs (c ∷ ys))) (ap (λ t. get_or t (length xs) 0) same ∙ get_or-append_seam xs c ys 0)
 
@@ -46,13 +46,13 @@ no_end_once line front back is first rest number moment how small few same =
     let cut = cut_once 32 front (decimal number) back (decimal moment ++ 32 ∷ how) first (decimal_lacks number small) (sym is ∙ same) in
     never_cut 32 back (decimal moment) how rest cut.1
 
--- nor where no number stands before the first one
+-- nor if no number stands before the first one
 pub no_end_number : (line front back : List ℕ) → line ≡ front ++ 32 ∷ back → Lacks 32 front → ((n : ℕ) → n < 2 ^ 64 → front ≢ decimal n) → IsNoEnd line
 no_end_number line front back is first none number moment how small few same =
     let cut = cut_once 32 front (decimal number) back (decimal moment ++ 32 ∷ how) first (decimal_lacks number small) (sym is ∙ same) in
     none number small cut.0
 
--- nor where none stands before the second one
+-- nor if none stands before the second one
 pub no_end_moment : (line front middle back : List ℕ) → line ≡ front ++ 32 ∷ (middle ++ 32 ∷ back) → Lacks 32 front → Lacks 32 middle
     → ((n : ℕ) → n < 2 ^ 64 → middle ≢ decimal n) → IsNoEnd line
 no_end_moment line front middle back is first second none number moment how small few same =

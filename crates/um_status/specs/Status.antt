@@ -1,6 +1,6 @@
--- How a unit stands, as a person reads it: of the replies to `show` and `list-jobs`, of a pid, and of the line by which the end of its last process is kept.
--- No manual page has this: it is the project's own (docs/FORMATS.md, "The program").
--- What `umd status` prints, and what `umd ctl --wait` goes by, stand on this file.
+-- The state of a unit, as a person reads it: from the replies to `show` and `list-jobs`, a pid, and the line that
+-- records the end of its last process. No manual page has this: it is the project's own (docs/FORMATS.md, "The
+-- program"). The text that `umd status` prints, and the standing that `umd ctl --wait` waits for, stand on this file.
 use Rattle.std.specs.Prelude.{◌≡◌, ◌≢◌, ◌<◌, ◌⊎◌, ℕ, ◌-◌, ◌*◌, ◌/◌, ◌^◌, List, [], ◌∷◌, ◌++◌, Bool, false, ◌&&◌, ◌||◌, not, max, ◌==◌}
 use Rattle.std.specs.Prelude.{Option, Some, None, codes, decimal, find, flat_map, fold, if◌then◌else◌, length, option_and_then, replicate, pos}
 use Rattle.std.specs.List.{list_any}
@@ -23,9 +23,10 @@ use Rattle.um_status.specs.declared.standing.Goal.TheVariants.{Up, Down}
 use Rattle.um_status.specs.declared.standing.Standing.{Standing}
 use Rattle.um_status.specs.declared.standing.Standing.TheVariants.{Moving, Runs, Reached, Missed}
 
--- ---- what `show` tells
+-- ---- the reply to `show`
 
--- what the reply tells of the unit: its own name, whether it is loaded, its two states, its result and the number of its main process
+-- the unit in the reply: its own name, whether it is loaded, its two states, its result and the number of its main
+-- process
 pub record UnitShown : Type 0 where
   pub id : List ℕ
   pub loaded : List ℕ
@@ -42,7 +43,7 @@ text_at key d = option_and_then as_str (get key d)
 abbrev pub number_at : List ℕ → Data → Option ℕ
 number_at key d = option_and_then as_u64 (option_and_then as_number (get key d))
 
--- what the value tells; none where it is no unit's
+-- the unit of the value; none if it is no unit's
 unfoldable pub unit_shown : Data → Option UnitShown
 unit_shown d = do
   id ← text_at (codes "Id") d
@@ -53,13 +54,13 @@ unit_shown d = do
   number ← number_at (codes "MainNumber") d
   Some (record { id = id; loaded = loaded; active = active; sub = sub; result = result; number = number })
 
--- ---- what `list-jobs` tells
+-- ---- the reply to `list-jobs`
 
 -- the text at a place of a list
 abbrev pub text_in : ℕ → Data → Option (List ℕ)
 text_in place d = option_and_then as_str (at place d)
 
--- a job is of the unit of this name
+-- the job is one of the unit of this name
 abbrev pub is_job_of : List ℕ → Data → Bool
 is_job_of id d = option_map_or (λ unit. bytes_eq unit id) (text_in 0 d) false
 
@@ -75,7 +76,7 @@ abbrev pub with_words : List ℕ → Option (List ℕ) → List ℕ
 with_words text None = text
 with_words text (Some words) = if is_empty text then words else text ++ (codes ", " ++ words)
 
--- jobs in words, with those of one more job where it is the unit's
+-- jobs in words, with one more job if it is the unit's
 abbrev pub with_job : List ℕ → List ℕ → Data → List ℕ
 with_job id text d = if is_job_of id d then with_words text (job_words d) else text
 
@@ -87,7 +88,7 @@ jobs_words id jobs = fold (with_job id) [] jobs
 abbrev pub has_job : List ℕ → List Data → Bool
 has_job id jobs = list_any (is_job_of id) jobs
 
--- ---- what is waited for
+-- ---- the standing that is waited for
 
 -- in these sub states a unit starts or stops
 abbrev pub moving_states : List (List ℕ)
@@ -99,7 +100,7 @@ standing_up s =
     if bytes_eq s.active (codes "active") then (if bytes_eq s.sub (codes "running") then Runs s.number else Reached)
     else (if bytes_eq s.sub (codes "dead") && bytes_eq s.result (codes "success") then Reached else Missed)
 
--- one that is to be down is inactive or failed, but not because the stop took too long
+-- a unit that is to be down is inactive or failed, and its result isn't `timeout`
 abbrev pub standing_down : UnitShown → Standing
 standing_down s =
     if (bytes_eq s.active (codes "inactive") || bytes_eq s.active (codes "failed")) && not (bytes_eq s.result (codes "timeout")) then Reached else Missed
@@ -108,17 +109,18 @@ abbrev pub standing_for : Goal → UnitShown → Standing
 standing_for Up s = standing_up s
 standing_for Down s = standing_down s
 
--- how a unit stands by what it was told to be: no job of it is pending, and it neither starts nor stops, or it is on its way
+-- the standing of a unit for a goal: on its way if a job of it is pending or it starts or stops, otherwise reached or
+-- not
 abbrev pub standing_of : Goal → UnitShown → List Data → Standing
 standing_of goal s jobs = if has_job s.id jobs || is_among s.sub moving_states then Moving else standing_for goal s
 
--- how a unit stands, in a line: `x.service is failed: exit-code`
+-- the standing of a unit, in a line: `x.service is failed: exit-code`
 abbrev pub standing_line : UnitShown → List ℕ
 standing_line s = s.id ++ (codes " is " ++ (s.sub ++ (codes ": " ++ s.result)))
 
 -- ---- rows
 
--- a row of the table, and the lines behind it
+-- a row of the table, and the lines after it
 pub record Row : Type 0 where
   pub unit : List ℕ
   pub loaded : List ℕ
@@ -128,7 +130,7 @@ pub record Row : Type 0 where
   pub job : List ℕ
   pub details : List ℕ
 
--- a text, or `-` where it is empty
+-- a text, or `-` if it is empty
 abbrev pub or_dash : List ℕ → List ℕ
 or_dash text = if is_empty text then codes "-" else text
 
@@ -137,7 +139,7 @@ abbrev pub pid_text : Option ℕ → List ℕ
 pid_text None = codes "-"
 pid_text (Some pid) = decimal pid
 
--- the row of a unit, with these lines behind it
+-- the row of a unit, with these lines after it
 abbrev pub row_of : UnitShown → List Data → Option ℕ → List ℕ → Row
 row_of s jobs pid details = record {
   unit = s.id;
@@ -161,7 +163,7 @@ header = record {
   details = [];
 }
 
--- how wide the columns are
+-- the widths of the columns
 pub record Widths : Type 0 where
   pub unit : ℕ
   pub loaded : ℕ
@@ -169,7 +171,7 @@ pub record Widths : Type 0 where
   pub result : ℕ
   pub pid : ℕ
 
--- wide enough for one row more
+-- wide enough for one more row
 abbrev pub wider : Widths → Row → Widths
 wider w r = record {
   unit = max w.unit (length r.unit);
@@ -186,11 +188,11 @@ no_width = record { unit = 0; loaded = 0; state = 0; result = 0; pid = 0 }
 abbrev pub widths_of : List Row → Widths
 widths_of rows = fold wider (wider no_width header) rows
 
--- a cell with spaces behind it, up to the column's width and two more
+-- a cell followed by spaces, up to the column's width and two more
 abbrev pub cell_text : ℕ → List ℕ → List ℕ
 cell_text width cell = cell ++ (replicate (width - length cell) 32 ++ codes "  ")
 
--- the line of a row, and those behind it
+-- the line of a row, and those after it
 abbrev pub row_text : Widths → Row → List ℕ
 row_text w r =
     cell_text w.unit r.unit ++ (cell_text w.loaded r.loaded ++ (cell_text w.state r.state ++ (cell_text w.result r.result
@@ -200,13 +202,13 @@ row_text w r =
 abbrev pub table_text : List Row → List ℕ
 table_text rows = row_text (widths_of rows) header ++ flat_map (row_text (widths_of rows)) rows
 
--- ---- the lines behind a row
+-- ---- the lines after a row
 
--- a line behind a row
+-- a line after a row
 abbrev pub detail_line : List ℕ → List ℕ
 detail_line text = codes "  " ++ (text ++ codes "\n")
 
--- the parts of the line by which the end of a process is kept: its number, the moment in microseconds, and how it ended
+-- the parts of the line that records the end of a process: its number, the moment in microseconds, and how it ended
 abbrev pub end_text : (number moment : ℕ) → List ℕ → List ℕ
 end_text number moment how = decimal number ++ (codes " " ++ (decimal moment ++ (codes " " ++ how)))
 
@@ -214,11 +216,11 @@ end_text number moment how = decimal number ++ (codes " " ++ (decimal moment ++ 
 abbrev pub IsNoEnd : List ℕ → Type 0
 IsNoEnd line = (number moment : ℕ) (how : List ℕ) → number < 2 ^ 64 → moment < 2 ^ 64 → line ≢ end_text number moment how
 
--- how a process ended, to a person: code 203 is a command that can't be executed
+-- how a process ended, for a person: code 203 is a command that can't be executed
 abbrev pub how_told : List ℕ → List ℕ
 how_told how = if bytes_eq how (codes "code 203") then codes "can't be executed" else how
 
--- the nanoseconds from the beginning of 1970 up to the second of a moment in microseconds
+-- the nanoseconds from the beginning of 1970 to the second of a moment in microseconds
 abbrev pub nanos_at : ℕ → ℕ
 nanos_at moment = moment / 10 ^ 6 * 10 ^ 9
 
@@ -226,7 +228,7 @@ nanos_at moment = moment / 10 ^ 6 * 10 ^ 9
 abbrev pub IsTimeOf : ℕ → List ℕ → Type 0
 IsTimeOf moment text = (t : DateTime) × (civil_nanos t ≡ pos (nanos_at moment)) × (text ≡ iso_datetime_text t ++ codes "Z")
 
--- what is told of the end of a process, at this time
+-- the text about the end of a process, at this time
 abbrev pub process_text : ℕ → List ℕ → List ℕ → List ℕ
 process_text number how time = codes "process " ++ (decimal number ++ (codes ": " ++ (how_told how ++ (codes ", " ++ time))))
 
@@ -234,7 +236,7 @@ process_text number how time = codes "process " ++ (decimal number ++ (codes ": 
 abbrev pub HasDate : ℕ → Type 0
 HasDate moment = IsTimestampNanos (pos (nanos_at moment))
 
--- this is told of the end of a process
+-- this is the text about the end of a process
 abbrev pub IsProcessText : (number moment : ℕ) → List ℕ → List ℕ → Type 0
 IsProcessText number moment how text = (time : List ℕ) × IsTimeOf moment time × (text ≡ process_text number how time)
 
@@ -252,11 +254,11 @@ warning_kind number = find (λ kind. warning_number kind == number) all_kinds
 abbrev pub number_in : ℕ → Data → Option ℕ
 number_in place d = option_and_then as_u64 (option_and_then as_number (at place d))
 
--- what is told of a warning: `lib/y.service:4: unknown key, no effect`
+-- the text of a warning: `lib/y.service:4: unknown key, no effect`
 abbrev pub warning_text : WarningKind → (path : List ℕ) → (line : ℕ) → List ℕ
 warning_text kind path line = path ++ (codes ":" ++ (decimal line ++ (codes ": " ++ warning_sentence kind)))
 
--- what is told of a warning as `show` has it
+-- the text of a warning as `show` has it
 unfoldable pub warning_of : Data → Option (List ℕ)
 warning_of d = do
   n ← number_in 0 d
@@ -265,7 +267,7 @@ warning_of d = do
   line ← number_in 2 d
   Some (warning_text kind path line)
 
--- a line for a warning, where the value is one
+-- a line for a warning, if the value is one
 abbrev pub warning_line : Data → List ℕ
 warning_line d = option_map_or detail_line (warning_of d) []
 
@@ -273,16 +275,16 @@ warning_line d = option_map_or detail_line (warning_of d) []
 abbrev pub warning_lines : List Data → List ℕ
 warning_lines ds = flat_map warning_line ds
 
--- ---- all lines behind a row
+-- ---- all lines after a row
 
--- the line of how the last process ended, where that is kept and its time has a date
+-- the line about the end of the last process, if that is recorded and its time has a date
 abbrev pub IsEndLine : Option LastEnd → List ℕ → Type 0
 IsEndLine None line = line ≡ []
 IsEndLine (Some end) line =
     ((¬ HasDate end.moment) × (line ≡ []))
     ⊎ ((text : List ℕ) × IsProcessText end.number end.moment end.how.now text × (line ≡ detail_line text))
 
--- the lines behind a row: how the last process ended, the warnings that `show` tells, and what is told of the unit's files
+-- the lines after a row: the end of the last process, the warnings of `show`, and the reports on the unit's files
 abbrev pub AreDetails : Option LastEnd → List Data → List (List ℕ) → List ℕ → Type 0
 AreDetails end warnings told text = (line : List ℕ) × IsEndLine end line × (text ≡ line ++ (warning_lines warnings ++ flat_map detail_line told))
 

@@ -1,4 +1,4 @@
--- What the code holds of a unit and of a row, as the definitions have it.
+-- The units and rows of the code as those of the definitions.
 use Rattle.std.specs.Prelude.{string_bytes}
 use Rattle.um_status.specs.Status as model
 use Rattle.um_status.specs.declared.row.Row.{Row}

@@ -1,4 +1,4 @@
-//! The lines behind a row.
+//! The lines after a row.
 
 ghost use Rattle.std.specs.Prelude.{◌≡◌, ◌++◌, IfOk, OnOk, flat_map, map, option_map, string_bytes};
 ghost use Rattle.serde_json.specs.View.{view};
@@ -41,7 +41,7 @@ struct WarnedLine<'v> {
     line: u64,
 }
 
-/// The warning that the value is.
+/// The warning of the value.
 #[tactic(auto, unfolding(crate::specs::Status::warning_of))]
 fn warned(value: &Value) -> Option<WarnedLine<'_>>
     ensures { option_map (λ w. model.warning_text w.kind w.path.now w.line) result ≡ model.warning_of (view value.now) }
@@ -52,7 +52,7 @@ fn warned(value: &Value) -> Option<WarnedLine<'_>>
     Some(WarnedLine { kind, path, line })
 }
 
-/// What is told of a warning: `lib/y.service:4: unknown key, no effect`. None where the value is no warning.
+/// The text of a warning: `lib/y.service:4: unknown key, no effect`. `None` if the value is no warning.
 fn warning_text(alloc: Global, value: &Value) -> Result<Option<String>, AllocError>
     ensures { IfOk result (λ text. option_map string_bytes text ≡ model.warning_of (view value.now)) }
 {
@@ -64,7 +64,7 @@ fn warning_text(alloc: Global, value: &Value) -> Result<Option<String>, AllocErr
     Ok(Some(text))
 }
 
-/// Puts a line for a warning, where the value is one.
+/// Appends a line for a warning, if the value is one.
 fn push_warning(alloc: Global, text: &mut String, value: &Value) -> Result<(), AllocError>
     ensures { OnOk result (string_bytes text.new ≡ string_bytes text.old ++ model.warning_line (view value.now)) }
 {
@@ -74,7 +74,7 @@ fn push_warning(alloc: Global, text: &mut String, value: &Value) -> Result<(), A
     }
 }
 
-/// Puts a line for each warning.
+/// Appends a line for each warning.
 fn push_warnings(alloc: Global, text: &mut String, values: &[Value]) -> Result<(), AllocError>
     ensures { OnOk result (string_bytes text.new ≡ string_bytes text.old ++ model.warning_lines (map view values.now)) }
 {
@@ -84,7 +84,7 @@ fn push_warnings(alloc: Global, text: &mut String, values: &[Value]) -> Result<(
     Ok(())
 }
 
-/// Puts a line.
+/// Appends a line.
 fn push_line(text: &mut String, line: &str) -> Result<(), AllocError>
     ensures { OnOk result (string_bytes text.new ≡ string_bytes text.old ++ model.detail_line line.now) }
 {
@@ -93,7 +93,7 @@ fn push_line(text: &mut String, line: &str) -> Result<(), AllocError>
     text.push_str("\n")
 }
 
-/// The line of how a process ended, where that is kept.
+/// The line about the end of a process, if that is recorded.
 fn end_line(alloc: Global, end: Option<LastEnd<'_>>) -> Result<String, AllocError>
     ensures { IfOk result (λ line. model.IsEndLine end.entry (string_bytes line)) }
 {
@@ -107,7 +107,7 @@ fn end_line(alloc: Global, end: Option<LastEnd<'_>>) -> Result<String, AllocErro
     Ok(line)
 }
 
-/// Puts a line for each of these texts.
+/// Appends a line for each of these texts.
 fn push_lines(text: &mut String, lines: &[String]) -> Result<(), AllocError>
     ensures { OnOk result (string_bytes text.new ≡ string_bytes text.old ++ flat_map model.detail_line (map string_bytes lines.now)) }
 {
@@ -117,8 +117,8 @@ fn push_lines(text: &mut String, lines: &[String]) -> Result<(), AllocError>
     Ok(())
 }
 
-/// The lines behind the row of a unit: how its last process ended, where that is kept; the warnings that `show` tells; and what is told of its files as they
-/// stand now.
+/// The lines after the row of a unit: the end of its last process, if that is recorded; the warnings of `show`; and
+/// the reports on its files as they are now.
 pub fn details_of(
     alloc: Global,
     end: Option<LastEnd<'_>>,

@@ -1,4 +1,4 @@
-//! How the last process of a unit ended, of the line by which that is kept.
+//! The end of a unit's last process, by the line that records it.
 
 ghost use Rattle.std.specs.Prelude.{◌≡◌, IfOk, MatchOption, string_bytes};
 ghost use Rattle.um_status.specs.Status as model;
@@ -8,18 +8,18 @@ use jiff::tz::Offset;
 use std::alloc::{AllocError, Global};
 use um_runner::number_in;
 
-/// A line by which the end of a process is kept.
+/// A line that records the end of a process.
 #[derive(Clone, Copy)]
 pub struct LastEnd<'a> {
     /// The process's number.
     pub number: u64,
-    /// When it was told, in microseconds from the beginning of 1970.
+    /// When the end was reported, in microseconds from the beginning of 1970.
     pub moment: u64,
     /// How it ended, as `code 78`, `signal 9`, `lost` or `not-started`.
     pub how: &'a str,
 }
 
-/// What the line tells, without its line feed. None where it is no line of an end.
+/// The parts of the line, without its line feed. `None` if it is no line of an end.
 pub fn last_end(line: &str) -> Option<LastEnd<'_>>
     ensures { MatchOption result (model.IsNoEnd line.now) (λ end. line.now ≡ model.end_text end.number end.moment end.how.now) }
 {
@@ -34,7 +34,7 @@ pub fn last_end(line: &str) -> Option<LastEnd<'_>>
     })
 }
 
-/// How a process ended, to a person.
+/// How a process ended, for a person.
 fn how_told(how: &str) -> &str
     ensures { result.now ≡ model.how_told how.now }
 {
@@ -45,7 +45,7 @@ fn how_told(how: &str) -> &str
     }
 }
 
-/// The time of a moment in microseconds, in UTC, as `2026-11-29T19:44:45Z`. None past the year 9999.
+/// The time of a moment in microseconds, in UTC, as `2026-11-29T19:44:45Z`. `None` past the year 9999.
 fn time_text(alloc: Global, moment: u64) -> Result<Option<String>, AllocError>
     ensures { IfOk result (λ text. MatchOption text (¬ model.HasDate moment) (λ t. model.IsTimeOf moment (string_bytes t))) }
 {
@@ -58,7 +58,7 @@ fn time_text(alloc: Global, moment: u64) -> Result<Option<String>, AllocError>
     Ok(Some(text))
 }
 
-/// What is told of the end of a process: `process 1: code 78, 2026-11-29T19:44:45Z`. None where its time has no date.
+/// The text about the end of a process: `process 1: code 78, 2026-11-29T19:44:45Z`. `None` if its time has no date.
 pub(crate) fn process_text(alloc: Global, end: LastEnd<'_>) -> Result<Option<String>, AllocError>
     ensures { IfOk result (λ text. MatchOption text (¬ model.HasDate end.entry.moment)
         (λ t. model.IsProcessText end.entry.number end.entry.moment end.entry.how.now (string_bytes t))) }

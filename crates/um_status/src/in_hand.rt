@@ -1,4 +1,4 @@
-//! The files that `cat` gives.
+//! The files in the reply to `cat`.
 
 ghost use Rattle.std.specs.Prelude.{◌≡◌, ◌++◌, IfOk, OnOk, flat_map, map};
 ghost use Rattle.serde_json.specs.View.{view};
@@ -8,7 +8,7 @@ use crate::jobs::text_in;
 use serde_json::Value;
 use std::alloc::{AllocError, Global};
 
-/// Adds the path and the text of a file, where the value is such a pair.
+/// Adds the path and the text of a file, if the value is such a pair.
 fn add_file<'v>(given: &mut Vec<(&'v str, &'v str)>, file: &'v Value) -> Result<(), AllocError>
     ensures { OnOk result (map (λ g. (g.0.now, g.1.now)) given.new.items ≡ map (λ g. (g.0.now, g.1.now)) given.old.items ++ model.file_given (view file.now)) }
 {
@@ -22,7 +22,7 @@ fn add_file<'v>(given: &mut Vec<(&'v str, &'v str)>, file: &'v Value) -> Result<
     Ok(())
 }
 
-/// The path and the text of each file that `cat` gives; what is no such pair is left out.
+/// The path and the text of each file in the reply to `cat`; a value that is no such pair is left out.
 pub fn files_given<'v>(
     alloc: Global,
     files: &'v [Value],

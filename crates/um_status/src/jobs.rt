@@ -1,4 +1,4 @@
-//! What `list-jobs` tells of a unit.
+//! A unit's jobs in the reply to `list-jobs`.
 
 ghost use Rattle.std.specs.Prelude.{◌≡◌, IfOk, OnOk, map, option_map, string_bytes};
 ghost use Rattle.serde_json.specs.View.{view};
@@ -14,7 +14,7 @@ pub(crate) fn text_in<'v>(value: &'v Value, place: usize) -> Option<&'v str>
     value.get(place)?.as_str()
 }
 
-/// Whether a job is of the unit of this name.
+/// Whether a job is one of the unit of this name.
 fn is_job_of(id: &str, job: &Value) -> bool
     ensures { result ≡ model.is_job_of id.now (view job.now) }
 {
@@ -24,7 +24,7 @@ fn is_job_of(id: &str, job: &Value) -> bool
     }
 }
 
-/// A job in words, as `start running`. None where it is no job.
+/// A job in words, as `start running`. `None` if the value is no job.
 #[tactic(auto, unfolding(crate::specs::Status::job_words))]
 fn job_words(alloc: Global, job: &Value) -> Result<Option<String>, AllocError>
     ensures { IfOk result (λ words. option_map string_bytes words ≡ model.job_words (view job.now)) }
@@ -39,7 +39,7 @@ fn job_words(alloc: Global, job: &Value) -> Result<Option<String>, AllocError>
     Ok(Some(words))
 }
 
-/// Puts a job in words behind others.
+/// Appends a job in words to others.
 fn push_words(text: &mut String, words: Option<String>) -> Result<(), AllocError>
     ensures { OnOk result (string_bytes text.new ≡ model.with_words (string_bytes text.old) (option_map string_bytes words)) }
 {
@@ -52,7 +52,7 @@ fn push_words(text: &mut String, words: Option<String>) -> Result<(), AllocError
     text.push_str(words.as_str())
 }
 
-/// Puts a job in words behind others, where it is the unit's.
+/// Appends a job in words to others, if it is the unit's.
 fn push_job(alloc: Global, id: &str, text: &mut String, job: &Value) -> Result<(), AllocError>
     ensures { OnOk result (string_bytes text.new ≡ model.with_job id.now (string_bytes text.old) (view job.now)) }
 {
@@ -64,7 +64,7 @@ fn push_job(alloc: Global, id: &str, text: &mut String, job: &Value) -> Result<(
     }
 }
 
-/// The pending jobs of a unit in words, as `start running`; nothing where there is none.
+/// The pending jobs of a unit in words, as `start running`; an empty text if there is none.
 pub(crate) fn jobs_words(alloc: Global, id: &str, jobs: &[Value]) -> Result<String, AllocError>
     ensures { IfOk result (λ text. string_bytes text ≡ model.jobs_words id.now (map view jobs.now)) }
 {

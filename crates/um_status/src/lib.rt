@@ -1,5 +1,5 @@
-//! How units stand, as a person reads it: rows of a table, the lines behind a row, and whether a unit has become what was asked for, each a function of the
-//! replies of a manager.
+//! The state of units, as a person reads it: rows of a table, the lines after a row, and whether a unit has reached
+//! its goal. All are functions of a manager's replies.
 #![tactic(auto)]
 
 mod details;

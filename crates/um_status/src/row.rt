@@ -10,7 +10,7 @@ use crate::unit::UnitShown;
 use serde_json::Value;
 use std::alloc::{AllocError, Global};
 
-/// A row of the table, and the lines behind it.
+/// A row of the table, and the lines after it.
 #[derive(Drop)]
 pub struct Row {
     pub unit: String,
@@ -23,11 +23,11 @@ pub struct Row {
     pub pid: String,
     /// Its pending jobs.
     pub job: String,
-    /// The lines behind the row.
+    /// The lines after the row.
     pub details: String,
 }
 
-/// How wide the columns are, but the last.
+/// The widths of the columns except the last.
 #[derive(Clone, Copy)]
 struct Widths {
     unit: usize,
@@ -37,7 +37,7 @@ struct Widths {
     pid: usize,
 }
 
-/// The text, or `-` where it is empty.
+/// The text, or `-` if it is empty.
 fn or_dash(alloc: Global, text: String) -> Result<String, AllocError>
     ensures { IfOk result (λ shown. string_bytes shown ≡ model.or_dash (string_bytes text)) }
 {
@@ -63,7 +63,8 @@ fn state_text(alloc: Global, active: &str, sub: &str) -> Result<String, AllocErr
     format!(in alloc; "{active}/{sub}")
 }
 
-/// The row of a unit: of what `show` tells of it, what `list-jobs` tells, the pid of its main process where it is known, and the lines behind it.
+/// The row of a unit: by the replies to `show` and `list-jobs`, the pid of its main process if it is known, and the
+/// lines after it.
 pub fn row_of(
     alloc: Global,
     unit: UnitShown<'_>,
@@ -106,7 +107,7 @@ fn header(alloc: Global) -> Result<Row, AllocError>
     })
 }
 
-/// Wide enough for one row more.
+/// Wide enough for one more row.
 fn wider(widths: Widths, row: &Row) -> Widths
     ensures { widths_view result ≡ model.wider (widths_view widths) (row_view row.now) }
 {
@@ -144,7 +145,7 @@ fn widths_of(header: &Row, rows: &[Row]) -> Widths
     widths
 }
 
-/// Puts so many spaces.
+/// Appends this number of spaces.
 fn push_spaces(text: &mut String, count: usize) -> Result<(), AllocError>
     ensures { OnOk result (string_bytes text.new ≡ string_bytes text.old ++ replicate count 32) }
 {
@@ -154,7 +155,7 @@ fn push_spaces(text: &mut String, count: usize) -> Result<(), AllocError>
     Ok(())
 }
 
-/// Puts a cell, with spaces behind it.
+/// Appends a cell, followed by spaces.
 fn push_cell(text: &mut String, width: usize, cell: &str) -> Result<(), AllocError>
     ensures { OnOk result (string_bytes text.new ≡ string_bytes text.old ++ model.cell_text width cell.now) }
 {
@@ -163,7 +164,7 @@ fn push_cell(text: &mut String, width: usize, cell: &str) -> Result<(), AllocErr
     text.push_str("  ")
 }
 
-/// Puts the line of a row, and those behind it.
+/// Appends the line of a row, and those after it.
 fn push_row(text: &mut String, widths: Widths, row: &Row) -> Result<(), AllocError>
     ensures { OnOk result (string_bytes text.new ≡ string_bytes text.old ++ model.row_text (widths_view widths) (row_view row.now)) }
 {
@@ -178,7 +179,7 @@ fn push_row(text: &mut String, widths: Widths, row: &Row) -> Result<(), AllocErr
     Ok(())
 }
 
-/// Puts the rows.
+/// Appends the rows.
 fn push_rows(text: &mut String, widths: Widths, rows: &[Row]) -> Result<(), AllocError>
     ensures { OnOk result (string_bytes text.new ≡ string_bytes text.old ++ flat_map (model.row_text (widths_view widths)) (map row_view rows.now)) }
 {
@@ -188,8 +189,8 @@ fn push_rows(text: &mut String, widths: Widths, rows: &[Row]) -> Result<(), Allo
     Ok(())
 }
 
-/// The table of these rows: a line of the names of the columns, and each row with the lines behind it; each column but the last is as wide as its longest, with
-/// two spaces behind it.
+/// The table of these rows: a line with the names of the columns, then each row followed by its lines. Each column
+/// except the last is as wide as its longest cell, followed by two spaces.
 pub fn table_text(alloc: Global, rows: &[Row]) -> Result<String, AllocError>
     ensures { IfOk result (λ text. string_bytes text ≡ model.table_text (map row_view rows.now)) }
 {

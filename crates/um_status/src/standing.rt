@@ -1,4 +1,4 @@
-//! Whether a unit has become what was asked for.
+//! Whether a unit has reached its goal.
 
 ghost use Rattle.std.specs.Prelude.{◌≡◌, IfOk, map, string_bytes};
 ghost use Rattle.serde_json.specs.View.{view};
@@ -11,7 +11,7 @@ use crate::unit::UnitShown;
 use serde_json::Value;
 use std::alloc::{AllocError, Global};
 
-/// What a unit was told to be.
+/// The goal of a unit.
 #[derive(Clone, Copy)]
 pub enum Goal {
     /// Active, or ended with success: by `start` and `restart`.
@@ -20,16 +20,16 @@ pub enum Goal {
     Down,
 }
 
-/// How a unit stands by what it was told to be.
+/// The standing of a unit with respect to its goal.
 #[derive(Clone, Copy)]
 pub enum Standing {
     /// A job of it is pending, or it starts or stops.
     Moving,
-    /// It runs, under this number; that it stays so isn't known yet.
+    /// It runs, under this number; whether it stays so isn't known yet.
     Runs(u64),
-    /// It is what it was told to be.
+    /// It has reached its goal.
     Reached,
-    /// It is something else, and stays so by itself.
+    /// It has not, and no longer changes by itself.
     Missed,
 }
 
@@ -74,7 +74,7 @@ fn standing_down(unit: UnitShown<'_>) -> Standing
     }
 }
 
-/// How the unit stands by what it was told to be; the jobs are what `list-jobs` tells.
+/// The standing of the unit for the goal; `jobs` is the reply to `list-jobs`.
 pub fn standing_of(goal: Goal, unit: UnitShown<'_>, jobs: &[Value]) -> Standing
     ensures { result ≡ model.standing_of goal (shown_of unit.entry) (map view jobs.now) }
 {
@@ -87,7 +87,7 @@ pub fn standing_of(goal: Goal, unit: UnitShown<'_>, jobs: &[Value]) -> Standing
     }
 }
 
-/// How the unit stands, as `x.service is failed: exit-code`.
+/// The standing of the unit, as `x.service is failed: exit-code`.
 pub fn standing_line(alloc: Global, unit: UnitShown<'_>) -> Result<String, AllocError>
     ensures { IfOk result (λ line. string_bytes line ≡ model.standing_line (shown_of unit.entry)) }
 {

@@ -1,4 +1,4 @@
-//! What `show` tells of a unit.
+//! A unit in the reply to `show`.
 
 ghost use Rattle.std.specs.Prelude.{◌≡◌, option_map};
 ghost use Rattle.serde_json.specs.View.{view};
@@ -7,10 +7,10 @@ ghost use Rattle.um_status.specs.View.{shown_of};
 
 use serde_json::Value;
 
-/// What `show` tells of a unit.
+/// A unit in the reply to `show`.
 #[derive(Clone, Copy)]
 pub struct UnitShown<'v> {
-    /// Its own name, to which the one that was asked for leads.
+    /// Its own name, to which the requested name leads.
     pub id: &'v str,
     /// Whether it is loaded, as `bad-setting`.
     pub loaded: &'v str,
@@ -20,7 +20,7 @@ pub struct UnitShown<'v> {
     pub sub: &'v str,
     /// Its result, as `exit-code`.
     pub result: &'v str,
-    /// The number of its main process; 0 where none is live.
+    /// The number of its main process; 0 if none is live.
     pub number: u64,
 }
 
@@ -38,7 +38,7 @@ fn number_at(value: &Value, key: &str) -> Option<u64>
     value.get(key)?.as_u64()
 }
 
-/// What the value of a reply to `show` tells. None where it is no unit's.
+/// The unit of the value of a reply to `show`. `None` if it is no unit's.
 #[tactic(auto, unfolding(crate::specs::Status::unit_shown))]
 pub fn unit_shown(value: &Value) -> Option<UnitShown<'_>>
     ensures { option_map shown_of result ≡ model.unit_shown (view value.now) }

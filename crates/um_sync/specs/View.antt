@@ -19,7 +19,7 @@ use Rattle.um_sync.specs.declared.plan.Step.{Step}
 abbrev pub marked_path : String Global × Mark → List ℕ × Mark
 marked_path e = (string_bytes e.0, e.1)
 
--- what was put, by path
+-- the record's entries, by path
 abbrev pub marks_in : Ledger → List (List ℕ × Mark)
 marks_in l = map marked_path l.marks.entries
 
@@ -31,7 +31,7 @@ abbrev pub said_of : Line → model.Said
 said_of (line.Marked path mark) = model.Marked path.now mark
 said_of line.Reload = model.Reload
 
--- a text was read: its lines say this, one by one, and what was put is what they say together
+-- a text was read: its lines mean this, one by one, and the record is what they mean together
 abbrev pub IsRead : List ℕ → Ledger → Type 0
 IsRead text l =
     (said : List model.Said) × (map Some said ≡ map model.says (lines text)) × ((path : List ℕ) → mark_at l path ≡ model.last_mark path said)
@@ -40,7 +40,7 @@ IsRead text l =
 abbrev pub step_of : Step → List ℕ × Action
 step_of s = (string_bytes s.path, s.action)
 
--- the steps are these: what is put, what is removed, in the order of their paths by bytes
+-- the steps are these: entries to put and entries to remove, in the order of their paths by bytes
 abbrev pub AreSteps : (all : Bool) → Ledger → Tree → List Step → Type 0
 AreSteps all l tree steps =
     ((found : List Step) × (map step_of found ≡ model.puts all (mark_at l) tree ++ model.removals tree (map (λ e. e.0) (marks_in l)))

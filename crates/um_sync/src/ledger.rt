@@ -1,4 +1,4 @@
-//! What was put of a folder.
+//! The record of the files of a folder that were put into a tree.
 
 ghost use Rattle.std.specs.Prelude.{◌≡◌, ℕ, List, [], IfOk, MatchOption, OnOk, Some, bytes_eq, false, if◌then◌else◌, map, option_map, string_bytes, true};
 ghost use Rattle.std.specs.List.{list_any};
@@ -11,12 +11,12 @@ use crate::mark::Mark;
 use std::alloc::{AllocError, Global};
 use std::collections::BTreeMap;
 
-/// What was put of a folder, by path, and whether a reload is owed since.
+/// The record of the files of a folder that were put, by path, and whether a reload is owed since.
 #[derive(Drop)]
 pub struct Ledger {
     pub(crate) alloc: Global,
     pub(crate) marks: BTreeMap<String, Mark>,
-    /// Something was put or removed, or may have been, and no reload came behind it.
+    /// Something was put or removed, or may have been, and no reload followed.
     pub owes_reload: bool,
 }
 
@@ -27,7 +27,7 @@ fn lines_of(alloc: Global, text: &str) -> Result<Vec<&str>, AllocError>
     text.lines().collect(alloc)
 }
 
-/// What the lines say. None where one of them says nothing.
+/// The meanings of the lines. `None` if one of them has none.
 fn said_by<'a>(alloc: Global, lines: &[&'a str]) -> Result<Option<Vec<Line<'a>>>, AllocError>
     ensures { IfOk result (λ found. MatchOption found (list_any model.says_nothing (map (λ line. line.now) lines.now) ≡ true)
         (λ said. map Some (map said_of said.items) ≡ map model.says (map (λ line. line.now) lines.now))) }
@@ -43,7 +43,7 @@ fn said_by<'a>(alloc: Global, lines: &[&'a str]) -> Result<Option<Vec<Line<'a>>>
 }
 
 impl Ledger {
-    /// Nothing was put yet.
+    /// The empty record.
     pub fn new(alloc: Global) -> Ledger
         ensures marks { marks_in result ≡ [] }
         ensures owes { result.owes_reload ≡ false }
@@ -55,14 +55,14 @@ impl Ledger {
         }
     }
 
-    /// What was put last at the path.
+    /// The mark of the last entry put at the path.
     pub fn mark(&self, path: &str) -> Option<Mark>
         ensures { result ≡ mark_at self.now path.now }
     {
         self.marks.get(path).copied()
     }
 
-    /// Notes what stands at the path now: what was put there, or nothing of this folder's.
+    /// Records the entry at the path now: its mark, or none if it is nothing of this folder's.
     pub fn note(&mut self, path: &str, mark: Option<Mark>) -> Result<(), AllocError>
         ensures marks { OnOk result ((other : List ℕ) → mark_at self.new other ≡ (if bytes_eq path.now other then mark else mark_at self.old other)) }
         ensures owes { self.new.owes_reload ≡ self.old.owes_reload }
@@ -79,7 +79,7 @@ impl Ledger {
         Ok(())
     }
 
-    /// Notes what a line says.
+    /// Records the meaning of a line.
     fn take(&mut self, line: Line<'_>) -> Result<(), AllocError>
         ensures marks { OnOk result ((path : List ℕ) → mark_at self.new path ≡ model.mark_after path (mark_at self.old path) (said_of line.entry)) }
         ensures owes { OnOk result (self.new.owes_reload ≡ model.owed_after self.old.owes_reload (said_of line.entry)) }
@@ -93,7 +93,7 @@ impl Ledger {
         }
     }
 
-    /// What these lines say together.
+    /// The record of these lines together.
     fn of_lines(alloc: Global, lines: &[Line<'_>]) -> Result<Ledger, AllocError>
         ensures marks { IfOk result (λ l. (path : List ℕ) → mark_at l path ≡ model.last_mark path (map said_of lines.now)) }
         ensures owes { IfOk result (λ l. l.owes_reload ≡ model.is_owed (map said_of lines.now)) }
@@ -105,7 +105,8 @@ impl Ledger {
         Ok(ledger)
     }
 
-    /// What a text keeps, a line a path; the last line of a path counts. None where one of its lines says nothing.
+    /// The record of a text with a line per path; the last line of a path counts. `None` if one of its lines has no
+    /// meaning.
     pub fn read(alloc: Global, text: &str) -> Result<Option<Ledger>, AllocError>
         ensures { IfOk result (λ read. MatchOption read (list_any model.says_nothing (text_lines text.now) ≡ true) (IsRead text.now)) }
     {
@@ -117,7 +118,7 @@ impl Ledger {
         Ok(Some(ledger))
     }
 
-    /// The text that keeps it, a line a path.
+    /// The text of the record, a line per path.
     pub fn to_text(&self) -> Result<String, AllocError>
         ensures { IfOk result (λ text. string_bytes text ≡ model.kept_text (marks_in self.now) self.now.owes_reload) }
     {

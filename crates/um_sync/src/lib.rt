@@ -1,4 +1,5 @@
-//! A folder of unit files and a manager's tree: what was put of the folder, as it is kept beside it, and what is to be put and removed now.
+//! A folder of unit files and a manager's tree: the record of the files that were put, kept beside them, and the
+//! steps to put and remove files now.
 #![tactic(auto)]
 
 mod ledger;

@@ -1,4 +1,4 @@
-//! The lines by which it is kept what was put.
+//! The lines of the record.
 
 ghost use Rattle.std.specs.Prelude.{◌≡◌, ◌++◌, IfOk, Some, codes, option_map, string_bytes};
 ghost use Rattle.hex.specs.Hex.{encode_lower};
@@ -10,23 +10,23 @@ use crate::mark::Mark;
 use hex::FromHex;
 use std::alloc::{AllocError, Global};
 
-/// What a line says, without its line feed.
+/// The meaning of a line, without its line feed.
 #[derive(Clone, Copy, Debug)]
 pub(crate) enum Line<'a> {
-    /// What was put last at a path.
+    /// The last entry put at a path.
     Marked(&'a str, Mark),
     /// A reload is owed.
     Reload,
 }
 
-/// What stands before and behind the first space, where there is one.
+/// The text before the first space and the text after it, if there is a space.
 fn around_space(text: &str) -> Option<(&str, &str)>
     ensures { option_map two_texts result ≡ model.around_space text.now }
 {
     text.split_once(' ')
 }
 
-/// The mark of this kind with a sum. None where there is no such kind.
+/// The mark of this kind with a sum. `None` if there is no such kind.
 fn mark_by(kind: &str, sum: [u8; 32]) -> Option<Mark>
     ensures { result ≡ model.mark_by kind.now sum }
 {
@@ -39,7 +39,7 @@ fn mark_by(kind: &str, sum: [u8; 32]) -> Option<Mark>
     }
 }
 
-/// What a path with a sum says, of this kind.
+/// The meaning of a path with a sum, of this kind.
 fn with_sum<'a>(kind: &str, sum: &str, path: &'a str) -> Option<Line<'a>>
     ensures { option_map said_of result ≡ model.summed kind.now (Some (sum.now, path.now)) }
 {
@@ -49,7 +49,7 @@ fn with_sum<'a>(kind: &str, sum: &str, path: &'a str) -> Option<Line<'a>>
     }
 }
 
-/// What stands behind this kind says.
+/// The meaning of the text after this kind.
 fn marked<'a>(kind: &str, rest: &'a str) -> Option<Line<'a>>
     ensures { option_map said_of result ≡ model.marked kind.now rest.now }
 {
@@ -60,7 +60,7 @@ fn marked<'a>(kind: &str, rest: &'a str) -> Option<Line<'a>>
     with_sum(kind, sum, path)
 }
 
-/// What a line says. None where it says nothing.
+/// The meaning of a line. `None` if it has none.
 pub(crate) fn line_in(line: &str) -> Option<Line<'_>>
     ensures { option_map said_of result ≡ model.says line.now }
 {

@@ -1,14 +1,15 @@
+//! The mark of an entry that was put.
 use sha2::{Digest, Sha256};
 use um_tree::Entry;
 
-/// What was put last at a path.
+/// The mark of the last entry put at a path.
 #[derive(Clone, Copy, Debug)]
 pub enum Mark {
     /// A file, by the SHA-256 of its text.
     File([u8; 32]),
     /// A link, by the SHA-256 of its target.
     Link([u8; 32]),
-    /// Something was asked for the path, and it isn't known what came of it.
+    /// A request was sent for the path, and its result isn't known.
     Asked,
 }
 
@@ -17,7 +18,7 @@ impl Mark {
     ghost use Rattle.um_sync.specs.Sync.{mark_of, same};
     ghost use Rattle.um_tree.specs.View.{entry_of};
 
-    /// The mark of what is put.
+    /// The mark of an entry.
     pub fn of(entry: Entry<'_>) -> Mark
         ensures { result ≡ mark_of (entry_of entry.entry) }
     {
@@ -27,7 +28,7 @@ impl Mark {
         }
     }
 
-    /// Whether what was put is what stands in the folder now.
+    /// Whether the entry that was put is the one in the folder now.
     pub(crate) fn is_same(self, now: Mark) -> bool
         ensures { result ≡ same self now }
     {

@@ -1,4 +1,4 @@
-//! What is to be put and removed, so that a tree has what a folder holds.
+//! The steps after which a tree has the files of a folder.
 
 ghost use Rattle.std.specs.Prelude.{◌≡◌, ◌++◌, IfOk, codes, map, string_bytes};
 ghost use Rattle.std.specs.Cmp.Lexicographic.{slice_cmp};
@@ -12,18 +12,19 @@ use crate::mark::Mark;
 use std::alloc::{AllocError, Global};
 use um_tree::{Entry, Tree};
 
-/// What is done at a path.
+/// The action at a path.
 #[derive(Clone, Copy, Debug, PartialEq, Eq)]
 pub enum Action {
-    /// What the folder holds is put.
+    /// The folder's entry is put.
     Put,
-    /// The same, once what stands there is removed: no link takes the place of anything, and nothing that of a link.
+    /// The folder's entry is put after the old one is removed: a link can't replace anything, and nothing can replace
+    /// a link.
     Replace,
-    /// What stands there is removed.
+    /// The entry is removed.
     Remove,
 }
 
-/// What is done at one path.
+/// The action at one path.
 #[derive(Debug, Drop)]
 pub struct Step {
     pub path: String,
@@ -43,7 +44,7 @@ impl Step {
     }
 }
 
-/// How something takes the place of what was put before: files follow one another.
+/// How an entry replaces the one that was put before: a file can replace a file directly.
 fn in_place_of(before: Mark, now: Mark) -> Action
     ensures { result ≡ model.in_place_of before now }
 {
@@ -53,7 +54,8 @@ fn in_place_of(before: Mark, now: Mark) -> Action
     }
 }
 
-/// What is done where this stands in the folder, and that was put before. None where it is the same, but for all that is to be put again.
+/// The action for this mark in the folder and that mark of the record. `None` if both are the same, unless `all`
+/// files are to be put again.
 fn action_for(all: bool, before: Option<Mark>, now: Mark) -> Option<Action>
     ensures { result ≡ model.action_for all before now }
 {
@@ -74,7 +76,7 @@ fn step_at(alloc: Global, path: &str, action: Action) -> Result<Step, AllocError
     Ok(Step { path, action })
 }
 
-/// What is put of the tree, as a folder holds it.
+/// The steps that put the entries of the tree, as a folder holds it.
 fn puts(alloc: Global, all: bool, ledger: &Ledger, tree: &Tree) -> Result<Vec<Step>, AllocError>
     ensures { IfOk result (λ steps. map step_of steps.items ≡ model.puts all (mark_at ledger.now) tree.now) }
 {
@@ -87,7 +89,7 @@ fn puts(alloc: Global, all: bool, ledger: &Ledger, tree: &Tree) -> Result<Vec<St
     Ok(steps)
 }
 
-/// These, and behind them what is removed: what was put and isn't in the tree.
+/// These steps, followed by those that remove the entries that were put and aren't in the tree.
 fn with_removals(
     steps: Vec<Step>,
     alloc: Global,
@@ -115,7 +117,8 @@ fn in_order(steps: Vec<Step>) -> Result<Vec<Step>, AllocError>
     Ok(steps)
 }
 
-/// What is to be done, by path, where a folder holds the tree: what is new or changed is put, and what is gone is removed; with `all` everything is put.
+/// The steps for a folder that holds the tree, by path: new and changed entries are put, missing ones are removed;
+/// with `all` every entry is put.
 pub fn steps_of(
     alloc: Global,
     all: bool,

@@ -1,4 +1,4 @@
--- The assignments by which a unit is loaded, and those that are looked through for what is told.
+-- The assignments by which a unit is loaded, and those that are searched for reasons.
 use Rattle.std.proofs.Common.{◌≡◌, ◌∙◌, ◌++◌, ◌∷◌, [], List, ℕ, Bool, true, false, Option, Some, None, ap, cond, map, refl, subst, sym}
 use Rattle.std.proofs.lemmas.Bool.{true≢false}
 use Rattle.std.proofs.lemmas.List.{map-append}
@@ -22,7 +22,7 @@ nothing : (b : Bool) (none : List Assigned) → cond b none none ≡ none
 nothing true none = refl
 nothing false none = refl
 
--- what is heard of an item is its assignment
+-- the assignment of an item is the one by which a unit is loaded
 item_same : (type : Option Suffix) (path : List ℕ) (section : Option (List ℕ)) (item : Item)
     → cond (is_heard type section item) (assigned_by section item) [] ≡ map assigned_at (spot_by type path section item)
 item_same type path None (Section name line) = refl
@@ -45,7 +45,7 @@ file_same type path (p ∷ ps) =
     ∙ (λ i. item_same type path p.section p.item i ++ file_same type path ps i)
     ∙ sym (map-append assigned_at (spot_by type path p.section p.item) (spots_in type path ps))
 
--- the unit is loaded by the assignments that are looked through
+-- the unit is loaded by the assignments that are searched
 pub all_same : (type : Option Suffix) (sources : List Source) → assignments_in type sources ≡ map assigned_at (all_spots type sources)
 all_same type [] = refl
 all_same type (s ∷ ss) = (λ i. file_same type s.path s.reading i ++ all_same type ss i) ∙ sym (map-append assigned_at (spots_in type s.path s.reading) (all_spots type ss))
@@ -61,7 +61,7 @@ and_right false b both = absurd (true≢false (sym both))
 and_both : (a b : Bool) → a ≡ true → b ≡ true → (a && b) ≡ true
 and_both a b one other = ap (λ x. x && b) one ∙ other
 
--- what is found passes the test
+-- a found element passes the test
 passes : (p : Spot → Bool) (xs : List Spot) (s : Spot) → find p xs ≡ Some s → p s ≡ true
 passes p [] s found = let bad : ⊥ = cc in absurd bad
 passes p (x ∷ xs) s found = step (p x) refl (λ (f : find p xs ≡ Some s). passes p xs s f)
@@ -70,7 +70,7 @@ passes p (x ∷ xs) s found = step (p x) refl (λ (f : find p xs ≡ Some s). pa
     step true is more = let same : Some x ≡ Some s = subst (λ b. cond b (Some x) (find p xs) ≡ Some s) is found in let eq : x ≡ s = cc in subst (λ y. p y ≡ true) eq is
     step false is more = more (subst (λ b. cond b (Some x) (find p xs) ≡ Some s) is found)
 
--- the first one that is refused is the first of its key that has a value
+-- the first refused assignment is the first of its key that has a value
 pub first_told : (spots : List Spot) (s : Spot) → first_refused spots ≡ Some s → first_with s.key spots ≡ Some s
 first_told [] s found = let bad : ⊥ = cc in absurd bad
 first_told (x ∷ xs) s found = step (is_refused x) (gives s.key x) refl refl (λ (f : first_refused xs ≡ Some s). first_told xs s f)

@@ -1,4 +1,4 @@
--- One reason more is told behind others.
+-- One more reason is reported after others.
 use Rattle.std.proofs.Common.{ℕ, List, [], ◌∷◌, ◌++◌, refl, subst, sym}
 use Rattle.um_model.specs.Tree.{Tree}
 use Rattle.um_verify.specs.Findings.{TakesOut, Tells, Told}

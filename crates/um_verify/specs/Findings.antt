@@ -1,6 +1,7 @@
--- What is told of a unit before any manager has it: each reason why it can't be loaded, at its line, and the same without that line.
--- Follows systemd.unit(5) in what `X-` before a key means; the sentences are the project's own (docs/FORMATS.md, "The program").
--- `umd verify`, and why `umd status` tells that a unit isn't loaded, stand on this file.
+-- The report on a unit before any manager has it: each reason why it can't be loaded, at its line, and the files
+-- without that line. Follows systemd.unit(5) in the meaning of `X-` before a key; the sentences are the project's own
+-- (docs/FORMATS.md, "The program"). `umd verify`, and the reasons that `umd status` gives for a unit that isn't
+-- loaded, stand on this file.
 use Rattle.std.specs.Prelude.{◌≡◌, Ok, ◌⊎◌, ℕ, ◌+◌, ◌-◌, ◌≤◌, ◌==◌, ◌&&◌, not, Bool, true, false, List, [], ◌∷◌, ◌++◌, Option, Some, None}
 use Rattle.std.specs.Prelude.{codes, count_by, decimal, drop, find, fold, if◌then◌else◌, length, map, option_map, slice_get, take}
 use Rattle.std.specs.FinMap as finite
@@ -23,17 +24,19 @@ use Rattle.um_sentences.specs.Sentences.{further_command, key_sentence, key_why,
 
 -- ---- lines
 
--- what is told of a file at a line, or of the whole file: `y.service:2: User= isn't served: every service runs as umd's user`
+-- the text about a file at a line, or about the whole file: `y.service:2: User= isn't served: every service runs as
+-- umd's user`
 abbrev pub finding_text : (path : List ℕ) → (line : Option ℕ) → (told : List ℕ) → List ℕ
 finding_text path None told = path ++ (codes ": " ++ told)
 finding_text path (Some line) told = path ++ (codes ":" ++ (decimal line ++ (codes ": " ++ told)))
 
--- the physical line of this number begins at this place of the text: so many line feeds stand before it, one directly
+-- the physical line of this number begins at this place of the text: `line - 1` line feeds stand before it, the last
+-- of them directly
 abbrev pub BeginsLine : (text : List ℕ) → (line place : ℕ) → Type 0
 BeginsLine text line place =
     (place ≤ length text) × (count_by (λ b. b == 10) (take place text) + 1 ≡ line) × ((place ≡ 0) ⊎ (slice_get text (place - 1) ≡ Some 10))
 
--- the text with `X-` before that line, so that what is assigned there is skipped
+-- the text with `X-` before that line, so that its assignment is skipped
 abbrev pub IsMarked : (line : ℕ) → (text marked : List ℕ) → Type 0
 IsMarked line text marked = (place : ℕ) × BeginsLine text line place × (marked ≡ take place text ++ (codes "X-" ++ drop place text))
 
@@ -61,17 +64,17 @@ spots_in type path reading = flat_map (λ p. spot_by type path p.section p.item)
 abbrev pub all_spots : Option Suffix → List Source → List Spot
 all_spots type sources = flat_map (λ (s : Source). spots_in type s.path s.reading) sources
 
--- ---- where a reason stands
+-- ---- the place of a reason
 
 -- an assignment gives this key a value, in whatever section
 abbrev pub gives : List ℕ → Spot → Bool
 gives key s = bytes_eq s.key key && not (is_empty s.value)
 
--- the first assignment that does
+-- the first assignment that gives it one
 abbrev pub first_with : List ℕ → List Spot → Option Spot
 first_with key spots = find (gives key) spots
 
--- the assignment as it counts for loading: its place doesn't
+-- the assignment as it counts for loading: without its place
 abbrev pub assigned_at : Spot → Assigned
 assigned_at s = record { section = s.section; key = s.key; value = s.value }
 
@@ -79,7 +82,7 @@ assigned_at s = record { section = s.section; key = s.key; value = s.value }
 abbrev pub is_refused : Spot → Bool
 is_refused s = is_refused_key current s.key && not (is_empty s.value)
 
--- the first assignment that does
+-- the first assignment of that kind
 abbrev pub first_refused : List Spot → Option Spot
 first_refused spots = find is_refused spots
 
@@ -87,7 +90,7 @@ first_refused spots = find is_refused spots
 abbrev pub says : List ℕ → List (List ℕ) → Spot → Bool
 says key values s = bytes_eq s.section (codes "Service") && bytes_eq s.key key && is_among s.value values
 
--- the last assignment that does
+-- the last assignment of that kind
 abbrev pub last_with : List ℕ → List (List ℕ) → List Spot → Option Spot
 last_with key values spots = fold (λ last s. if says key values s then Some s else last) None spots
 
@@ -95,11 +98,11 @@ last_with key values spots = fold (λ last s. if says key values s then Some s e
 abbrev pub unserved_types : List (List ℕ)
 unserved_types = codes "notify" ∷ codes "notify-reload" ∷ codes "dbus" ∷ codes "forking" ∷ codes "idle" ∷ []
 
--- policies by which a service is started again behind a success
+-- policies by which a service is started again after a success
 abbrev pub unserved_policies : List (List ℕ)
 unserved_policies = codes "always" ∷ codes "on-success" ∷ []
 
--- the tree with a file more, unless it can't stand there
+-- the tree with one more file, unless the file can't be in it
 abbrev pub with_file : Tree → List ℕ × List ℕ → Tree
 with_file tree (path, text) = result_unwrap_or (put_file tree path text) tree
 
@@ -112,13 +115,13 @@ abbrev pub is_loaded : Loading → Bool
 is_loaded (Found unit) = true
 is_loaded other = false
 
--- a command can be read of the value of an ExecStart= of the unit: a oneshot service with it alone can be loaded
+-- the value of an ExecStart= of the unit holds a command: a oneshot service with it alone can be loaded
 unfoldable pub holds_command : (unit value : List ℕ) → Bool
 holds_command unit value =
     is_loaded
     (load (read_by current (tree_with ((codes "lib/" ++ unit, codes "[Service]\nType=oneshot\nExecStart=" ++ (value ++ codes "\n")) ∷ []))) unit)
 
--- the assignments of ExecStart= that count so far, with one more: an empty value takes those before it back
+-- the assignments of ExecStart= that count so far, with one more: an empty value resets the list
 abbrev pub with_start : (unit : List ℕ) → List Spot → Spot → List Spot
 with_start unit found s =
     if bytes_eq s.section (codes "Service") && bytes_eq s.key (codes "ExecStart")
@@ -129,15 +132,15 @@ with_start unit found s =
 abbrev pub starts_in : (unit : List ℕ) → List Spot → List Spot
 starts_in unit spots = fold (with_start unit) [] spots
 
--- ---- what is told of a reason
+-- ---- the report of a reason
 
--- what is told of a file
+-- a report on a file
 pub record Told : Type 0 where
   pub path : List ℕ
   pub line : Option ℕ
   pub told : List ℕ
 
--- what is told of an assignment
+-- a report on an assignment
 abbrev pub told_at : Spot → List ℕ → Told
 told_at s told = record { path = s.path; line = Some s.line; told = told }
 
@@ -149,20 +152,20 @@ text_at path files = option_map (λ (f : UnitFile). f.text) (find (λ (f : UnitF
 abbrev pub IsWithout : List UnitFile → Spot → List ℕ → Type 0
 IsWithout files s text = (old : List ℕ) × (text_at s.path files ≡ Some old) × IsMarked s.line old text
 
--- this is told of the assignment, and the text is that of its file without it
+-- the report is this one about the assignment, and the text is that of its file without it
 abbrev pub TellsAt : List UnitFile → Spot → (told : List ℕ) → Told → (text : List ℕ) → Type 0
 TellsAt files s told t text = (t ≡ told_at s told) × IsWithout files s text
 
--- a key that no unit may have: at the first one with a value
+-- a key that no unit may have: reported at its first assignment with a value
 abbrev pub TellsSetting : List ℕ → List UnitFile → List Spot → Told → (text : List ℕ) → Type 0
 TellsSetting key files spots t text =
     (why : List ℕ) × (s : Spot) × (key_why key ≡ Some why) × (first_with key spots ≡ Some s) × TellsAt files s (key_sentence key why) t text
 
--- a type that isn't served: at the last Type= that names one
+-- a type that isn't served: reported at the last Type= that names one
 abbrev pub TellsType : List UnitFile → List Spot → Told → (text : List ℕ) → Type 0
 TellsType files spots t text = (s : Spot) × (last_with (codes "Type") unserved_types spots ≡ Some s) × TellsAt files s (type_sentence s.value) t text
 
--- a policy that isn't served: at the last Restart= that names one
+-- a policy that isn't served: reported at the last Restart= that names one
 abbrev pub TellsRestart : List UnitFile → List Spot → Told → (text : List ℕ) → Type 0
 TellsRestart files spots t text =
     (s : Spot) × (last_with (codes "Restart") unserved_policies spots ≡ Some s) × TellsAt files s (restart_sentence s.value) t text
@@ -171,29 +174,30 @@ TellsRestart files spots t text =
 abbrev pub command : List ℕ
 command = codes "\n\n[Service]\nExecStart=/bin/true\n"
 
--- that there is no command is told of the unit's own file, which has one then
+-- a lack of commands is reported for the unit's own file, and the text is that file with a command
 abbrev pub TellsLack : List UnitFile → Told → (text : List ℕ) → Type 0
 TellsLack files t text =
     (file : UnitFile) × (slice_get files 0 ≡ Some file) × (t ≡ record { path = file.path; line = None; told = no_command }) × (text ≡ file.text ++ command)
 
--- a command too many: at the last ExecStart= that counts, without which the file has a command more where it was the only one
+-- a further command: reported at the last ExecStart= that counts; without it the file gets another command if it was
+-- the only one
 abbrev pub TellsFurther : List UnitFile → List Spot → Told → (text : List ℕ) → Type 0
 TellsFurther files starts t text =
     (s : Spot) × (without : List ℕ) × (slice_get starts (length starts - 1) ≡ Some s) × TellsAt files s further_command t without
     × (text ≡ (if length starts == 1 then without ++ command else without))
 
--- what is wrong with the number of commands: there is none, or one too many
+-- a wrong number of commands: there is none, or a further one
 abbrev pub TellsCount : List UnitFile → List Spot → Told → (text : List ℕ) → Type 0
 TellsCount files starts t text = ((starts ≡ []) × TellsLack files t text) ⊎ TellsFurther files starts t text
 
--- the text is that of the reason
+-- the text of the reason is this one
 abbrev pub Spells : Reason → List ℕ → Type 0
 Spells (Setting key) text = text ≡ codes "setting " ++ key.now
 Spells ServiceType text = text ≡ codes "type"
 Spells Restart text = text ≡ codes "restart"
 Spells ExecCount text = text ≡ codes "exec-count"
 
--- a reason why a unit can't be loaded is told where it stands, and the text is that of the file told, without it
+-- a reason why a unit can't be loaded is reported at its place, and the text is that of the reported file without it
 abbrev pub TellsReason : (unit : List ℕ) → Reason → List UnitFile → List Spot → Told → (text : List ℕ) → Type 0
 TellsReason unit (Setting key) files spots t text = TellsSetting key.now files spots t text
 TellsReason unit ServiceType files spots t text = TellsType files spots t text
@@ -208,17 +212,17 @@ unit_files tree unit = files_at tree (resolution_of tree unit)
 abbrev pub unit_spots : Tree → List ℕ → List Spot
 unit_spots tree unit = all_spots (suffix_of unit) (map source_of (unit_files tree unit))
 
--- the reason that a text is, by the tree
+-- the same for the text of a reason, with the unit's files in the tree
 abbrev pub TellsIn : Tree → (unit reason : List ℕ) → Told → (text : List ℕ) → Type 0
 TellsIn tree unit reason t text = (r : Reason) × Spells r reason × TellsReason unit r (unit_files tree unit) (unit_spots tree unit) t text
 
--- the reason why the unit can't be loaded is told where it stands, and the tree is without it behind that
+-- the reason why the unit can't be loaded is reported at its place, and is removed from the tree
 abbrev pub TakesOut : (before after : Tree) → (unit : List ℕ) → Told → Type 0
 TakesOut before after unit t =
     (named reason text : List ℕ) × (load (read_by current before) unit ≡ BadSetting named reason) × TellsIn before named reason t text
     × (put_file before t.path text ≡ Ok after)
 
--- these reasons are told, one behind the other, each by the tree that the one before has left
+-- these reasons are reported one after another, each by the tree that the one before has left
 abbrev pub Tells : (before : Tree) → (unit : List ℕ) → List Told → (after : Tree) → Type 0
 Tells before unit [] after = before ≡ after
 Tells before unit (t ∷ ts) after = (mid : Tree) × TakesOut before mid unit t × Tells mid unit ts after

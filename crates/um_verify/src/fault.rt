@@ -1,17 +1,18 @@
+//! Why unit files can't be read into a tree.
 use std::alloc::{AllocError, AllocFailed};
 use std::io;
 use um_wire::Refusal;
 
-/// Why unit files aren't looked at.
+/// Why unit files can't be read into a tree.
 #[derive(Drop)]
 pub enum VerifyFault {
     /// Two files are the same unit's in the same layer.
     Twice { path: String, other: String },
-    /// What stands at this path can't be read.
+    /// The file or folder at this path can't be read.
     Read(String, io::Error),
     /// There are more files than a tree may have.
     Refused(Refusal),
-    /// A growth of memory was refused.
+    /// An allocation failed.
     NoMemory,
 }
 

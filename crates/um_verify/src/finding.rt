@@ -1,24 +1,25 @@
+//! A finding: a report on a line of a file, or on a whole file.
 ghost use Rattle.std.specs.Prelude.{◌≡◌, IfOk, None, string_bytes};
 
 use std::alloc::{AllocError, Global};
 
-/// What is told of a line of a file, or of a file as a whole.
+/// A report on a line of a file, or on a whole file.
 #[derive(Drop)]
 pub struct Finding {
     /// The path of the file.
     pub path: String,
-    /// The number of the line, from 1; None for the whole file.
+    /// The number of the line, from 1; `None` for the whole file.
     pub line: Option<usize>,
-    /// What is told.
+    /// The report itself.
     pub text: String,
-    /// The unit can't be loaded for it.
+    /// The unit can't be loaded because of it.
     pub stops: bool,
 }
 
 impl Finding {
     ghost use Rattle.um_verify.specs.View.{finding_line};
 
-    /// What is told of a file as a whole.
+    /// A report on a whole file.
     pub(crate) fn of_file(
         alloc: Global,
         path: &str,
@@ -38,7 +39,8 @@ impl Finding {
         })
     }
 
-    /// Its line: `y.service:2: User= isn't served: every service runs as umd's user`, or without a number where it is of the whole file.
+    /// Its line of text: `y.service:2: User= isn't served: every service runs as umd's user`; without a number if it
+    /// is about the whole file.
     pub fn to_line(&self, alloc: Global) -> Result<String, AllocError>
         ensures { IfOk result (λ text. string_bytes text ≡ finding_line self.now) }
     {

@@ -1,4 +1,4 @@
-//! Folders and files as they lie on a disk, read into a tree.
+//! Reads folders and files on a disk into a tree.
 
 use crate::fault::VerifyFault;
 use crate::places::Collected;
@@ -7,19 +7,19 @@ use std::fs::{File, Files};
 use std::io::Read;
 use std::{fs, io};
 
-/// The layers of a tree, by their folders.
+/// The layers of a tree, named by their folders.
 const LAYERS: [&str; 3] = ["etc", "run", "lib"];
 
-/// What the folders of a unit end in.
+/// The endings of a unit's folders.
 const FOLDERS: [&str; 3] = [".d", ".wants", ".requires"];
 
-/// A tree's file has so many bytes at most; of a file one more is read.
+/// The most bytes of a file in a tree; one more is read.
 const LONGEST: usize = 65_536;
 
-/// The names of what a sync keeps in a folder begin so.
+/// The beginning of the names of the files that a sync keeps in a folder.
 const SYNC: &str = ".umd-sync";
 
-/// That what stands at the path can't be read; want of memory as such.
+/// The fault of a path that can't be read; out of memory is a fault of its own.
 fn unread(alloc: Global, path: &str, fault: io::Error) -> VerifyFault {
     if fault.kind() == io::ErrorKind::OutOfMemory {
         return VerifyFault::NoMemory;
@@ -66,7 +66,7 @@ fn read_file<R: Files>(
     }
 }
 
-/// Where a link leads, as it is written. None where that isn't UTF-8.
+/// The target of a link, as it is written. `None` if it isn't UTF-8.
 fn target_of<R: Files>(rt: &R, alloc: Global, path: &str) -> Result<Option<String>, VerifyFault> {
     match fs::read_link(&(rt, alloc), path) {
         Ok(target) => match target.to_str() {
@@ -77,7 +77,7 @@ fn target_of<R: Files>(rt: &R, alloc: Global, path: &str) -> Result<Option<Strin
     }
 }
 
-/// Puts a link to this target into the tree. False where it can't stand there.
+/// Puts a link to this target into the tree. False if it can't be there.
 fn put_target(
     collected: &mut Collected,
     place: &str,
@@ -93,7 +93,7 @@ fn put_target(
     }
 }
 
-/// Reads the file behind a link into the tree.
+/// Reads the file that a link leads to into the tree.
 fn read_behind<R: Files>(
     rt: &R,
     collected: &mut Collected,
@@ -106,7 +106,7 @@ fn read_behind<R: Files>(
     }
 }
 
-/// Reads a link into the tree, or, where such a link can't stand there, the file that it leads to.
+/// Reads a link into the tree; if the link can't be there, the file that it leads to.
 fn read_link<R: Files>(
     rt: &R,
     collected: &mut Collected,
@@ -121,7 +121,7 @@ fn read_link<R: Files>(
     }
 }
 
-/// Reads what stands at the path into the tree.
+/// Reads the file, link or folder at the path into the tree.
 fn read_entry<R: Files>(
     rt: &R,
     collected: &mut Collected,
@@ -145,7 +145,7 @@ fn push_name(names: &mut Vec<String>, alloc: Global, name: &str) -> io::Result<(
     Ok(())
 }
 
-/// The names of what stands in a folder.
+/// The names in a folder.
 fn listed<R: Files>(rt: &R, alloc: Global, path: &str) -> io::Result<Vec<String>> {
     let mut names = Vec::new(alloc);
     for entry in fs::read_dir(&(rt, alloc), path)? {
@@ -154,7 +154,7 @@ fn listed<R: Files>(rt: &R, alloc: Global, path: &str) -> io::Result<Vec<String>
     Ok(names)
 }
 
-/// The names in a folder.
+/// The names in a folder, or the fault.
 fn names_in<R: Files>(rt: &R, alloc: Global, path: &str) -> Result<Vec<String>, VerifyFault> {
     match listed(rt, alloc, path) {
         Ok(names) => Ok(names),
@@ -167,7 +167,7 @@ fn joined(alloc: Global, folder: &str, name: &str) -> Result<String, VerifyFault
     Ok(format!(in alloc; "{folder}/{name}")?)
 }
 
-/// Whether a folder stands at the path, and no link.
+/// Whether the path is a folder, and no link.
 fn is_folder<R: Files>(rt: &R, path: &str) -> bool {
     match fs::symlink_metadata(rt, path) {
         Ok(about) => about.is_dir(),
@@ -175,7 +175,7 @@ fn is_folder<R: Files>(rt: &R, path: &str) -> bool {
     }
 }
 
-/// Reads what has this name in a folder of a unit.
+/// Reads the entry of this name in a folder of a unit.
 fn read_inner_entry<R: Files>(
     rt: &R,
     collected: &mut Collected,
@@ -202,12 +202,12 @@ fn read_inner<R: Files>(
     Ok(())
 }
 
-/// Whether a folder of this name is one of a unit.
+/// Whether a folder of this name belongs to a unit.
 fn is_of_unit(name: &str) -> bool {
     FOLDERS.iter().any(|end| name.ends_with(*end))
 }
 
-/// Reads what stands at the path in a layer, by this name.
+/// Reads the entry at the path, of this name in a layer.
 fn read_named_in<R: Files>(
     rt: &R,
     collected: &mut Collected,
@@ -222,7 +222,7 @@ fn read_named_in<R: Files>(
     }
 }
 
-/// Reads what has this name in a layer.
+/// Reads the entry of this name in a layer.
 fn read_in_layer<R: Files>(
     rt: &R,
     collected: &mut Collected,
@@ -249,7 +249,7 @@ fn read_layer<R: Files>(
     Ok(())
 }
 
-/// Whether the name is a layer's, and its folder stands at the path.
+/// Whether the name is a layer's, and the path is a folder.
 fn is_layer<R: Files>(rt: &R, name: &str, path: &str) -> bool {
     LAYERS.contains(&name) && is_folder(rt, path)
 }
@@ -260,7 +260,7 @@ fn has_layer<R: Files>(rt: &R, alloc: Global, path: &str, name: &str) -> Result<
     Ok(is_folder(rt, inner.as_str()))
 }
 
-/// Whether a folder has one of a layer.
+/// Whether a folder contains the folder of a layer.
 fn has_layers<R: Files>(rt: &R, alloc: Global, path: &str) -> Result<bool, VerifyFault> {
     for name in LAYERS {
         if has_layer(rt, alloc, path, name)? {
@@ -270,7 +270,7 @@ fn has_layers<R: Files>(rt: &R, alloc: Global, path: &str) -> Result<bool, Verif
     Ok(false)
 }
 
-/// Reads what has this name in a folder with layers.
+/// Reads the entry of this name in a folder with layers.
 fn read_top<R: Files>(
     rt: &R,
     collected: &mut Collected,
@@ -304,7 +304,7 @@ fn last_part(path: &str) -> &str {
     }
 }
 
-/// Reads a file into the tree, where one may stand at that path of it.
+/// Reads a file into the tree, if the tree can have one at that path.
 fn read_where<R: Files>(
     rt: &R,
     collected: &mut Collected,
@@ -324,7 +324,7 @@ fn read_named<R: Files>(rt: &R, collected: &mut Collected, path: &str) -> Result
     read_where(rt, collected, place.as_str(), path)
 }
 
-/// Reads a folder, by its layers or as one.
+/// Reads a folder, by its layers or as a single one.
 fn read_folder<R: Files>(
     rt: &R,
     collected: &mut Collected,
@@ -347,7 +347,7 @@ fn folder_at(path: &str) -> &str {
     }
 }
 
-/// Reads what a path names.
+/// Reads the folder or file at a path.
 fn read_path<R: Files>(rt: &R, collected: &mut Collected, path: &str) -> Result<(), VerifyFault> {
     match fs::metadata(rt, path) {
         Ok(about) if about.is_dir() => read_folder(rt, collected, folder_at(path)),
@@ -357,9 +357,10 @@ fn read_path<R: Files>(rt: &R, collected: &mut Collected, path: &str) -> Result<
     }
 }
 
-/// Reads folders and files into a tree: a folder with its folders `etc`, `run` and `lib`, or, where it has none of them, as `lib`, with links as links; a file
-/// as one of `lib`. What has no served path, or can't be a file of a unit, is told and left. `Twice` where two files would stand at one path of the tree,
-/// `Read` for what can't be read.
+/// Reads folders and files into a tree. A folder is read by its folders `etc`, `run` and `lib`, or as `lib` if it has
+/// none of them, with links as links; a file is read as one of `lib`. Anything without a served path, or that can't
+/// be a file of a unit, is reported and skipped. `Twice` if two files would be at one path of the tree, `Read` if
+/// something can't be read.
 pub fn collect<R: Files>(rt: &R, alloc: Global, paths: &[&str]) -> Result<Collected, VerifyFault> {
     let mut collected = Collected::new(alloc);
     for path in paths {
@@ -368,7 +369,7 @@ pub fn collect<R: Files>(rt: &R, alloc: Global, paths: &[&str]) -> Result<Collec
     Ok(collected)
 }
 
-/// Reads what stands at a layer's name in a folder: another folder, and nothing else can be.
+/// Reads the entry with a layer's name in a folder; anything but a folder is a misfit.
 fn read_own_layer<R: Files>(
     rt: &R,
     collected: &mut Collected,
@@ -383,8 +384,8 @@ fn read_own_layer<R: Files>(
     }
 }
 
-/// Reads the folders `etc`, `run` and `lib` of a folder into a tree, as `collect` does, and nothing else of it. What can't be put at its place in a tree
-/// is among the misfits too.
+/// Reads the folders `etc`, `run` and `lib` of a folder into a tree, as `collect` does, and nothing else of it.
+/// Anything that can't be put at its place in a tree is also a misfit.
 pub fn collect_layers<R: Files>(
     rt: &R,
     alloc: Global,

@@ -1,4 +1,4 @@
-//! Files that are given by their texts, as a tree.
+//! A tree of files that are given by their texts.
 
 ghost use Rattle.std.specs.Prelude.{◌≡◌, IfOk, OnOk, map};
 ghost use Rattle.um_model.specs.Profiles.{current, read_by};
@@ -11,7 +11,7 @@ use um_tree::Tree;
 use um_unit::Reading;
 use um_wire::Refusal;
 
-/// Puts a file into the tree; one that can't stand there is left out.
+/// Puts a file into the tree; a file that can't be there is left out.
 fn put(tree: &mut Tree, path: &str, text: &str) -> Result<(), AllocError>
     ensures { OnOk result (tree.new ≡ with_file tree.old (path.now, text.now)) }
 {
@@ -25,7 +25,7 @@ fn put(tree: &mut Tree, path: &str, text: &str) -> Result<(), AllocError>
     }
 }
 
-/// The tree as it is read: by the current profile.
+/// The tree as the current profile reads it.
 pub(crate) fn read_now(tree: &Tree) -> Reading<'_>
     ensures { tree_read result ≡ read_by current tree.now }
 {

@@ -1,5 +1,5 @@
-//! Unit files as they lie on a disk, looked at before any manager has them: each reason why a unit can't be loaded and each line without effect, by file
-//! and line.
+//! Checks unit files on a disk before any manager has them: each reason why a unit can't be loaded and each line
+//! without effect, by file and line.
 #![tactic(auto)]
 
 mod fault;

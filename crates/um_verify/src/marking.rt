@@ -1,4 +1,4 @@
-//! Lines of a file by their numbers, and a file in which one is skipped.
+//! The lines of a file by their numbers, and a file in which one line is skipped.
 
 ghost use Rattle.std.specs.Prelude.{IfOk, IfSome, string_bytes};
 ghost use Rattle.um_verify.specs.Findings as model;
@@ -24,8 +24,8 @@ fn line_start(text: &str, line: usize) -> Option<usize>
     None
 }
 
-/// The text with `X-` in front of the line of this number, so that what is assigned there, also over several lines, is skipped without a warning. No line
-/// has another number than before.
+/// The text with `X-` in front of the line of this number, so that its assignment, also over several lines, is
+/// skipped without a warning. All lines keep their numbers.
 pub fn without_line(alloc: Global, text: &str, line: usize) -> Result<Option<String>, AllocError>
     ensures { IfOk result (λ marked. IfSome marked (λ m. model.IsMarked line text.now (string_bytes m))) }
 {

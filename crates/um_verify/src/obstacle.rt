@@ -1,4 +1,4 @@
-//! What stands in the way of a unit's loading, and its files without that.
+//! The reason why a unit can't be loaded, and its files without it.
 
 ghost use Rattle.std.specs.Prelude.{◌≡◌, ◌++◌, ◌-◌, ◌==◌, IfOk, IfSome, if◌then◌else◌, length, map, option_map, slice_get, string_bytes, true};
 ghost use Rattle.um_resolve.specs.View.{unit_file_of};
@@ -21,7 +21,7 @@ use um_tree::Tree;
 /// A reason why a unit can't be loaded, and the file without it.
 #[derive(Drop)]
 pub struct Obstacle {
-    /// What is told of it; its path is that in the tree.
+    /// The report on it; its path is that in the tree.
     pub finding: Finding,
     /// The text of the file at that path, without it.
     pub text: String,
@@ -34,7 +34,7 @@ pub enum Reason<'r> {
     Setting(&'r str),
     /// The type isn't served.
     ServiceType,
-    /// A oneshot would be started again behind a success.
+    /// A oneshot would be started again after a success.
     Restart,
     /// There is no command, or there are too many.
     ExecCount,
@@ -43,10 +43,10 @@ pub enum Reason<'r> {
 /// The types of services that aren't served.
 const TYPES: [&str; 5] = ["notify", "notify-reload", "dbus", "forking", "idle"];
 
-/// The policies by which a service is started again behind a success.
+/// The policies by which a service is started again after a success.
 const POLICIES: [&str; 2] = ["always", "on-success"];
 
-/// A command that any service can be started with, in lines behind a file.
+/// A command that starts any service, as lines that are appended to a file.
 const COMMAND: &str = "\n\n[Service]\nExecStart=/bin/true\n";
 
 /// The text of the file at the path.
@@ -61,7 +61,7 @@ fn text_at<'t>(files: &[SourceFile<'t>], path: &str) -> Option<&'t str>
     None
 }
 
-/// What is told of an assignment.
+/// The report on an assignment.
 fn finding_at(alloc: Global, spot: Spot<'_>, text: String) -> Result<Finding, AllocError>
     ensures told { IfOk result (λ f. told_of f ≡ model.told_at (spot_of spot.entry) (string_bytes text)) }
     ensures stops { IfOk result (λ f. f.stops ≡ true) }
@@ -74,7 +74,7 @@ fn finding_at(alloc: Global, spot: Spot<'_>, text: String) -> Result<Finding, Al
     })
 }
 
-/// What is told of an assignment, and its file without it. None where its line isn't found.
+/// The report on an assignment, and its file without it. `None` if its line isn't found.
 fn obstacle_at(
     alloc: Global,
     files: &[SourceFile<'_>],
@@ -96,7 +96,7 @@ fn obstacle_at(
     }))
 }
 
-/// A file with a command behind it.
+/// A file with a command appended.
 fn with_command(alloc: Global, text: &str) -> Result<String, AllocError>
     ensures { IfOk result (λ more. string_bytes more ≡ text.now ++ model.command) }
 {
@@ -105,7 +105,7 @@ fn with_command(alloc: Global, text: &str) -> Result<String, AllocError>
     Ok(text)
 }
 
-/// That there is no command, and the unit's own file with one.
+/// The report that there is no command, and the unit's own file with one.
 fn lack_of_command(alloc: Global, files: &[SourceFile<'_>]) -> Result<Option<Obstacle>, AllocError>
     ensures { IfOk result (λ o. IfSome o (IsObstacle (model.TellsLack (map unit_file_of files.now)))) }
 {
@@ -117,7 +117,7 @@ fn lack_of_command(alloc: Global, files: &[SourceFile<'_>]) -> Result<Option<Obs
     Ok(Some(Obstacle { finding, text }))
 }
 
-/// The text, or, where it was the only one that had a command, with another.
+/// The text; if its command was the only one, with another.
 fn with_one(alloc: Global, text: String, count: usize) -> Result<String, AllocError>
     ensures { IfOk result (λ more. string_bytes more ≡ (if count == 1 then string_bytes text ++ model.command else string_bytes text)) }
 {
@@ -128,7 +128,7 @@ fn with_one(alloc: Global, text: String, count: usize) -> Result<String, AllocEr
     }
 }
 
-/// A command too many, of which the last one is told: these hold all of them.
+/// The report that there is a further command, at the last of `starts`, which are all of them.
 fn command_too_many(
     alloc: Global,
     files: &[SourceFile<'_>],
@@ -147,7 +147,7 @@ fn command_too_many(
     Ok(Some(Obstacle { finding, text }))
 }
 
-/// What is wrong with the number of commands, which stand there.
+/// The report of a wrong number of commands, given the assignments that hold them.
 fn wrong_count_of(
     alloc: Global,
     files: &[SourceFile<'_>],
@@ -161,7 +161,7 @@ fn wrong_count_of(
     }
 }
 
-/// What is wrong with the number of commands of the unit.
+/// The report of a wrong number of commands of the unit.
 fn wrong_count(
     alloc: Global,
     unit: &UnitName,
@@ -174,7 +174,7 @@ fn wrong_count(
     wrong_count_of(alloc, files, starts.as_slice())
 }
 
-/// A key that no unit may have, at its first value.
+/// The report of a key that no unit may have, at its first value.
 fn refused_setting(
     alloc: Global,
     files: &[SourceFile<'_>],
@@ -193,7 +193,7 @@ fn refused_setting(
     obstacle_at(alloc, files, spot, told)
 }
 
-/// A type that isn't served.
+/// The report of a type that isn't served.
 fn unserved_type(
     alloc: Global,
     files: &[SourceFile<'_>],
@@ -208,7 +208,7 @@ fn unserved_type(
     obstacle_at(alloc, files, spot, told)
 }
 
-/// A policy by which a oneshot would be started again behind a success.
+/// The report of a policy by which a oneshot would be started again after a success.
 fn unserved_restart(
     alloc: Global,
     files: &[SourceFile<'_>],
@@ -223,7 +223,7 @@ fn unserved_restart(
     obstacle_at(alloc, files, spot, told)
 }
 
-/// The reason that the text is.
+/// The reason of this text.
 fn reason_named(text: &str) -> Option<Reason<'_>>
     ensures { IfSome result (λ reason. model.Spells reason text.now) }
 {
@@ -242,7 +242,7 @@ fn reason_named(text: &str) -> Option<Reason<'_>>
     None
 }
 
-/// The reason where it stands.
+/// The report of the reason, at its place.
 fn reason_at(
     alloc: Global,
     unit: &UnitName,
@@ -260,7 +260,7 @@ fn reason_at(
     }
 }
 
-/// The reason where it stands in the unit's files.
+/// The report of the reason, at its place in the unit's files.
 fn reason_in(
     alloc: Global,
     tree: &Tree,
@@ -276,7 +276,7 @@ fn reason_in(
     reason_at(alloc, unit, files.as_slice(), spots.as_slice(), reason)
 }
 
-/// Why the unit of the tree isn't loaded, where that reason stands. None where that isn't found.
+/// The report of the reason why the unit of the tree isn't loaded, at its place. `None` if no place is found.
 pub fn obstacle_of(
     alloc: Global,
     tree: &Tree,

@@ -1,4 +1,4 @@
-//! Files that were read into a tree, and where each lies.
+//! Files that were read into a tree, and their places on the disk.
 
 use crate::fault::VerifyFault;
 use crate::finding::Finding;
@@ -12,11 +12,11 @@ use um_wire::Refusal;
 pub struct Collected {
     pub(crate) alloc: Global,
     pub(crate) tree: Tree,
-    /// The paths of the files, by those in the tree.
+    /// The paths of the files on the disk, by those in the tree.
     pub(crate) origins: BTreeMap<String, String>,
-    /// What was told of what isn't in the tree.
+    /// The findings about files that aren't in the tree.
     pub(crate) findings: Vec<Finding>,
-    /// What can't be put at its place in a tree, and why, a line each.
+    /// The files that can't be put at their places in a tree, and why, a line each.
     pub(crate) misfits: Vec<String>,
 }
 
@@ -37,12 +37,12 @@ impl Collected {
         &self.tree
     }
 
-    /// What no command would put at its place in a tree, and why: `lib/a.txt: E12 BadPath lib/a.txt`.
+    /// The files that no command would put at their places in a tree, and why: `lib/a.txt: E12 BadPath lib/a.txt`.
     pub fn misfits(&self) -> &[String] {
         self.misfits.as_slice()
     }
 
-    /// Notes that what stands at a place can't be put there.
+    /// Notes that the entry at a place can't be put there.
     pub(crate) fn misfit(&mut self, place: &str, why: &str) -> Result<(), VerifyFault> {
         let line = format!(in self.alloc; "{place}: {why}")?;
         self.misfits.push(line)?;
@@ -56,37 +56,37 @@ impl Collected {
         Ok(())
     }
 
-    /// Tells of a file that it is none of a unit.
+    /// Reports that a file is none of a unit.
     pub(crate) fn tell_no_unit(&mut self, path: &str) -> Result<(), VerifyFault> {
         self.tell(path, "no unit file", false)
     }
 
-    /// Tells of what stands at a place that it is no file of a unit.
+    /// Reports that the entry at a place is no file of a unit.
     pub(crate) fn tell_no_place(&mut self, place: &str, path: &str) -> Result<(), VerifyFault> {
         self.no_place(place)?;
         self.tell_no_unit(path)
     }
 
-    /// Tells of a file that it is no text.
+    /// Reports that a file is no text.
     pub(crate) fn tell_no_text(&mut self, place: &str, path: &str) -> Result<(), VerifyFault> {
         self.misfit(place, "not UTF-8")?;
         self.tell(path, "not UTF-8", true)
     }
 
-    /// Tells of a file that it is too long.
+    /// Reports that a file is too long.
     pub(crate) fn tell_too_long(&mut self, place: &str, path: &str) -> Result<(), VerifyFault> {
         self.misfit(place, "E13 TooLarge text")?;
         self.tell(path, "longer than 65536 bytes", true)
     }
 
-    /// Tells of a file as a whole.
+    /// Reports on a whole file.
     pub(crate) fn tell(&mut self, path: &str, text: &str, stops: bool) -> Result<(), VerifyFault> {
         let finding = Finding::of_file(self.alloc, path, text, stops)?;
         self.findings.push(finding)?;
         Ok(())
     }
 
-    /// Whether a file may stand at the path of the tree: false, and told, where none can.
+    /// Whether the tree can have a file at the path; if not, false is returned and that is reported.
     pub(crate) fn takes(&mut self, place: &str, path: &str) -> Result<bool, VerifyFault> {
         if ServedPath::parse(place).is_none() {
             self.tell_no_place(place, path)?;
@@ -101,7 +101,7 @@ impl Collected {
         }
     }
 
-    /// Notes where the file at a path of the tree lies.
+    /// Notes the path on the disk of the file at a path of the tree.
     fn note(&mut self, place: &str, path: &str) -> Result<(), VerifyFault> {
         let place = String::from_str(self.alloc, place)?;
         let path = String::from_str(self.alloc, path)?;
@@ -127,7 +127,7 @@ impl Collected {
         }
     }
 
-    /// Puts a link at the path of the tree. False where it can't stand there.
+    /// Puts a link at the path of the tree. False if it can't be there.
     pub(crate) fn put_link(
         &mut self,
         place: &str,

@@ -1,4 +1,4 @@
-//! All that is told of a unit: each reason why it can't be loaded, one behind the other, and each warning.
+//! The whole report on a unit: each reason why it can't be loaded, one after another, and each warning.
 
 ghost use Rattle.std.specs.Prelude.{◌≡◌, ◌++◌, List, IfOk, OnOk, map};
 ghost use Rattle.um_unit.specs.View.{unit_of, warned_by, warnings_seen};
@@ -17,7 +17,7 @@ use um_tree::{Entry, Tree};
 use um_unit::{FileWarnings, LoadedUnit, Loading, load};
 use um_wire::Refusal;
 
-/// What became of a look at a unit.
+/// The outcome of a look at a unit.
 #[derive(Drop)]
 pub enum Looked {
     /// It is found, or would be without these.
@@ -27,12 +27,12 @@ pub enum Looked {
     NotFound,
 }
 
-/// What became of a reason.
+/// The outcome for a reason.
 #[derive(Drop)]
 pub(crate) enum Taken {
-    /// It is told, and the tree is without it.
+    /// It is reported, and the tree is without it.
     Out(Finding),
-    /// The tree is as it was. The reason is told, where a line was found for it.
+    /// The tree is unchanged. The reason is reported if a line was found for it.
     Left(Option<Finding>),
 }
 
@@ -80,7 +80,8 @@ fn add_files(
     Ok(())
 }
 
-/// Tells the reason at its line, and takes it out of the tree, where a line is found for it and the tree holds the file without it.
+/// Reports the reason at its line, and removes it from the tree, if a line is found for it and the tree can hold the
+/// file without it.
 fn take_out(
     alloc: Global,
     tree: &mut Tree,
@@ -103,7 +104,7 @@ fn take_out(
     }
 }
 
-/// The findings, and behind them one that may be there.
+/// The findings, followed by the last one, if there is one.
 fn with_last(findings: Vec<Finding>, last: Option<Finding>) -> Result<Vec<Finding>, AllocError>
     ensures { IfOk result (λ all. (rest : List findings_of.Finding) × (all.items ≡ findings.items ++ rest)) }
 {
@@ -114,7 +115,7 @@ fn with_last(findings: Vec<Finding>, last: Option<Finding>) -> Result<Vec<Findin
     Ok(all)
 }
 
-/// The findings, and behind them the warnings of the unit that was found.
+/// The findings, followed by the warnings of the unit that was found.
 fn with_warnings(
     alloc: Global,
     tree: &Tree,
@@ -128,8 +129,8 @@ fn with_warnings(
     Ok(all)
 }
 
-/// Looks at the unit of that name in a tree, of which the files lose what stands in the way of its loading: the reason that `load` gives is told at its line,
-/// the line is taken out, and the unit is loaded again, until it is loaded. Then its warnings are told.
+/// Looks at the unit of that name in a tree. The reason that `load` gives is reported at its line and the line is
+/// removed, until the unit can be loaded; then its warnings are reported. The tree keeps the changes.
 pub fn look_at(alloc: Global, tree: &mut Tree, unit: &UnitName) -> Result<Looked, AllocError>
     ensures { IfOk result (LooksAt tree.old tree.new unit.now) }
 {

@@ -1,4 +1,4 @@
-//! The assignment that a reason is of.
+//! Finds the assignment that a reason is about.
 
 ghost use Rattle.std.specs.Prelude.{◌≡◌, map, option_map};
 ghost use Rattle.um_model.specs.Requests.{is_among as is_among_texts};

@@ -22,7 +22,7 @@ pub struct Reading<'t> {
     pub items: Vec<Item<'t>>,
 }
 
-/// An assignment in a known section, and where it stands.
+/// An assignment in a known section, and its place.
 #[derive(Clone, Copy)]
 pub struct Spot<'a> {
     /// The path of its file in the tree.
@@ -54,7 +54,7 @@ fn section_after<'i>(section: Option<&'i str>, item: &'i Item<'_>) -> Option<&'i
     }
 }
 
-/// The assignment that an item is, in a known section.
+/// The assignment of an item in a known section.
 fn spot_at<'i>(
     suffix: Suffix,
     path: &'i str,

@@ -1,4 +1,4 @@
-//! The commands that a service is started with, by their lines.
+//! The commands of a service, by their lines.
 
 ghost use Rattle.std.specs.Prelude.{◌≡◌, IfOk, OnOk, map, string_bytes};
 ghost use Rattle.um_unit.specs.View.{loading_of};
@@ -20,7 +20,7 @@ fn is_loaded(loading: &Loading) -> bool
     }
 }
 
-/// Whether a command can be read of the value of an `ExecStart=` of the unit: a oneshot service with it alone can be loaded.
+/// Whether the value of an `ExecStart=` of the unit holds a command: a oneshot service with it alone can be loaded.
 #[tactic(auto, unfolding(crate::specs::Findings::holds_command))]
 fn holds_command(alloc: Global, unit: &UnitName, value: &str) -> Result<bool, AllocError>
     ensures { IfOk result (λ holds. holds ≡ model.holds_command unit.now value.now) }
@@ -33,7 +33,7 @@ fn holds_command(alloc: Global, unit: &UnitName, value: &str) -> Result<bool, Al
     Ok(is_loaded(&loading))
 }
 
-/// Takes one assignment more into account.
+/// Takes one more assignment into account.
 fn add_start<'a>(
     alloc: Global,
     unit: &UnitName,

@@ -1,4 +1,4 @@
-//! The units of a tree that was read, one behind the other.
+//! Reports on all units of a tree that was read, one after another.
 
 ghost use Rattle.std.specs.Prelude.{IsPermutation, IfOk, map};
 ghost use Rattle.um_verify.specs.Findings.{tree_with};
@@ -16,7 +16,7 @@ use um_model::Suffix;
 use um_name::UnitName;
 use um_tree::{Place, ServedPath, Tree};
 
-/// The units of which something stands in the tree, and where the first of that lies.
+/// The units that have an entry in the tree, and the path of the first.
 fn units_in(alloc: Global, tree: &Tree) -> Result<BTreeMap<String, String>, VerifyFault> {
     let mut units = BTreeMap::new(alloc);
     for (path, _) in tree.entries() {
@@ -32,7 +32,7 @@ fn units_in(alloc: Global, tree: &Tree) -> Result<BTreeMap<String, String>, Veri
     Ok(units)
 }
 
-/// What is told of a unit that isn't found.
+/// The report on a unit that isn't found.
 fn not_found(unit: &UnitName) -> &'static str {
     match unit.suffix() {
         Suffix::Service | Suffix::Target => "the link leads to no unit",
@@ -40,8 +40,8 @@ fn not_found(unit: &UnitName) -> &'static str {
     }
 }
 
-/// What is told of the unit of this name, of which something stands at the path; the paths are those in the tree. Nothing is told of a unit of which the file
-/// is another one's, since it is told of that.
+/// The findings about the unit of this name, which has an entry at the path; the paths are those in the tree. There
+/// are none for a unit whose file is another unit's, since they are that unit's findings.
 fn findings_of(
     alloc: Global,
     tree: &Tree,
@@ -64,14 +64,14 @@ fn findings_of(
     Ok(findings)
 }
 
-/// Whether the same was told already.
+/// Whether the same was reported already.
 fn is_told(findings: &[Finding], finding: &Finding) -> bool {
     findings.iter().any(|other| {
         other.path == finding.path && other.line == finding.line && other.text == finding.text
     })
 }
 
-/// Adds what is told of a unit by the paths of its files.
+/// Adds the findings about a unit, with the paths of its files on the disk.
 fn add_findings(
     origins: &BTreeMap<String, String>,
     found: Vec<Finding>,
@@ -89,7 +89,7 @@ fn add_findings(
     Ok(())
 }
 
-/// These by path and line; what is of a whole file comes behind its lines.
+/// These by path and line; findings about a whole file follow those about its lines.
 fn in_order(findings: Vec<Finding>) -> Result<Vec<Finding>, AllocError>
     ensures { IfOk result (λ sorted. IsPermutation findings.items sorted.items) }
 {
@@ -105,7 +105,7 @@ fn in_order(findings: Vec<Finding>) -> Result<Vec<Finding>, AllocError>
     Ok(findings)
 }
 
-/// What is told of files that were read, by path and line; what is of a whole file comes behind its lines.
+/// The findings about files that were read, by path and line; those about a whole file follow those about its lines.
 pub fn verify(collected: Collected) -> Result<Vec<Finding>, VerifyFault> {
     let Collected {
         alloc,
@@ -122,7 +122,7 @@ pub fn verify(collected: Collected) -> Result<Vec<Finding>, VerifyFault> {
     Ok(in_order(findings)?)
 }
 
-/// What is told of a unit of the tree, in order.
+/// The findings about a unit of the tree, in order.
 fn told_of(alloc: Global, tree: &mut Tree, unit: &UnitName) -> Result<Vec<Finding>, AllocError>
     ensures { IfOk result (λ found. (l : looks.Looked) × LooksAt tree.old tree.new unit.now l × IsPermutation (findings_in l) found.items) }
 {
@@ -137,8 +137,8 @@ fn told_of(alloc: Global, tree: &mut Tree, unit: &UnitName) -> Result<Vec<Findin
     }
 }
 
-/// What is told of the unit of this name by these files, each its path in the tree and its text; the paths are those of the tree. Nothing is told of a unit
-/// that isn't found in them, or is masked.
+/// The findings about the unit of this name in these files, each its path in the tree and its text; the paths are
+/// those of the tree. There are none for a unit that isn't found in them, or is masked.
 pub fn verify_files(
     alloc: Global,
     name: &str,

@@ -7,7 +7,7 @@ use Rattle.um_model.specs.Commands as pure
 use Rattle.um_model.specs.Commands.{command_of}
 use Rattle.um_words.specs.Commands.{signs_of}
 
--- the words of a command, the first without its signs, and what they say
+-- the words of a command, the first without its signs, and the meaning of the signs
 pub command_cut : (items : List (String Global)) (first word : String Global) (text signs rest : List ℕ) (ignores substitutes : Bool) → 0 < length items
     → first ≡ get_or items 0 first → text ≡ string_bytes first → signs ≡ signs_of text → rest ≡ drop (length signs) text → string_bytes word ≡ rest
     → ignores ≡ list_any (λ b. eqb b 45) signs → substitutes ≡ not (list_any (λ b. eqb b 58) signs)

@@ -1,4 +1,4 @@
--- The words of a value and what a word becomes, step by step from the front.
+-- The words of a value and the result of a word, step by step from the front.
 use Rattle.std.proofs.Common.{◌≡◌, ◌≢◌, ◌<◌, ℕ, ◌+◌, ◌-◌, Bool, true, false, cond, eqb, List, [], ◌∷◌, ◌++◌, length, get_or, drop, Option, Some, None, option_map, refl, sym, ap, ◌∙◌, append-nil, arith}
 use Rattle.std.specs.Prelude.{unwrap_or}
 use Rattle.std.specs.List.{flat_map}
@@ -48,7 +48,7 @@ is_filled environment word =
     let found = has_reading (piece_front environment) (piece_reads environment) word in
     unwrapped (reading (piece_front environment) word) found.0 (reading-StandsForText (piece_front environment) word found.0 found.1)
 
--- a piece more
+-- one more piece
 pub filled_piece : (environment : List Variable) (rest front behind value after : List ℕ) (n : ℕ)
     → rest ≡ front ++ 36 ∷ behind → ((i : ℕ) → i < length front → get_or front i 0 ≢ 36) → dollar_front environment behind ≡ Gives value (n + 1)
     → after ≡ drop n behind → filled environment rest ≡ (front ++ value) ++ filled environment after
@@ -61,14 +61,14 @@ filled_piece environment rest front behind value after n e plain gives left =
     ∙ ap (λ r. prefixed (front ++ value) (reading F r)) (ap (λ k. drop k behind) n_is ∙ sym left) in
     ap (λ r. unwrap_or r []) (more ∙ ap (prefixed (front ++ value)) (is_filled environment after))
 
--- and none more
+-- and no further one
 pub filled_whole : (environment : List Variable) (rest : List ℕ) → ((i : ℕ) → i < length rest → get_or rest i 0 ≢ 36) → filled environment rest ≡ rest
 filled_whole environment rest plain =
     let F = piece_front environment in
     ap (λ r. unwrap_or r [])
     (ap (reading F) (sym (append-nil rest)) ∙ reading-append F rest [] (λ i below later. plain_piece environment (get_or rest i 0) later (plain i below)) ∙ ap Some (append-nil rest))
 
--- ---- what words become
+-- ---- the results of words
 
 words_there : (value : List ℕ) → words_of Plain value ≡ Some (value_words value)
 unfolding words_of
@@ -86,7 +86,7 @@ all_become environment [] = no_more
 all_become environment (word ∷ words) =
     one_more word words (becomes environment word) (flat_map (becomes environment) words) (becomes_named environment word (whole_name word) refl) (all_become environment words)
 
--- the function finds what the words become
+-- the function finds the result of the words
 pub are_substituted : (environment : List Variable) (words : List (List ℕ)) → AreSubstituted environment words (substituted environment words)
 are_substituted environment [] = no_words
 are_substituted environment (first ∷ words) = first_stays first words (flat_map (becomes environment) words) (all_become environment words)
@@ -94,6 +94,6 @@ are_substituted environment (first ∷ words) = first_stays first words (flat_ma
 pub substituted_is : (environment : List Variable) (words out : List (List ℕ)) → AreSubstituted environment words out → substituted environment words ≡ out
 substituted_is environment words out are = same_substituted environment words (substituted environment words) out (are_substituted environment words) are
 
--- what is filled in is what the function finds
+-- the filled word is the one that the function finds
 pub filled_is : (environment : List Variable) (word text : List ℕ) → StandsForText (piece_front environment) word text → filled environment word ≡ text
 filled_is environment word text stands = ap (λ r. unwrap_or r []) (reading-StandsForText (piece_front environment) word text stands)

@@ -1,4 +1,4 @@
--- Rooms, one text behind the other.
+-- Rooms, one text after another.
 use Rattle.std.proofs.Common.{◌≡◌, ◌≤◌, ℕ, ◌+◌, ◌-◌, Bool, true, false, ◌&&◌, cond, List, [], ◌++◌, Option, Some, None, refl, sym, ap, ◌∙◌, inl, inr, arith}
 use Rattle.std.specs.Prelude.{nat_le}
 use Rattle.std.specs.List.{list_all}
@@ -10,7 +10,7 @@ use Rattle.std.proofs.lemmas.Option.{none-some, same_Some}
 use Rattle.um_words.specs.Rooms.{size_of, sizes_of, left}
 use Rattle.um_words.specs.declared.room.Room.{Room}
 
--- the room that texts of so many bytes leave, where each of them may stand
+-- the room that texts of `size` bytes leave, if each of them is allowed
 abbrev left_by : Room → Bool → ℕ → Option Room
 left_by room each size = cond (each && nat_le size room.total) (Some (record room { total = room.total - size })) None
 
@@ -64,7 +64,7 @@ keeps_limits room r true m e = elim (cases_Bool (nat_le m room.total)) [
   | inr high ↦ absurd (none-some r (sym (ap (λ t. cond t (Some (record room { total = room.total - m })) None) high) ∙ e))
 ]
 
--- behind texts that fit the others have the room that is left
+-- after texts that fit, the others have the room that is left
 pub left_front : (room r : Room) (xs ys : List (List ℕ)) → left room xs ≡ Some r → left room (xs ++ ys) ≡ left r ys
 left_front room r xs ys e =
     let same = keeps_limits room r (each_fits room xs) (sizes_of room.beside xs) e in
@@ -73,7 +73,7 @@ left_front room r xs ys e =
     ∙ ap (λ l. left_by r (list_all (λ text. nat_le (size_of room.beside text) l) ys) (sizes_of room.beside ys)) (sym same.0)
     ∙ ap (λ k. left_by r (list_all (λ text. nat_le (size_of k text) r.longest) ys) (sizes_of k ys)) (sym same.1)
 
--- behind texts that don't fit none do
+-- after texts that don't fit, no others fit
 pub left_none : (room : Room) (xs ys : List (List ℕ)) → left room xs ≡ None → left room (xs ++ ys) ≡ None
 left_none room xs ys e = parted room xs ys ∙ stopped room (each_fits room xs) (each_fits room ys) (sizes_of room.beside xs) (sizes_of room.beside ys) e
 
@@ -88,6 +88,6 @@ left_nothing room =
 pub left_more : (free r : Room) (xs ys all : List (List ℕ)) (whole : Option Room) → all ≡ xs ++ ys → left free xs ≡ Some r → left free all ≡ whole → left r ys ≡ whole
 left_more free r xs ys all whole e fit told = sym (left_front free r xs ys fit) ∙ ap (left free) (sym e) ∙ told
 
--- where the first ones have no room all have none
+-- if the first ones don't fit, all together don't
 pub left_no_more : (free : Room) (xs ys all : List (List ℕ)) (whole : Option Room) → all ≡ xs ++ ys → left free xs ≡ None → left free all ≡ whole → None ≡ whole
 left_no_more free xs ys all whole e past told = sym (left_none free xs ys past) ∙ ap (left free) (sym e) ∙ told

@@ -18,11 +18,11 @@ use Rattle.um_words.specs.declared.values.Value.{Value}
 use Rattle.um_words.specs.declared.variables.Variable as code
 use Rattle.um_words.proofs.CountLemmas.{no_words_in}
 
--- what stands under a name
+-- the value under a name
 abbrev pub seen_at : BTreeMap (Bor (List ℕ)) Value → List ℕ → Option Split
 seen_at m name = option_map split_seen (get_by (λ k. slice_cmp nat_cmp name k.now) m)
 
--- what the last variable of a name gives it
+-- the value that the last variable of a name gives it
 abbrev pub given_at : List Variable → List ℕ → Option Split
 given_at environment name = option_map (λ v. split_of v.value) (find (λ v. bytes_eq v.name name) (reverse environment))
 
@@ -41,7 +41,7 @@ given_last environment v name =
     ap (λ vs. option_map (λ v. split_of v.value) (find (λ v. bytes_eq v.name name) vs)) (reverse-append environment (v ∷ []))
     ∙ given_if (bytes_eq v.name name) v (find (λ v. bytes_eq v.name name) (reverse environment))
 
--- once a variable more stands under its name
+-- after one more variable is stored under its name
 pub held_more : (m n : BTreeMap (Bor (List ℕ)) Value) (value : Value) (key text : List ℕ) (before after : List code.Variable) (v : code.Variable)
     → tree.UpdatesBy (λ x y. slice_cmp nat_cmp x.now y.now) (λ k. slice_cmp nat_cmp key k.now) m n (Some value) → key ≡ string_bytes v.name
     → split_seen value ≡ split_of text → text ≡ string_bytes v.value → after ≡ before ++ v ∷ []
@@ -60,7 +60,7 @@ no_value_given : (found : Option Variable) → None ≡ option_map (λ v. split_
 no_value_given None e = refl
 no_value_given (Some v) e = absurd (none-some (split_of v.value) e)
 
--- where none was found the value is empty, and has no words
+-- if no variable is found, the value is empty and has no words
 pub no_value : (environment : List Variable) (name : List ℕ) → None ≡ given_at environment name → value_of environment name ≡ []
 no_value environment name e = no_value_given (find (λ v. bytes_eq v.name name) (reverse environment)) e
 

@@ -1,4 +1,4 @@
--- Names in words, and one piece more of a word, about lists alone.
+-- Names in words, and one more piece of a word, about lists alone.
 use Rattle.std.proofs.Common.{◌≡◌, ◌≢◌, ◌<◌, ℕ, ◌+◌, ◌-◌, Bool, true, false, ◌&&◌, cond, eqb, List, [], ◌∷◌, ◌++◌, length, get_or, drop, Option, Some, None, refl, sym, ap, ◌∙◌, append-nil, arith}
 use Rattle.std.specs.List.{prefix_len, take_while}
 use Rattle.std.specs.Str.{IsUtf8, IsCharBoundary}
@@ -17,7 +17,7 @@ use Rattle.um_words.specs.declared.variables.Variable.{Variable}
 name_ascii : (b : ℕ) → is_name_byte b ≡ true → b < 128
 name_ascii b e = grind (arith, nat_tests)
 
--- a text may be cut behind the bytes of a name
+-- a text may be cut after the bytes of a name
 pub boundary_behind_name : (text : List ℕ) → IsUtf8 text → IsCharBoundary text (prefix_len is_name_byte text)
 boundary_behind_name text utf8 = boundary_behind is_name_byte name_ascii text utf8
 
@@ -47,7 +47,7 @@ not_closed text inner name after e name_is after_is other =
     ∙ ap (λ t. cond (is_variable_name name && t) (Some name) None) (ap (first_passes (λ b. eqb b 125)) (sym after_is) ∙ not_first 125 after other)
     ∙ ap (λ t. cond t (Some name) None) (and_false (is_variable_name name))
 
--- one piece more
+-- one more piece
 pub filled_more : (environment : List pure.Variable) (text rest front behind value after out : List ℕ) (n : ℕ) (whole : Option (List ℕ))
     → rest ≡ front ++ 36 ∷ behind → ((i : ℕ) → i < length front → get_or front i 0 ≢ 36) → dollar_front environment behind ≡ Gives value (n + 1)
     → after ≡ drop n behind → out ≡ (text ++ front) ++ value → prefixed text (reading (piece_front environment) rest) ≡ whole
@@ -60,7 +60,7 @@ filled_more environment text rest front behind value after out n whole e plain g
     ∙ sym (reading_more_after F 36 (n + 1) front behind value text (λ i below later. plain_piece environment (get_or front i 0) later (plain i below)) gives)
     ∙ ap (λ r. prefixed text (reading F r)) (sym e) ∙ told
 
--- and no piece more
+-- and no further piece
 pub filled_end : (environment : List pure.Variable) (text rest out word : List ℕ) → ((i : ℕ) → i < length rest → get_or rest i 0 ≢ 36) → out ≡ text ++ rest
     → prefixed text (reading (piece_front environment) rest) ≡ reading (piece_front environment) word → StandsForText (piece_front environment) word out
 filled_end environment text rest out word plain made told =

@@ -37,7 +37,7 @@ pub kept_fits : (rules : WordRules) (text bs : List ℕ) (b n : ℕ) (quote : Op
 kept_fits rules text bs b n quote e one within =
     omega (arith, ap length e, length-drop (n - 1) bs, prefix_len-le-length (is_plain rules quote) (drop (n - 1) bs))
 
--- a text may be cut behind a run of plain bytes
+-- a text may be cut after a run of plain bytes
 pub boundary_kept : (rules : WordRules) (text bs : List ℕ) (b n : ℕ) (quote : Option ℕ) → text ≡ b ∷ bs → IfSome quote (λ q. q < 128) → 1 ≤ n → n ≤ length bs + 1
     → IsCharBoundary text (n + prefix_len (is_plain rules quote) (drop (n - 1) bs))
 boundary_kept rules text bs b n quote e ascii one within =
@@ -77,13 +77,13 @@ pushed_words old new x w words is same =
     ∙ ap (λ y. (map word_of old ++ y ∷ []) ++ words) (sym same)
     ∙ ap (λ f. f ++ words) (sym (map-append word_of old (x ∷ [])) ∙ ap (map word_of) (sym is))
 
--- one word more, and what is read behind it
+-- one more word, and the words that are read after it
 pub pushed_more : (old new : List Spelled) (x : Spelled) (w : Word) (r : Option (List Word)) → new ≡ old ++ x ∷ [] → word_of x ≡ w
     → option_map (λ more. map word_of new ++ more) r ≡ option_map (λ more. map word_of old ++ more) (option_map (λ more. w ∷ more) r)
 pushed_more old new x w None is same = refl
 pushed_more old new x w (Some words) is same = ap Some (sym (pushed_words old new x w words is same))
 
--- a text may be cut behind a run of ASCII characters
+-- a text may be cut after a run of ASCII characters
 pub boundary_behind : (test : ℕ → Bool) → ((b : ℕ) → test b ≡ true → b < 128) → (text : List ℕ) → IsUtf8 text → IsCharBoundary text (prefix_len test text)
 boundary_behind test ascii text utf8 =
     let run = prefix_len test text in
@@ -97,6 +97,6 @@ boundary_behind test ascii text utf8 =
 sign_ascii : (b : ℕ) → is_sign b ≡ true → b < 128
 sign_ascii b e = grind (arith, nat_tests)
 
--- a text may be cut behind its signs
+-- a text may be cut after its signs
 pub boundary_behind_signs : (text : List ℕ) → IsUtf8 text → IsCharBoundary text (prefix_len is_sign text)
 boundary_behind_signs text utf8 = boundary_behind is_sign sign_ascii text utf8

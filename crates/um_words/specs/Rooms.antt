@@ -1,19 +1,19 @@
--- How much room texts take, one behind the other.
--- No manual page has this: it is execve(2)'s count of the arguments, where a zero byte stands behind each.
--- What a process is started with, and the length of replies, stand on this file.
+-- How much room texts take, one after another. No manual page has this: it is execve(2)'s count of the arguments,
+-- where a zero byte follows each. The words that a process is started with, and the length of replies, stand on this
+-- file.
 use Rattle.std.specs.Prelude.{ℕ, ◌+◌, ◌-◌, Bool, ◌&&◌, nat_le, List, length, Option, Some, None, if◌then◌else◌}
 use Rattle.std.specs.List.{list_all, sum_by}
 use Rattle.um_words.specs.declared.room.Room.{Room}
 
--- what a text takes: its bytes, and so many beside them
+-- the room of a text: its bytes, and the bytes beside them
 abbrev pub size_of : ℕ → List ℕ → ℕ
 size_of beside text = length text + beside
 
--- what texts take together
+-- the room of several texts
 abbrev pub sizes_of : ℕ → List (List ℕ) → ℕ
 sizes_of beside texts = sum_by (size_of beside) texts
 
--- each takes no more than the longest may, and all together no more than the room has
+-- each takes at most the longest allowed, and all together at most the room's total
 abbrev pub fits : Room → List (List ℕ) → Bool
 fits room texts = list_all (λ text. nat_le (size_of room.beside text) room.longest) texts && nat_le (sizes_of room.beside texts) room.total
 

@@ -1,9 +1,9 @@
--- What a spelling takes is there.
+-- The bytes that a spelling takes are there.
 use Rattle.std.specs.Prelude.{◌≡◌, ℕ, ◌+◌, ◌-◌, ◌<◌, ◌≤◌, true, IfSome, List, length, slice_index}
 use Rattle.um_model.specs.Ascii.{is_space}
 use Rattle.um_model.specs.WordSpellings.{Spelling, Stop, Bad, Turn, Means, Kept}
 
--- what a spelling takes is there, and ends behind an ASCII byte or at the first
+-- the bytes that a spelling takes are there, and end after an ASCII byte or at the first
 abbrev pub IsThere : Spelling → ℕ → List ℕ → Type 0
 IsThere Stop first more = is_space first ≡ true
 IsThere Bad first more = Unit {0}

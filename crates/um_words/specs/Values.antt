@@ -1,6 +1,5 @@
--- The values of variables, as they stand under their names.
--- No manual page has this: it is how values are found without going through the environment for each.
--- Substitution, and the count of the room that it takes, stand on this file.
+-- The values of variables, stored under their names. No manual page has this: it is how values are found without a
+-- search of the environment for each. Substitution, and the count of the room that it takes, stand on this file.
 use Rattle.std.specs.Prelude.{◌≡◌, ℕ, List, map, option_map, string_bytes, find, reverse, bytes_eq}
 use Rattle.std.specs.BTreeMap.{get_by}
 use Rattle.std.specs.Cmp.Lexicographic.{slice_cmp}
@@ -18,11 +17,11 @@ pub record Split : Type 0 where
 abbrev pub split_of : List ℕ → Split
 split_of value = record { text = value; words = value_words value }
 
--- as the code holds it
+-- the code's value as such
 abbrev pub split_seen : Value → Split
 split_seen v = record { text = v.text.now; words = map string_bytes v.words.items }
 
--- under each name stands the value of the last variable of that name, with its words
+-- each name has the value of the last variable of that name, with its words
 abbrev pub Holds : List Variable → Values → Type 0
 Holds environment values =
     (name : List ℕ) → option_map split_seen (get_by (λ k. slice_cmp nat_cmp name k.now) values.by_name)

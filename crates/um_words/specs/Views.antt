@@ -1,4 +1,4 @@
--- What the code's types stand for.
+-- The code's types as those of the definitions.
 use Rattle.std.specs.Prelude.{string_bytes}
 use Rattle.um_model.specs.Words.{Word}
 use Rattle.um_model.specs.WordSpellings.{Spelling, Stop, Bad, Turn, Means, Kept}
@@ -14,6 +14,6 @@ spelling_of (codes.Turn quote) = Turn quote
 spelling_of (codes.Means meaning n) = Means meaning n
 spelling_of (codes.Kept n) = Kept n
 
--- a word as it is written, and what it stands for
+-- a word as it is written, and the text that it stands for
 abbrev pub word_of : Spelled → Word
 word_of word = record { spelling = word.spelling.now; value = string_bytes word.value }

@@ -12,14 +12,14 @@ use crate::word::Spelled;
 use std::alloc::{AllocError, Global};
 use um_model::WordRules;
 
-/// A command of a setting: its words, and what the signs in front of the first one said.
+/// A command of a setting: its words, and the meaning of the signs before the first one.
 #[derive(Debug, PartialEq, Eq, Drop)]
 pub struct Command {
     /// One or more words, the first without its signs.
     pub words: Vec<String>,
-    /// `-` stood in front: a failure counts as success.
+    /// There is a `-` in front: a failure counts as success.
     pub ignores_failure: bool,
-    /// No `:` stood in front: variables stand for their values.
+    /// There is no `:` in front: variables stand for their values.
     pub substitutes: bool,
 }
 
@@ -29,7 +29,7 @@ fn is_separator(word: &Spelled) -> bool
     word.spelling == ";".as_bytes()
 }
 
-/// What a word of a command stands for.
+/// The text that a word of a command stands for.
 fn in_command(alloc: Global, word: Spelled) -> Result<String, AllocError>
     ensures { IfOk result (λ value. string_bytes value ≡ value_in_command (word_of word.entry)) }
 {
@@ -62,7 +62,7 @@ fn split_signs(first: &str) -> (&str, &str)
     first.split_at(signs_len(first))
 }
 
-/// Whether the byte stands somewhere in the text.
+/// Whether the text holds the byte.
 fn has(text: &str, byte: u8) -> bool
     ensures { result ≡ list_any (λ b. b == byte) text.now }
 {
@@ -93,10 +93,10 @@ fn push_command(
     Ok(())
 }
 
-/// The commands of a setting. Its words are read as `words` reads them. A word that is written as a lone `;` parts
-/// commands, and a command without words is left out; a word that is written `\;` is `;`. Any of `-`, `:`, `+` and `!`
-/// in front of a command's first word are cut off, where `+` and `!` have no effect. None where the text can't be read
-/// (systemd.service(5), "Command lines").
+/// The commands of a setting. Its words are read as `words` reads them. A word that is written as a lone `;`
+/// separates commands, and a command without words is left out; a word that is written `\;` is `;`. Any of `-`, `:`,
+/// `+` and `!` before a command's first word are cut off; `+` and `!` have no effect. `None` if the text can't be
+/// read (systemd.service(5), "Command lines").
 pub fn commands(alloc: Global, text: &str) -> Result<Option<Vec<Command>>, AllocError>
     ensures { IfOk result (λ r. option_map (λ commands. commands_seen commands.items) r ≡ commands_read text.now) }
 {

@@ -1,4 +1,4 @@
-//! How much room the words of a command take with its variables, counted without putting them together.
+//! The room that the words of a command take with its variables, counted without building the words.
 
 ghost use Rattle.std.specs.Prelude.{◌≡◌, ◌++◌, ◌∷◌, ◌^◌, ◌-◌, List, IfOk, length, min, map, string_bytes};
 ghost use Rattle.std.specs.List.{flat_map};
@@ -14,7 +14,7 @@ use crate::values::Values;
 use crate::variables::{Variable, whole_name};
 use std::alloc::{AllocError, Global};
 
-/// How long the word is with each `${NAME}` filled in, up to the last length of all.
+/// The length of the word with each `${NAME}` filled in, at most the greatest `usize`.
 fn filled_len<'a>(values: &'a Values, word: &'a str) -> usize
     ensures { (environment : List pure.Variable) → Holds environment values.now → result ≡ min (length (filled environment word.now)) (2 ^ 64 - 1) }
 {
@@ -30,7 +30,7 @@ fn filled_len<'a>(values: &'a Values, word: &'a str) -> usize
     length.saturating_add(rest.len())
 }
 
-/// The room that what a word becomes leaves.
+/// The room after the result of a word.
 fn after_word(room: Room, values: &Values, word: &str) -> Option<Room>
     ensures { (environment : List pure.Variable) → Holds environment values.now → result ≡ left room (becomes environment word.now) }
 {
@@ -40,7 +40,7 @@ fn after_word(room: Room, values: &Values, word: &str) -> Option<Room>
     }
 }
 
-/// The room that the first word leaves, and what each other becomes.
+/// The room after the first word and the results of the others.
 fn after_words(room: Room, values: &Values, first: &str, others: &[String]) -> Option<Room>
     ensures { (environment : List pure.Variable) → Holds environment values.now
         → result ≡ left room (substituted environment (first.now ∷ map string_bytes others.now)) }
@@ -52,8 +52,8 @@ fn after_words(room: Room, values: &Values, first: &str, others: &[String]) -> O
     Some(free)
 }
 
-/// The room that the words of a command leave with its variables, as `substitute` puts them together, where they fit. It goes no
-/// further than to the word that doesn't fit, and takes memory for the values alone, each split once.
+/// The room that the words of a command leave with its variables, as `substitute` builds them; `None` if they don't
+/// fit. It stops at the first word that doesn't fit, and takes memory only for the values, each split once.
 pub fn room_after(
     alloc: Global,
     room: Room,

@@ -1,4 +1,4 @@
-//! What the definitions of words say together, as functions that do nothing.
+//! Consequences of the definitions of words together, as functions that do nothing.
 
 ghost use Rattle.std.specs.Prelude.{◌≡◌, ◌↔◌, ℕ, List, Option, Some, None};
 ghost use Rattle.um_model.specs.declared.words.WordRules.{WordRules};
@@ -34,8 +34,8 @@ pub fn each_reading_is_found()
     ensures commands { (text : List ℕ) → Finds (commands_read text) (AreCommands text) }
 {}
 
-/// A word is found at the front of a text exactly where the text begins with its pieces, and what follows them is left; code that
-/// goes byte by byte, inside a quote or none, finds the same, exactly where it is spelled there.
+/// A word is found at the front of a text exactly if the text begins with its pieces, and the rest is the text after
+/// them. Code that goes byte by byte, inside a quote or none, finds the same, exactly if the word is spelled there.
 pub fn a_word_is_found_as_it_is_spelled()
     ensures pieces { (rules : WordRules) (text word rest : List ℕ) → (begun (piece_of_word rules) text ≡ Some (word, rest)) ↔ BeginsWith (piece_of_word rules) text word rest }
     ensures read { (rules : WordRules) (text : List ℕ) → begun (piece_of_word rules) text ≡ read rules 0 None text }
@@ -47,7 +47,8 @@ pub fn a_substitution_has_one_result()
     ensures { (environment : List Variable) (words a b : List (List ℕ)) → AreSubstituted environment words a → AreSubstituted environment words b → a ≡ b }
 {}
 
-/// What the function of the definitions finds for the words of a command with its variables is what they become, and nothing else.
+/// The list that the function of the definitions finds for the words of a command with its variables is their only
+/// result.
 pub fn a_substitution_is_found()
     ensures { (environment : List Variable) (words out : List (List ℕ)) → (substituted environment words ≡ out) ↔ AreSubstituted environment words out }
 {}

@@ -1,5 +1,5 @@
-//! Texts as words and commands, and variables in them: each call gives the one reading that a text has, and tells where
-//! there is none.
+//! Texts as words and commands, and variables in them: each call returns the one reading that a text has, or shows
+//! that there is none.
 #![tactic(auto)]
 
 mod command;

@@ -6,16 +6,16 @@ ghost use Rattle.um_words.specs.Rooms.{left};
 /// Room for texts, in bytes.
 #[derive(Clone, Copy, Debug, PartialEq, Eq)]
 pub struct Room {
-    /// What all of them may take together.
+    /// The most that all of them may take together.
     pub total: u32,
-    /// What each of them may take.
+    /// The most that each of them may take.
     pub longest: u32,
-    /// What each takes beside its own bytes.
+    /// The bytes that each takes beside its own.
     pub beside: u32,
 }
 
 impl Room {
-    /// The room that a text of so many bytes leaves, where it fits. The last number of bytes may stand for more.
+    /// The room that a text of this many bytes leaves, if it fits. The greatest `usize` may stand for more bytes.
     pub fn after(self, bytes: usize) -> Option<Room>
         ensures { (text : List ℕ) → bytes ≡ min (length text) (2 ^ 64 - 1) → result ≡ left self (text ∷ []) }
     {
@@ -27,7 +27,7 @@ impl Room {
         Some(Room { total, ..self })
     }
 
-    /// The room that these texts leave, where they fit.
+    /// The room that these texts leave, if they fit.
     pub fn after_texts(self, texts: &[String]) -> Option<Room>
         ensures { result ≡ left self (map string_bytes texts.now) }
     {

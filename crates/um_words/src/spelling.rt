@@ -1,4 +1,4 @@
-//! One spelling: what stands at the front of a text.
+//! One spelling: the front of a text.
 
 ghost use Rattle.std.specs.Prelude.{◌≡◌, ◌<◌, ◌≤◌, ℕ, ◌∷◌, length, List, IsTrue, IfSome, All, take};
 ghost use Rattle.std.specs.Char.{digit_value};
@@ -12,18 +12,18 @@ ghost use Rattle.um_model.specs.FileForms.{meaning_of};
 use um_model::WordRules;
 use um_text::Class;
 
-/// What stands at the front of a text.
+/// The front of a text.
 #[derive(Clone, Copy, Debug, PartialEq, Eq)]
 pub enum WordFront {
     /// Whitespace, before which the word ends.
     Stop,
     /// An escape that can't be read.
     Bad,
-    /// A quote; behind it the text is inside this one, or none.
+    /// A quote; after it the text is inside this one, or none.
     Turn(Option<u8>),
-    /// An escape that means this byte, and is so many bytes long.
+    /// An escape that means this byte, and its length in bytes.
     Means(u8, usize),
-    /// So many bytes that stay as written.
+    /// The number of bytes that stay as written.
     Kept(usize),
 }
 
@@ -65,7 +65,7 @@ fn digit_of(b: u8) -> u8
     }
 }
 
-/// Whether the bytes begin with so many digits in the base.
+/// Whether the bytes begin with this number of digits in the base.
 fn begins_with_digits(base: u8, count: usize, bytes: &[u8]) -> bool
     requires { base ≤ 36 }
     ensures value { result ≡ begins_with_digits base count bytes.now }
@@ -75,7 +75,7 @@ fn begins_with_digits(base: u8, count: usize, bytes: &[u8]) -> bool
     bytes.len() >= count && bytes[..count].iter().all(|b| digit_of(*b) < base)
 }
 
-/// What a backslash and this byte mean.
+/// The meaning of a backslash and this byte.
 fn meaning_of(b: u8) -> Option<u8>
     ensures value { result ≡ meaning_of b }
     ensures ascii { IfSome result (λ m. (m < 128) × (b < 128)) }

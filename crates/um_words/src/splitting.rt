@@ -11,7 +11,7 @@ use crate::word::{Spelled, word};
 use std::alloc::{AllocError, Global};
 use um_model::WordRules;
 
-/// The words of a text by these rules, each with its spelling; None where the text can't be read.
+/// The words of a text by these rules, each with its spelling; `None` if the text can't be read.
 pub fn spelled<'a>(
     alloc: Global,
     rules: WordRules,
@@ -36,7 +36,7 @@ pub fn spelled<'a>(
     Ok(Some(words))
 }
 
-/// The words of a text by these rules; None where the text can't be read.
+/// The words of a text by these rules; `None` if the text can't be read.
 #[tactic(auto, unfolding(um_model::specs::Words::words_of))]
 pub(crate) fn words_by(
     alloc: Global,
@@ -55,19 +55,19 @@ pub(crate) fn words_by(
     Ok(Some(words))
 }
 
-/// The words of a setting, split at spaces and tabs. `"` and `'` quote, and may open anywhere in a word. Inside quotes and
-/// outside, `\a \b \f \n \r \t \v \\ \" \'` mean what they do in C, `\s` a space and `\x01` to `\x7f` the byte of that
-/// number; any other backslash stays, with the character behind it. None for an unclosed quote, `\x` and two hexadecimal
-/// digits of another number, `\` and three octal digits, `\u` and four or `\U` and eight hexadecimal digits
-/// (systemd.syntax(7), "Quoting").
+/// The words of a setting, split at spaces and tabs. `"` and `'` quote, and may open anywhere in a word. Inside
+/// quotes and outside, `\a \b \f \n \r \t \v \\ \" \'` mean the same as in C, `\s` a space and `\x01` to `\x7f` the
+/// byte of that number; any other backslash stays, with the character after it. `None` for an unclosed quote, `\x`
+/// and two hexadecimal digits of another number, `\` and three octal digits, `\u` and four or `\U` and eight
+/// hexadecimal digits (systemd.syntax(7), "Quoting").
 pub fn words(alloc: Global, text: &str) -> Result<Option<Vec<String>>, AllocError>
     ensures { IfOk result (λ r. option_map (λ words. map string_bytes words.items) r ≡ words_of Escaped text.now) }
 {
     words_by(alloc, WordRules::Escaped, text)
 }
 
-/// The words of a list of unit names: `"` and `'` quote, and each backslash stays as it is written. None for an unclosed quote
-/// (systemd.unit(5)).
+/// The words of a list of unit names: `"` and `'` quote, and each backslash stays as it is written. `None` for an
+/// unclosed quote (systemd.unit(5)).
 pub fn names(alloc: Global, text: &str) -> Result<Option<Vec<String>>, AllocError>
     ensures { IfOk result (λ r. option_map (λ words. map string_bytes words.items) r ≡ words_of Names text.now) }
 {

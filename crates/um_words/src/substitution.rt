@@ -13,7 +13,7 @@ use crate::values::Values;
 use crate::variables::{Variable, braced_name, whole_name};
 use std::alloc::{AllocError, Global};
 
-/// What a `$` stands for, by what follows it, and what is left behind.
+/// The text that a `$` stands for, by the text after it, and the rest.
 pub(crate) fn piece<'a>(values: &'a Values, behind: &'a str) -> (&'a str, &'a str)
     ensures front { (environment : List pure.Variable) → Holds environment values.now
         → dollar_front environment behind.now ≡ Gives result.0.now (length behind.now - length result.1.now + 1) }
@@ -56,7 +56,7 @@ fn push_all(words: &mut Vec<String>, more: &[String]) -> Result<(), AllocError>
     Ok(())
 }
 
-/// Adds what a word becomes.
+/// Adds the result of a word.
 fn push_substituted(
     alloc: Global,
     values: &Values,
@@ -73,11 +73,11 @@ fn push_substituted(
     Ok(())
 }
 
-/// The words of a command with its variables, as the command starts. The first word stays. A word that is `$NAME` whole
-/// becomes the words of the value, split at spaces and tabs, where `"` and `'` quote and are removed; there a backslash
-/// stands for itself, and an unclosed quote reaches to the end. In any other word, from the left, `$$` becomes `$` and
-/// `${NAME}` the value; any other `$` stands for itself. An unset variable is empty, and of equal names the later counts
-/// (systemd.service(5), "Command lines").
+/// The words of a command with its variables, as the command starts. The first word stays. If the whole word is
+/// `$NAME`, it becomes the words of the value, split at spaces and tabs, where `"` and `'` quote and are removed;
+/// there a backslash stands for itself, and an unclosed quote reaches to the end. In any other word, from the left,
+/// `$$` becomes `$` and `${NAME}` the value; any other `$` stands for itself. An unset variable is empty, and of
+/// equal names the later counts (systemd.service(5), "Command lines").
 pub fn substitute(
     alloc: Global,
     words: &[String],

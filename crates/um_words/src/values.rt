@@ -40,15 +40,15 @@ impl<'a> Value<'a> {
     }
 }
 
-/// The values of an environment by the names of its variables, each split once: so neither the environment nor a value is gone
-/// through again for each place at which a command names it.
+/// The values of an environment by the names of its variables, each split once: neither the environment nor a value
+/// is searched again for each place at which a command names it.
 #[derive(Drop)]
 pub(crate) struct Values<'a> {
     by_name: BTreeMap<&'a str, Value<'a>>,
 }
 
 impl<'a> Values<'a> {
-    /// Those of this environment: of equal names the later counts.
+    /// The values of this environment: of equal names the later counts.
     pub(crate) fn of(alloc: Global, environment: &'a [Variable]) -> Result<Values<'a>, AllocError>
         ensures { IfOk result (λ values. Holds (variables_of environment.now) values) }
     {
@@ -60,7 +60,7 @@ impl<'a> Values<'a> {
         Ok(Values { by_name })
     }
 
-    /// The value of the name, or the empty text where it has none.
+    /// The value of the name, or the empty text if it has none.
     pub(crate) fn text(&self, name: &str) -> &str
         ensures { (environment : List pure.Variable) → Holds environment self.now → result.now ≡ value_of environment name.now }
     {

@@ -61,7 +61,7 @@ fn split_name(text: &str) -> (&str, &str)
     text.split_at(name_len(text))
 }
 
-/// The name in a word that is `$NAME` whole.
+/// The name in a word that is `$NAME` as a whole.
 pub fn whole_name(word: &str) -> Option<&str>
     ensures { option_copied result ≡ whole_name word.now }
 {
@@ -73,7 +73,7 @@ pub fn whole_name(word: &str) -> Option<&str>
     }
 }
 
-/// The name at the front of a text that begins with `{NAME}`, and what follows the `}`.
+/// The name at the front of a text that begins with `{NAME}`, and the text after the `}`.
 pub fn braced_name(text: &str) -> Option<(&str, &str)>
     ensures name { option_map (λ p. p.0.now) result ≡ braced_name text.now }
     ensures parts { IfSome result (λ p. text.now ≡ 123 ∷ p.0.now ++ 125 ∷ p.1.now) }

@@ -12,7 +12,7 @@ use crate::spelling::{WordFront, begins_escape, front_at, is_quote, is_space};
 use std::alloc::{AllocError, Global};
 use um_model::WordRules;
 
-/// A word as it is written in a text, and what it stands for.
+/// A word as it is written in a text, and the text that it stands for.
 #[derive(Drop)]
 pub struct Spelled<'a> {
     pub spelling: &'a [u8],
@@ -50,7 +50,7 @@ fn may_end(rules: WordRules, quote: Option<u8>) -> bool
     }
 }
 
-/// The word at the front of a text, and what follows it; None where the text begins with no word that can be read.
+/// The word at the front of a text, and the text after it; `None` if the text begins with no word that can be read.
 pub fn word<'a>(
     alloc: Global,
     rules: WordRules,

@@ -3,7 +3,7 @@ use Rattle.serde_json.specs.View.{view}
 use Rattle.um_ctl.specs.Told.{spaced, texts_in}
 use Rattle.um_ctl.proofs.reply.add_details.Given as goal
 
--- the texts so far stand behind the text
+-- the details so far follow the text
 abbrev pub invariant-loop-detail : goal.invariant-loop-detail
 invariant-loop-detail l =
     string_bytes l.text ≡ string_bytes l.initial.text ++ flat_map spaced (texts_in (map view (take l.detail-index l.details)))

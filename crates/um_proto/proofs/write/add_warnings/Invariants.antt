@@ -3,7 +3,7 @@ use Rattle.um_proto.specs.Written.{warnings_text}
 use Rattle.um_unit.specs.View.{warning_of}
 use Rattle.um_proto.proofs.write.add_warnings.Given as goal
 
--- with those that are left it is what it becomes
+-- the text, followed by the remaining warnings, is the result
 abbrev pub invariant-loop-warning : goal.invariant-loop-warning
 invariant-loop-warning l =
     let told = warning_of (string_bytes l.file.path) in

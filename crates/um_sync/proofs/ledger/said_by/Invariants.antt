@@ -4,7 +4,7 @@ use Rattle.um_sync.specs.Sync.{says, says_nothing}
 use Rattle.um_sync.specs.View.{said_of}
 use Rattle.um_sync.proofs.ledger.said_by.Given as goal
 
--- what the lines so far say, and whether one of those that are left says nothing is whether one of all does
+-- the meanings of the lines so far; one of the rest has none exactly if one of all has none
 abbrev pub invariant-loop-line : goal.invariant-loop-line
 invariant-loop-line l =
     (map Some (map said_of l.said.items) ≡ map says (map (λ line. line.now) (take l.line-index l.lines)))

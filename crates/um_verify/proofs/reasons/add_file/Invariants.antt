@@ -5,7 +5,7 @@ use Rattle.um_verify.specs.View.{place_of}
 use Rattle.um_verify.specs.declared.finding.Finding.{Finding}
 use Rattle.um_verify.proofs.reasons.add_file.Given as goal
 
--- the warnings so far stand behind the findings
+-- the warnings so far follow the findings
 abbrev pub invariant-loop-warning : goal.invariant-loop-warning
 invariant-loop-warning l =
     (rest : List Finding) × (l.findings.items ≡ l.initial.findings.items ++ rest)

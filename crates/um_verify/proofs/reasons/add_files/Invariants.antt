@@ -5,7 +5,7 @@ use Rattle.um_verify.specs.View.{place_of}
 use Rattle.um_verify.specs.declared.finding.Finding.{Finding}
 use Rattle.um_verify.proofs.reasons.add_files.Given as goal
 
--- the warnings of the files so far stand behind the findings
+-- the warnings of the files so far follow the findings
 abbrev pub invariant-loop-file : goal.invariant-loop-file
 invariant-loop-file l =
     (rest : List Finding) × (l.findings.items ≡ l.initial.findings.items ++ rest)

@@ -5,7 +5,7 @@ use Rattle.um_verify.specs.Findings.{spots_in}
 use Rattle.um_verify.specs.View.{spot_of}
 use Rattle.um_verify.proofs.spots.add_spots.Given as goal
 
--- the assignments so far and those of what is left are all
+-- the assignments so far and those of the rest are all
 abbrev pub invariant-loop-item : goal.invariant-loop-item
 invariant-loop-item l =
     map spot_of l.spots.items ++ spots_in (Some l.suffix) l.path (in_sections (option_map (λ s. s.now) l.section) (map item_of (drop l.item-index l.items)))

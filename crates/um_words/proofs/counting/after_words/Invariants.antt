@@ -6,7 +6,7 @@ use Rattle.um_words.specs.Substituted.{becomes, substituted}
 use Rattle.um_words.specs.Values.{Holds}
 use Rattle.um_words.proofs.counting.after_words.Given as goal
 
--- what the words that are left become leaves of what is free what all of them leave of the room
+-- the results of the remaining words leave of the free room the same as all results leave of the whole room
 abbrev pub invariant-loop-word : goal.invariant-loop-word
 invariant-loop-word l =
     (environment : List Variable) → Holds environment l.values

@@ -7,7 +7,7 @@ use Rattle.um_words.specs.Substituted.{filled}
 use Rattle.um_words.specs.Values.{Holds}
 use Rattle.um_words.proofs.counting.filled_len.Given as goal
 
--- what is counted, and then how long the rest is once it is filled in, is how long the word is
+-- the count, plus the length of the rest once it is filled in, is the length of the word
 abbrev pub invariant-loop-before : goal.invariant-loop-before
 invariant-loop-before l = record {
   utf8 : shadow (Utf8 l.rest);

@@ -7,7 +7,7 @@ use Rattle.um_model.proofs.PiecesLaws.{prefixed, reading}
 use Rattle.um_words.specs.Values.{Holds}
 use Rattle.um_words.proofs.substitution.filled.Given as goal
 
--- what is done, and then what the rest stands for, is what the word stands for
+-- the text so far, followed by the text that the rest stands for, is the text that the word stands for
 abbrev pub invariant-loop-before : goal.invariant-loop-before
 invariant-loop-before l = record {
   utf8 : shadow (Utf8 l.rest);

@@ -4,7 +4,7 @@ use Rattle.um_words.specs.Environment.{variables_of}
 use Rattle.um_words.specs.Substituted.{becomes}
 use Rattle.um_words.proofs.substitution.substitute.Given as goal
 
--- behind the first stands what the words so far become
+-- the first word is followed by the results of the words so far
 abbrev pub invariant-loop-word : goal.invariant-loop-word
 invariant-loop-word l =
     map string_bytes l.substituted.items

@@ -5,7 +5,7 @@ use Rattle.std.specs.Prelude.{IfSome, string_bytes}
 use Rattle.um_model.proofs.WordsLaws.{read, with_front}
 use Rattle.um_words.proofs.word.word.Given as goal
 
--- what is done, and then what is read of the rest, is what is read of the text
+-- the word so far, followed by the reading of the rest, is the reading of the text
 abbrev pub invariant-loop-first : goal.invariant-loop-first
 invariant-loop-first l = record {
   utf8 : shadow (Utf8 l.rest);
