@@ -1,4 +1,5 @@
 //! The faults of the client, and their exit statuses.
+
 ghost use Rattle.std.specs.Prelude.{◌≡◌};
 ghost use Rattle.um_ctl.specs.View.{fault_of, status_of};
 

@@ -1,4 +1,5 @@
 //! The text of a file from standard input.
+
 ghost use Rattle.std.specs.Prelude.{IfOk};
 ghost use Rattle.um_ctl.specs.Streams.{IsFileText};
 

@@ -1,4 +1,5 @@
 //! The words of `umd ctl`, and the verb that they stand for.
+
 ghost use Rattle.std.specs.Prelude.{◌≡◌, ◌++◌, IfOk, length, map, option_map, filter, is_some};
 ghost use Rattle.um_ctl.specs.Words as model;
 ghost use Rattle.um_model.specs.Requests.{job_mode_of, is_among as is_among_texts};

@@ -1,4 +1,5 @@
 //! The lines of the program: one for each kind of command line.
+
 ghost use Rattle.std.specs.Prelude.{◌≡◌, Some, IfOk, map, drop, string_bytes};
 ghost use Rattle.um_line.specs.Line as model;
 

@@ -1,4 +1,4 @@
--- A map of which each entry was cloned is the same map.
+-- A map whose entries were all cloned is the same map.
 use Rattle.std.proofs.Common.{◌≡◌, ℕ, List, [], ◌∷◌, refl}
 use Rattle.std.specs.List.{AllZip}
 

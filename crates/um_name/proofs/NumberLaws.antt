@@ -44,7 +44,7 @@ among_or_apart (n ∷ ns) x = elim (same_name n x) as (λ _. ((i : ℕ) × (i < 
     apart n ns x other none zero h = other
     apart n ns x other none (suc i) h = none i (omega arith)
 
--- no name stands twice
+-- no name occurs twice
 abbrev pub AreOnce : List (List ℕ) → Type 0
 AreOnce names = (i j : ℕ) → i < length names → j < length names → name_at names i ≡ name_at names j → i ≡ j
 
@@ -67,7 +67,7 @@ found_at [] x i h e = absurd (omega arith)
 found_at (n ∷ ns) x zero h e = ap (λ b. b || list_any (bytes_eq x) ns) ((bytes_eq-Decides x n).1 (sym e))
 found_at (n ∷ ns) x (suc i) h e = ap (λ b. bytes_eq x n || b) (found_at ns x i (omega arith) e) ∙ or_true (bytes_eq x n)
 
--- what a search finds
+-- the result of a search
 pub numbered : (names : List (List ℕ)) (x : List ℕ) (o : Option ℕ) → o ≡ position (bytes_eq x) names → is_some o ≡ list_any (bytes_eq x) names
     → MatchOption o (IsApart names x) (HasPlace names x)
 numbered names x None e f = λ i h same. true≢false (sym (found_at names x i h same) ∙ sym f)

@@ -4,7 +4,7 @@ use Rattle.std.specs.Option.{option_map_or}
 use Rattle.um_model.specs.Names.{suffix_of, stem_of, after_at, instance_of, is_template}
 use Rattle.um_model.proofs.Forms.{stem_before}
 
--- a text without a suffix is all before it
+-- a text without a suffix is its own stem
 pub stem_whole : (text : List ℕ) → suffix_of text ≡ None → text ≡ stem_of text
 unfolding stem_of
 stem_whole text e = ap (stem_before text) (sym e)

@@ -1,4 +1,4 @@
--- What the front of an escaped text gives, as the code tells it.
+-- The front of an escaped text, as the code returns it.
 use Rattle.std.specs.Prelude.{ℕ, [], ◌∷◌, Option, Some, None}
 use Rattle.um_model.specs.Pieces.{Front, Unreadable, Gives}
 use Rattle.um_name.specs.declared.escapes.Piece.{Piece}

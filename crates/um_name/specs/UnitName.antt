@@ -1,4 +1,4 @@
--- What holds of the fields of a unit name.
+-- Properties of the fields of a unit name.
 use Rattle.std.specs.Prelude.{◌≡◌, ℕ, List, true, Some}
 use Rattle.um_model.specs.Names.{is_unit_name, suffix_of}
 use Rattle.um_model.specs.declared.names.Suffix.{Suffix}

@@ -1,4 +1,4 @@
-//! Other text in a name: any bytes as a text that can stand there, and back.
+//! Other text in a name: any bytes as a text that a name can have, and back.
 ghost use Rattle.std.specs.Prelude.{◌≡◌, ◌+◌, ◌<◌, ◌≤◌, ◌++◌, ℕ, List, length, true, IfOk, OnOk, IfSome, MatchOption, string_bytes, ◌==◌, if◌then◌else◌};
 ghost use Rattle.std.specs.Char.{digit_char, digit_value};
 ghost use Rattle.um_model.specs.Specifiers.{StandsForBytes};
@@ -31,7 +31,7 @@ fn push_byte_escape(text: &mut String, b: u8) -> Result<(), AllocError>
     text.push(hex_digit(b % 16))
 }
 
-/// Writes what stands for a byte behind the front.
+/// Writes the text for a byte after the front.
 fn push_escape(text: &mut String, b: u8) -> Result<(), AllocError>
     ensures { OnOk result (string_bytes text.new ≡ string_bytes text.old ++ names.escape_of b) }
 {
@@ -44,7 +44,7 @@ fn push_escape(text: &mut String, b: u8) -> Result<(), AllocError>
     }
 }
 
-/// Writes what stands for the first byte.
+/// Writes the text for the first byte.
 fn push_first_escape(text: &mut String, b: u8) -> Result<(), AllocError>
     ensures { OnOk result (string_bytes text.new ≡ string_bytes text.old ++ (if b == 46 then names.byte_escape b else names.escape_of b)) }
 {
@@ -55,9 +55,9 @@ fn push_first_escape(text: &mut String, b: u8) -> Result<(), AllocError>
     }
 }
 
-/// The bytes as a text that can stand in a name: `/` becomes `-`; ASCII letters, digits, `:`, `_` and, but for the front, `.`
-/// stay; any other byte becomes `\x` and two lower-case hexadecimal digits (systemd.unit(5), "String Escaping for Inclusion
-/// in Unit Names").
+/// The bytes as a text that a name can have: `/` becomes `-`; ASCII letters, digits, `:`, `_` and, except at the
+/// front, `.` stay; any other byte becomes `\x` and two lower-case hexadecimal digits (systemd.unit(5), "String
+/// Escaping for Inclusion in Unit Names").
 pub fn escape(alloc: Global, bytes: &[u8]) -> Result<String, AllocError>
     ensures { IfOk result (λ text. string_bytes text ≡ names.escaped bytes.now) }
 {
@@ -72,7 +72,7 @@ pub fn escape(alloc: Global, bytes: &[u8]) -> Result<String, AllocError>
     Ok(text)
 }
 
-/// What stands at the front of an escaped text: a byte, spelled by so many bytes.
+/// The front of an escaped text: a byte, and the number of bytes that spell it.
 #[derive(Clone, Copy)]
 struct Piece {
     byte: u8,
@@ -94,7 +94,7 @@ fn digit_value(b: u8) -> u8
     if b <= b'9' { b - b'0' } else { b - b'a' + 10 }
 }
 
-/// What follows a `\` at the front.
+/// The front of an escaped text that begins with `\`, from the bytes after it.
 fn read_escape(more: &[u8]) -> Option<Piece>
     ensures { front_of result ≡ names.escape_front more.now }
 {
@@ -107,7 +107,7 @@ fn read_escape(more: &[u8]) -> Option<Piece>
     }
 }
 
-/// What stands at the front of an escaped text, from its first byte and the bytes behind it.
+/// The front of an escaped text, from its first byte and the bytes after it.
 fn read_front(first: u8, more: &[u8]) -> Option<Piece>
     ensures front { front_of result ≡ names.unescape_front first more.now }
     ensures some { IfSome result (λ piece. 0 < piece.size) }
@@ -126,9 +126,9 @@ fn read_front(first: u8, more: &[u8]) -> Option<Piece>
     }
 }
 
-/// The bytes that the text stands for: `-` becomes `/`; `\x` and two lower-case hexadecimal digits become that byte; any
-/// other byte stays. None where a `\` stands before anything else (systemd.unit(5), "String Escaping for Inclusion in Unit
-/// Names").
+/// The bytes that the text stands for: `-` becomes `/`; `\x` and two lower-case hexadecimal digits become that byte;
+/// any other byte stays. `None` if a `\` is followed by anything else (systemd.unit(5), "String Escaping for
+/// Inclusion in Unit Names").
 pub fn unescape(alloc: Global, text: &str) -> Result<Option<Vec<u8>>, AllocError>
     ensures { IfOk result (λ r. MatchOption r
         ((bytes : List ℕ) → ¬ (StandsForBytes text.now bytes))

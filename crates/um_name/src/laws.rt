@@ -1,10 +1,10 @@
-//! What the definitions of names say together, as functions that do nothing.
+//! Consequences of the definitions of names together, as functions that do nothing.
 ghost use Rattle.std.specs.Prelude.{◌≡◌, ◌<◌, ◌↔◌, ℕ, List, All, Some, true};
 ghost use Rattle.std.specs.List.{list_all};
 ghost use Rattle.um_model.specs.Names.{NameParts, AreFit, IsNameOf, name_text, is_unit_name, prefix_of, instance_of, suffix_of, with_instance, is_prefix_byte, escaped};
 ghost use Rattle.um_model.specs.Specifiers.{StandsForBytes};
 
-/// A text is a unit name by the test exactly where it is the name of some parts.
+/// A text is a unit name by the test exactly if it is the name of some parts.
 pub fn a_unit_name_has_parts()
     ensures { (text : List ℕ) → (is_unit_name text ≡ true) ↔ ((p : NameParts) × IsNameOf text p) }
 {}
@@ -32,7 +32,7 @@ pub fn escaped_bytes_are_read_back()
     ensures { (bytes : List ℕ) → All (λ b. b < 256) bytes → StandsForBytes (escaped bytes) bytes }
 {}
 
-/// An escaped text has bytes of a name's prefix alone.
+/// An escaped text has only bytes of a name's prefix.
 pub fn an_escaped_text_fits_a_name()
     ensures { (bytes : List ℕ) → All (λ b. b < 256) bytes → list_all is_prefix_byte (escaped bytes) ≡ true }
 {}

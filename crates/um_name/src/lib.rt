@@ -1,5 +1,5 @@
-//! Unit names: a text is taken exactly where it is the name of a prefix, an optional instance and a suffix, and any other
-//! text can be escaped in a name and read back.
+//! Unit names: a text is accepted exactly if it is the name of a prefix, an optional instance and a suffix, and any
+//! other text can be escaped in a name and read back.
 #![tactic(auto)]
 
 mod escapes;

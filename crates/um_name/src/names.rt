@@ -1,4 +1,4 @@
-//! Names with numbers, shared by all tables whose rows stand under them.
+//! Names with numbers, shared by all tables with rows for units.
 
 ghost use Rattle.std.specs.Prelude.{◌≡◌, [], ℕ, List, length, IfOk, MatchOption, bytes_eq, option_copied, slice_get};
 ghost use Rattle.std.specs.List.{list_any};
@@ -33,7 +33,7 @@ impl Names {
         Names { ordered: None }
     }
 
-    /// These names.
+    /// The table of these names.
     pub fn of(alloc: Global, given: &[UnitName]) -> Result<Names, AllocError>
         ensures ascending { IfOk result AreAscending }
         ensures whole { IfOk result (λ n. (name : List ℕ) → list_any (bytes_eq name) n ≡ list_any (bytes_eq name) given.now) }
@@ -44,7 +44,7 @@ impl Names {
         })
     }
 
-    /// How many there are.
+    /// The number of names.
     pub fn len(&self) -> usize
         ensures len { result ≡ length self.now }
         ensures ascending { AreAscending self.now }
@@ -55,7 +55,7 @@ impl Names {
         }
     }
 
-    /// The number of a name. It takes no memory.
+    /// The number of a name; `None` if the table doesn't have it. It takes no memory.
     pub fn number(&self, name: &UnitName) -> Option<usize>
         ensures number { MatchOption result (IsApart self.now name.now) (HasPlace self.now name.now) }
         ensures ascending { AreAscending self.now }
@@ -66,7 +66,7 @@ impl Names {
         }
     }
 
-    /// The name with that number.
+    /// The name with that number; `None` past the last.
     pub fn name(&self, number: usize) -> Option<&UnitName>
         ensures name { option_copied result ≡ slice_get self.now number }
         ensures ascending { AreAscending self.now }

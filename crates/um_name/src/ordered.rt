@@ -24,7 +24,7 @@ impl Model for Ordered {
 }
 
 impl Ordered {
-    /// These names.
+    /// The table of these names.
     pub(crate) fn of(alloc: Global, given: &[UnitName]) -> Result<Ordered, AllocError>
         ensures ascending { IfOk result AreAscending }
         ensures whole { IfOk result (λ n. (name : List ℕ) → list_any (bytes_eq name) n ≡ list_any (bytes_eq name) given.now) }
@@ -37,7 +37,7 @@ impl Ordered {
         Ok(Ordered { set })
     }
 
-    /// How many there are.
+    /// The number of names.
     pub(crate) fn len(&self) -> usize
         ensures len { result ≡ length self.now }
         ensures ascending { AreAscending self.now }
@@ -45,7 +45,7 @@ impl Ordered {
         self.set.len()
     }
 
-    /// The number of a name. It takes no memory.
+    /// The number of a name; `None` if it isn't there. It takes no memory.
     pub(crate) fn number(&self, name: &UnitName) -> Option<usize>
         ensures number { MatchOption result (IsApart self.now name.now) (HasPlace self.now name.now) }
         ensures ascending { AreAscending self.now }
@@ -53,7 +53,7 @@ impl Ordered {
         self.set.get_index_of(name)
     }
 
-    /// The name with that number.
+    /// The name with that number; `None` past the last.
     pub(crate) fn name(&self, number: usize) -> Option<&UnitName>
         ensures name { option_copied result ≡ slice_get self.now number }
         ensures ascending { AreAscending self.now }

@@ -1,12 +1,13 @@
+//! The parts of any text, read as a unit name.
 ghost use Rattle.std.specs.Prelude.{◌≡◌, IfOk, string_bytes};
 ghost use Rattle.um_model.specs.Names as names;
 
 use crate::suffixes::suffix_of;
 use std::alloc::{AllocError, Global};
 
-// The parts of any text, also of one that is no unit name: where a link leads is read before it is known to be a name.
+// These also work for a text that is no unit name: the target of a link is read before it is known to be a name.
 
-/// What stands before the suffix, or all of a text without one.
+/// The text before the suffix, or all of a text without one.
 fn stem_of(text: &str) -> &str
     ensures { result.now ≡ names.stem_of text.now }
 {
@@ -16,7 +17,7 @@ fn stem_of(text: &str) -> &str
     }
 }
 
-/// What stands before the first `@` and the suffix.
+/// The text before the first `@` and the suffix.
 fn prefix_of(text: &str) -> &str
     ensures { result.now ≡ names.prefix_of text.now }
 {
@@ -37,7 +38,7 @@ pub fn is_template(text: &str) -> bool
     }
 }
 
-/// The text with this instance, in place of its own where it has one.
+/// The text with this instance, in place of its own if it has one.
 pub fn with_instance(alloc: Global, text: &str, instance: &str) -> Result<String, AllocError>
     ensures { IfOk result (λ t. string_bytes t ≡ names.with_instance text.now instance.now) }
 {

@@ -1,3 +1,4 @@
+//! The name of a unit.
 ghost use Rattle.std.specs.Prelude.{◌≡◌, ℕ, List, true, false, IfOk, IfErr, MatchOption, string_bytes, option_copied};
 ghost use Rattle.std.specs.List.{list_all};
 ghost use Rattle.std.specs.Rc.{rc_str_bytes};
@@ -56,7 +57,7 @@ fn is_stem(text: &[u8]) -> bool
     are_instance_bytes(text)
 }
 
-/// The suffix of the text, where it is a unit name.
+/// The suffix of the text, if it is a unit name.
 #[tactic(auto, unfolding(um_model::specs::Names::is_unit_name))]
 fn named_suffix(text: &str) -> Option<Suffix>
     ensures { MatchOption result (names.is_unit_name text.now ≡ false) (IsSound text.now) }
@@ -77,7 +78,7 @@ pub fn is_unit_name(text: &str) -> bool
 }
 
 impl UnitName {
-    /// The name that the text is. Any other text is refused by `BadName`, with the text as it was asked.
+    /// The name of the text. A text that is no unit name is refused by `BadName`, with the text as it was sent.
     pub fn parse(alloc: Global, text: &str) -> Result<UnitName, Refusal>
         ensures ok { IfOk result (λ name. (name ≡ text.now) × (names.is_unit_name text.now ≡ true)) }
         ensures err { IfErr result (λ e. ¬ (e ≡ NoMemory)
@@ -89,7 +90,7 @@ impl UnitName {
         }
     }
 
-    /// The name that the text is, if it is a unit name.
+    /// The name of the text, if it is a unit name.
     pub fn named(alloc: Global, text: &str) -> Result<Option<UnitName>, AllocError>
         ensures { IfOk result (λ name. name ≡ names.named text.now) }
     {
@@ -111,7 +112,7 @@ impl UnitName {
         self.text.as_str()
     }
 
-    /// What stands before the first `@`, or before the suffix where there is no `@`.
+    /// The text before the first `@`, or before the suffix if there is no `@`.
     pub fn prefix(&self) -> &str
         ensures { result.now ≡ names.prefix_of self.now }
     {
@@ -122,7 +123,7 @@ impl UnitName {
         }
     }
 
-    /// What stands between the first `@` and the suffix, which may be empty; none where there is no `@`.
+    /// The text between the first `@` and the suffix, which may be empty; `None` if there is no `@`.
     pub fn instance(&self) -> Option<&str>
         ensures { option_copied result ≡ names.instance_of self.now }
     {
@@ -144,7 +145,7 @@ impl UnitName {
         self.instance().is_some_and(|instance| instance.is_empty())
     }
 
-    /// The template of a name with an `@`: the name with an empty instance. None for a name without one.
+    /// The template of a name with an `@`: the name with an empty instance. `None` for a name without one.
     pub fn template(&self) -> Result<Option<UnitName>, AllocError>
         ensures { IfOk result (λ template. template ≡ names.template_of self.now) }
     {
@@ -156,7 +157,7 @@ impl UnitName {
         self.with_instance("")
     }
 
-    /// The name with this instance, in place of its own where it has one. None where that is no unit name: it would have
+    /// The name with this instance, in place of its own if it has one. `None` if that is no unit name: it would have
     /// more than 255 bytes, or the instance has a byte that names don't have.
     pub fn with_instance(&self, instance: &str) -> Result<Option<UnitName>, AllocError>
         ensures { IfOk result (λ name. name ≡ names.named (names.with_instance self.now instance.now)) }
@@ -193,7 +194,7 @@ impl UnitName {
         String::from_str(self.alloc, self.as_str())
     }
 
-    /// What stands before the suffix.
+    /// The text before the suffix.
     pub fn stem(&self) -> &str
         ensures { result.now ≡ names.stem_of self.now }
     {

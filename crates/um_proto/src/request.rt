@@ -1,4 +1,5 @@
 //! A request.
+
 use um_model::Moment;
 use um_state::{Event, Query};
 

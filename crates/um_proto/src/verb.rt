@@ -1,4 +1,5 @@
 //! The verbs of requests, and the fields of each.
+
 ghost use Rattle.std.specs.Prelude.{◌≡◌, ◌∷◌, ◌&&◌, [], map, codes};
 ghost use Rattle.std.specs.Str.{bytes_eq};
 ghost use Rattle.um_model.specs.Requests as model;

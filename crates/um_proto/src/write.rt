@@ -1,4 +1,5 @@
 //! Writes the text of a reply.
+
 ghost use Rattle.std.specs.Prelude.{◌≡◌, ◌∷◌, [], map, string_bytes, false, ◌++◌, IfOk, IsOkAnd, IsTrue, OnOk, length, unwrap_or, ◌<◌, ◌≤◌};
 ghost use Rattle.serde_json.specs.Data.{array, string};
 ghost use Rattle.std.specs.List.{flat_map};

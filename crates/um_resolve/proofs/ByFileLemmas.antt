@@ -30,7 +30,7 @@ contains_file m file = sym (is_some-map text_of (tree.get_by_text m file)) ∙ s
 kept_by : (b : Bool) (m : ByFile) (d : List ℕ × UnitFile) → map.contains_key m d.0 ≡ b → first_kept m d ≡ cond b m (map.insert m d.0 d.1)
 kept_by b m d e = ap (λ t. cond t m (map.insert m d.0 d.1)) e
 
--- where there is one, or none
+-- if there is one, and if there is none
 pub kept_old : (m : ByFile) (d : List ℕ × UnitFile) → map.contains_key m d.0 ≡ true → m ≡ first_kept m d
 kept_old m d e = sym (kept_by true m d e)
 

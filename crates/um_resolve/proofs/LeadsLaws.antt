@@ -1,4 +1,4 @@
--- Where a name leads is what a chain of hops tells, and only that.
+-- A name leads exactly where a chain of hops leads.
 use Rattle.std.proofs.Common.{◌≡◌, ◌↔◌, ℕ, zero, suc, ◌<◌, Bool, true, false, cond, List, [], ◌∷◌, length, Option, Some, None, refl, sym, ap, ◌∙◌, subst, arith}
 use Rattle.std.specs.Option.{option_map_or}
 use Rattle.std.specs.Str.{bytes_eq}
@@ -7,7 +7,7 @@ use Rattle.um_model.specs.Resolution.{Resolution, AtFile, AtNoFile, AtMask, Nowh
 use Rattle.um_model.specs.Tree.{Tree, Entry, File, Link}
 use Rattle.um_resolve.specs.Leads.{Hops, EndsAt, at_file, at_empty_file, at_mask, at_no_file, at_nothing, at_no_name, Leads, ends, hop, too_far}
 
--- what is told goes the way of the function, if it does where a hop goes on
+-- the function's result holds for a step, if it holds after a hop
 module _ (limit : ℕ) (tree : Tree) (name : List ℕ) (follow : List ℕ → Resolution) (later : (next : List ℕ) → Hops tree name next → Leads tree limit name (follow next)) where
   leads_nothing : (b : Bool) → held tree name ≡ None → bytes_eq name shutdown_target ≡ b → Leads tree limit name (cond b (AtNoFile name) Nowhere)
   leads_nothing true h e = ends limit name (AtNoFile name) (at_no_file name h e)
@@ -29,7 +29,7 @@ module _ (limit : ℕ) (tree : Tree) (name : List ℕ) (follow : List ℕ → Re
   leads_at (Some (path, File (b ∷ bs))) h = ends limit name (AtFile name path (b ∷ bs)) (at_file name path (b ∷ bs) h (omega arith))
   leads_at (Some (path, Link target)) h = leads_link path target (is_mask target) h refl
 
--- the function tells where a name leads
+-- the function finds where a name leads
 pub leads_resolved : (limit : ℕ) (tree : Tree) (name : List ℕ) → Leads tree limit name (resolved limit tree name)
 leads_resolved zero tree name = leads_at zero tree name (λ other. Nowhere) (λ next h. too_far name next h) (held tree name) refl
 leads_resolved (suc limit) tree name =
@@ -39,7 +39,7 @@ filled_file : (unit path text : List ℕ) (follow : List ℕ → Resolution) →
 filled_file unit path [] follow some = absurd (omega arith)
 filled_file unit path (b ∷ bs) follow some = refl
 
--- an end is one whatever would follow
+-- an end is the same whatever would follow
 ended : (tree : Tree) (name : List ℕ) (end : Resolution) (follow : List ℕ → Resolution) → EndsAt tree name end → resolution_at name (held tree name) follow ≡ end
 ended tree name end follow (at_file unit path text h some) = ap (λ o. resolution_at unit o follow) h ∙ filled_file unit path text follow some
 ended tree name end follow (at_empty_file unit path h) = ap (λ o. resolution_at unit o follow) h
@@ -57,7 +57,7 @@ followed_link tree name next follow h =
     ∙ ap (λ b. cond b (AtMask name) (option_map_or follow (next_name name h.target) Nowhere)) h.unmasked
     ∙ ap (λ o. option_map_or follow o Nowhere) h.leads_on
 
--- and a name leads where the function tells
+-- and a name leads to the result of the function
 pub resolved_leads : (tree : Tree) (limit : ℕ) (name : List ℕ) (end : Resolution) → Leads tree limit name end → resolved limit tree name ≡ end
 resolved_leads tree zero name end (ends limit n e at) = ended tree n e (λ other. Nowhere) at
 resolved_leads tree (suc more) name end (ends limit n e at) = ended tree n e (resolved more tree) at

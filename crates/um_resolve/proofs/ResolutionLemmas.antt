@@ -1,4 +1,4 @@
--- Where a name leads by one step and the hops that are left.
+-- Where a name leads by one step and the remaining hops.
 use Rattle.std.proofs.Common.{◌≡◌, ℕ, zero, suc, List, arith}
 use Rattle.um_model.specs.Tree.{Tree}
 use Rattle.um_model.specs.Resolution.{Resolution, Nowhere, held, resolution_at, resolved}

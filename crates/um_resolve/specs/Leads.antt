@@ -24,7 +24,7 @@ pub data EndsAt (tree : Tree) : List ℕ → Resolution → Type 0 where
   at_no_name : (unit path target : List ℕ) → held tree unit ≡ Some (path, Link target) → is_mask target ≡ false → next_name unit target ≡ None
       → EndsAt tree unit Nowhere
 
--- by so many hops at most the name leads to this end; one that has further to go leads nowhere
+-- by at most this many hops the name leads to this end; one that has further to go leads nowhere
 pub data Leads (tree : Tree) : ℕ → List ℕ → Resolution → Type 0 where
   ends : (limit : ℕ) (name : List ℕ) (end : Resolution) → EndsAt tree name end → Leads tree limit name end
   hop : (limit : ℕ) (name next : List ℕ) (end : Resolution) → Hops tree name next → Leads tree limit next end → Leads tree (suc limit) name end

@@ -1,4 +1,4 @@
--- Where names lead and what files units have in the code, as those of the definitions.
+-- Where names lead and which files units have in the code, as in the definitions.
 use Rattle.std.specs.Prelude.{List, [], ◌∷◌, ℕ, Option, Some, None, String, map as each, if◌then◌else◌, string_bytes}
 use Rattle.std.specs.Cmp.Lexicographic.{slice_cmp}
 use Rattle.std.specs.FinMap as map
@@ -63,14 +63,14 @@ abbrev pub added : ByFile → List (List ℕ × model.UnitFile) → ByFile
 added found [] = found
 added found (d ∷ ds) = added (first_kept found d) ds
 
--- a file as it is borrowed, and as it is handed out
+-- a file as it is borrowed, and as it is returned
 abbrev pub unit_file_of : SourceFile → model.UnitFile
 unit_file_of f = record { path = f.path.now; text = f.text.now }
 
 abbrev pub file_of : UnitFile → model.UnitFile
 file_of f = record { path = string_bytes f.path; text = string_bytes f.text }
 
--- the reply that tells the files of the unit that was asked for
+-- the reply with the files of the requested unit
 abbrev pub reply_by : List ℕ → Files → Reply
 reply_by asked (files.Found found) = FilesTold (each file_of found.items)
 reply_by asked (files.Masked unit) = Refusal (masked unit)

@@ -1,3 +1,5 @@
+//! The drop-ins of a unit.
+
 ghost use Rattle.std.specs.Prelude.{◌≡◌, ◌++◌, IfOk, OnOk, [], codes, map as each, option_copied, option_map, string_bytes};
 ghost use Rattle.std.specs.FinMap as map;
 ghost use Rattle.std.specs.List.{flat_map};
@@ -36,7 +38,7 @@ fn drop_in_folder(alloc: Global, unit: &str, layer: Layer) -> Result<String, All
     Ok(folder)
 }
 
-/// The folder's path with the slash that stands before the names in it.
+/// The folder's path with the slash before the names in it.
 fn front_of(alloc: Global, folder: &str) -> Result<String, AllocError>
     ensures { IfOk result (λ front. string_bytes front ≡ with_slash folder.now) }
 {
@@ -45,14 +47,14 @@ fn front_of(alloc: Global, folder: &str) -> Result<String, AllocError>
     Ok(front)
 }
 
-/// The name of the file in the folder, of a path there.
+/// The file's name in the folder, for a path there.
 fn file_in<'t>(folder: &str, path: &'t str) -> Option<&'t str>
     ensures { option_map (λ file. file.now) result ≡ behind folder.now path.now }
 {
     path.strip_prefix(folder)
 }
 
-/// The drop-in that an entry of the tree is, where it is a file in the folder.
+/// The drop-in of an entry of the tree, if it is a file in the folder.
 fn drop_in_at<'t>(folder: &str, path: &'t str, entry: Entry<'t>) -> Option<DropIn<'t>>
     ensures { drop_ins_seen result ≡ model.drop_in_at folder.now (path.now, entry_of entry.entry) }
 {
@@ -125,7 +127,7 @@ fn add_unit<'t>(
     Ok(())
 }
 
-/// Adds those of the template, where there is one.
+/// Adds those of the template, if there is one.
 fn add_template<'t>(
     alloc: Global,
     by_file: &mut ByFile<'t>,
@@ -152,8 +154,8 @@ fn by_file<'t>(alloc: Global, tree: &'t Tree, unit: &UnitName) -> Result<ByFile<
     Ok(found)
 }
 
-/// The drop-ins of a unit by the names of their files, whatever layer they lie in (systemd.unit(5), "Description"). Of equal
-/// files an earlier layer's counts, and any of the unit's own before its template's.
+/// The drop-ins of a unit by the names of their files, whatever layer they lie in (systemd.unit(5), "Description").
+/// Of several files with one name an earlier layer's counts, and any of the unit's own before its template's.
 #[tactic(auto, unfolding(um_model::specs::Resolution::drop_ins_of))]
 pub fn drop_ins<'t>(
     alloc: Global,

@@ -1,3 +1,5 @@
+//! The files of a unit.
+
 ghost use Rattle.std.specs.Prelude.{◌≡◌, ◌++◌, IfOk, map as each};
 ghost use Rattle.std.specs.FinMap as map;
 ghost use Rattle.um_model.specs.Machine.{files_told};
@@ -10,14 +12,14 @@ use std::alloc::{AllocError, Global};
 use um_name::UnitName;
 use um_tree::Tree;
 
-/// A file of a unit as the tree holds it.
+/// A file of a unit, borrowed from the tree.
 #[derive(Clone, Copy)]
 pub struct SourceFile<'t> {
     pub path: &'t str,
     pub text: &'t str,
 }
 
-/// A file of a unit.
+/// A file of a unit, with its own path and text.
 #[derive(Debug, Drop)]
 pub struct UnitFile {
     /// Its path in the tree.
@@ -34,7 +36,7 @@ pub enum Files {
     NotFound,
 }
 
-/// The files, and behind them the drop-ins of the unit.
+/// The files, followed by the drop-ins of the unit.
 fn with_drop_ins<'t>(
     alloc: Global,
     files: Vec<SourceFile<'t>>,

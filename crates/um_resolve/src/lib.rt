@@ -1,5 +1,5 @@
-//! Where a unit's name leads in a tree, and its files: `resolve` follows links, templates and masks exactly as the definition
-//! does, and `files_of` gives the files that the unit is read from.
+//! Where a unit's name leads in a tree, and its files: `resolve` follows links, templates and masks exactly as the
+//! definition does, and `files_of` returns the files that the unit is read from.
 #![tactic(auto)]
 
 mod drop_ins;

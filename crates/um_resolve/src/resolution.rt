@@ -1,3 +1,5 @@
+//! Where a unit's name leads in a tree.
+
 ghost use Rattle.std.specs.Prelude.{◌≡◌, ℕ, List, Some, None, IfOk, if◌then◌else◌, option_copied, option_map, string_bytes};
 ghost use Rattle.std.specs.Option.{option_map_or};
 ghost use Rattle.um_model.specs.Resolution as model;
@@ -11,10 +13,10 @@ use um_model::{Layer, Suffix};
 use um_name::{UnitName, is_template, with_instance};
 use um_tree::{Entry, Tree, unit_in_target};
 
-/// A name leads on to another one so many times at most.
+/// The most times that a name leads on to another one.
 const HOP_LIMIT: u32 = 8;
 
-/// What stands at a unit's path, with that path.
+/// The entry at a unit's path, with that path.
 #[derive(Drop)]
 struct Located<'t> {
     path: String,
@@ -41,7 +43,7 @@ pub enum Resolution<'t> {
     Nowhere,
 }
 
-/// Where a name leads by what holds it.
+/// Where a name leads by its own entry.
 #[derive(Drop)]
 enum Step<'t> {
     Ends(Resolution<'t>),
@@ -65,7 +67,7 @@ fn held_in<'t>(
     }
 }
 
-/// What stands there in the first layer that holds the unit.
+/// The entry in the first layer that holds the unit.
 fn first_held<'t>(
     alloc: Global,
     tree: &'t Tree,
@@ -91,7 +93,7 @@ fn leads_to_template(template: &UnitName, entry: Entry<'_>) -> bool
     }
 }
 
-/// A link to the unit's own template counts as if it weren't there.
+/// The entry, but a link to the unit's own template counts as absent.
 fn unless_to_template<'t>(template: &UnitName, found: Option<Located<'t>>) -> Option<Located<'t>>
     ensures { option_map located_of result ≡ model.unless_to_template (Some template.now) (option_map located_of found.entry) }
 {
@@ -101,7 +103,7 @@ fn unless_to_template<'t>(template: &UnitName, found: Option<Located<'t>>) -> Op
     }
 }
 
-/// The unit's own entry, or else that of its template.
+/// The unit's own entry, or otherwise that of its template.
 fn held<'t>(
     alloc: Global,
     tree: &'t Tree,
@@ -119,7 +121,7 @@ fn held<'t>(
     }
 }
 
-/// A template takes the instance of the name that leads to it, where there is one.
+/// A template takes the instance of the name that leads to it, if there is one.
 fn with_instance_of(
     alloc: Global,
     instance: Option<&str>,
@@ -183,7 +185,7 @@ fn at_link<'t>(alloc: Global, unit: &UnitName, target: &str) -> Result<Step<'t>,
     }
 }
 
-/// Where the name leads by what holds it: an empty file and a link to `/dev/null` mask, any other link leads on.
+/// Where the name leads by its own entry: an empty file and a link to `/dev/null` mask, any other link leads on.
 fn first_step<'t>(alloc: Global, tree: &'t Tree, unit: &UnitName) -> Result<Step<'t>, AllocError>
     ensures { IfOk result (λ s. (follow : List ℕ → model.Resolution)
         → after_step s follow ≡ model.resolution_at unit.now (model.held tree.now unit.now) follow) }
@@ -197,7 +199,7 @@ fn first_step<'t>(alloc: Global, tree: &'t Tree, unit: &UnitName) -> Result<Step
     }
 }
 
-/// Where the name leads by so many hops at most.
+/// Where the name leads by at most this many hops.
 fn resolved<'t>(
     alloc: Global,
     hops: u32,
@@ -217,11 +219,11 @@ fn resolved<'t>(
     }
 }
 
-/// Where the name leads in the tree (systemd.unit(5), "Unit File Load Path" and "Description"). The first layer that holds
-/// `LAYER/NAME` counts, or else the first that holds its template. An empty file and a link to `/dev/null` mask; any other
-/// link leads on to the name of its last part, which has the same suffix; a template there takes the instance. More than
-/// eight hops lead nowhere. Units of the types other than service and target are never found; `shutdown.target` is found
-/// even where nothing holds it.
+/// Where the name leads in the tree (systemd.unit(5), "Unit File Load Path" and "Description"). The first layer that
+/// holds `LAYER/NAME` counts, or otherwise the first that holds its template. An empty file and a link to `/dev/null`
+/// mask; any other link leads on to the name of its last part, which has the same suffix; a template there takes the
+/// instance. More than eight hops lead nowhere. Units of the types other than service and target are never found;
+/// `shutdown.target` is found even without an entry.
 #[tactic(auto, unfolding(um_model::specs::Resolution::resolution_of))]
 pub fn resolve<'t>(
     alloc: Global,
@@ -236,7 +238,7 @@ pub fn resolve<'t>(
     }
 }
 
-/// The unit to which the name leads, or the name itself where it leads nowhere. No file is read.
+/// The unit to which the name leads, or the name itself if it leads nowhere. No file is read.
 pub fn unit_named(alloc: Global, tree: &Tree, name: &UnitName) -> Result<UnitName, AllocError>
     ensures { IfOk result (λ unit. unit ≡ units.unit_named tree.now name.now) }
 {

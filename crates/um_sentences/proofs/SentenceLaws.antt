@@ -59,7 +59,7 @@ reason_told profile unit assigned reason e =
     first_told (refused_setting profile assigned) (refused_service (suffix_of unit) (type_of assigned) (service_settings_of profile (suffix_of unit) unit assigned)) reason
     (setting_told _ reason) (service_told (suffix_of unit) (type_of assigned) (service_settings_of profile (suffix_of unit) unit assigned) reason) e
 
--- something is found just where the test holds of a key
+-- an entry is found exactly if the test holds for a key
 is_some-lookup : (holds : List ℕ → Bool) (es : List (List ℕ × List ℕ)) → is_some (lookup holds es) ≡ list_any holds (map (λ e. e.0) es)
 is_some-lookup holds [] = refl
 is_some-lookup holds (e ∷ es) =

@@ -1,6 +1,6 @@
--- The sentences for the numbers and words that replies tell: what each means to a person.
--- No manual page has this: the words are those of docs/FORMATS.md, the sentences the project's own.
--- What `umd help`, `umd verify` and `umd status` say stands on this file.
+-- The sentences for the numbers and words in replies: the meaning of each to a person. No manual page has this: the
+-- words are those of docs/FORMATS.md, the sentences the project's own. The sentences of `umd help`, `umd verify` and
+-- `umd status` stand on this file.
 use Rattle.std.specs.Prelude.{ℕ, List, [], ◌∷◌, ◌++◌, Bool, Option, Some, codes, flat_map, if◌then◌else◌, nat_eq}
 use Rattle.std.specs.List.{starts_with}
 use Rattle.std.specs.Map.{lookup}
@@ -15,7 +15,7 @@ use Rattle.um_sentences.specs.declared.topics.Topic.TheVariants.{Setting, Servic
 
 -- ---- warnings
 
--- what a warning says of its line
+-- the sentence of a warning for its line
 abbrev pub warning_sentence : WarningKind → List ℕ
 warning_sentence warning.BeforeAnySection = codes "before any section, no effect"
 warning_sentence warning.NoEqualsSign = codes "no = in it, no effect"
@@ -44,7 +44,7 @@ refused_keys =
     ∷ (codes "OnSuccess", codes "no unit is started because another succeeded")
     ∷ []
 
--- the keys that begin so, and why they aren't served
+-- the fronts of refused keys, and why these aren't served
 abbrev pub refused_fronts : List (List ℕ × List ℕ)
 refused_fronts =
     (codes "Condition", codes "no start depends on a condition")
@@ -59,11 +59,11 @@ begins_with key front = starts_with nat_eq key front
 abbrev pub key_why : List ℕ → Option (List ℕ)
 key_why key = option_or (lookup (bytes_eq key) refused_keys) (lookup (begins_with key) refused_fronts)
 
--- what is said of a key: `User= isn't served: every service runs as umd's user`
+-- the sentence for a key: `User= isn't served: every service runs as umd's user`
 abbrev pub key_sentence : (key why : List ℕ) → List ℕ
 key_sentence key why = key ++ (codes "= isn't served: " ++ why)
 
--- ---- what is said at the lines of the other reasons
+-- ---- the sentences at the lines of the other reasons
 
 -- at the Type= that isn't served
 abbrev pub type_sentence : List ℕ → List ℕ
@@ -73,15 +73,15 @@ type_sentence value = codes "Type=" ++ (value ++ codes " isn't served: simple, e
 abbrev pub restart_sentence : List ℕ → List ℕ
 restart_sentence value = codes "Restart=" ++ (value ++ codes " isn't served with Type=oneshot")
 
--- where no command is left
+-- for a lack of commands
 abbrev pub no_command : List ℕ
 no_command = codes "no ExecStart= that can be read"
 
--- at a command too many
+-- at a further command
 abbrev pub further_command : List ℕ
 further_command = codes "a command too many: all but Type=oneshot have exactly one"
 
--- what is said at a line: the sentence of a warning, and what stands there
+-- the sentence at a line: that of a warning, and the text of the line
 abbrev pub warning_at : WarningKind → List ℕ → List ℕ
 warning_at kind text = warning_sentence kind ++ (codes ": " ++ text)
 
@@ -101,11 +101,11 @@ topics =
 abbrev pub topic_named : List ℕ → Option Topic
 topic_named word = lookup (bytes_eq word) topics
 
--- the topic of a reason of E6, as a refusal tells it: behind `setting` stands a key
+-- the topic of a reason of E6, as a refusal has it: `setting` is followed by a key
 abbrev pub topic_of_reason : List ℕ → Option Topic
 topic_of_reason reason = if begins_with reason (codes "setting ") then Some Setting else topic_named reason
 
--- what became of a unit
+-- the outcome of a unit
 abbrev pub result_sentence : UnitResult → List ℕ
 result_sentence result.Success = codes "nothing has failed."
 result_sentence result.ExitCode =
@@ -119,7 +119,7 @@ result_sentence result.Dependency = codes "its start was given up because a unit
 result_sentence result.NotLoaded = codes "it couldn't be loaded as its start began: 'umd status UNIT' says why."
 result_sentence result.Resources = codes "no process number was left to start it with."
 
--- what a topic says to a person
+-- the sentence of a topic for a person
 abbrev pub topic_sentence : Topic → List ℕ
 topic_sentence Setting = codes "a key has a value that umd doesn't serve and that a start can't ignore: take the line out; 'umd verify' tells which line it is."
 topic_sentence ServiceType = codes "the Type= isn't served: simple, exec and oneshot are."
@@ -131,9 +131,9 @@ topic_sentence Template = codes "a template isn't started: name an instance of i
 topic_sentence DefaultInstance = codes "a template without a fit DefaultInstance= isn't enabled: name an instance of it, as name@instance.service."
 topic_sentence (Outcome outcome) = result_sentence outcome
 
--- ---- what help prints
+-- ---- the text of help
 
--- the line of a key with why it isn't served; this is told behind its name
+-- the line of a key with why it isn't served; `more` follows its name
 abbrev pub key_line : List ℕ → List ℕ × List ℕ → List ℕ
 key_line more (key, why) = codes "  " ++ (key ++ (more ++ (codes "= isn't served: " ++ (why ++ codes "\n"))))
 
@@ -141,16 +141,16 @@ key_line more (key, why) = codes "  " ++ (key ++ (more ++ (codes "= isn't served
 abbrev pub key_lines : List ℕ
 key_lines = flat_map (key_line []) refused_keys ++ flat_map (key_line (codes "..")) refused_fronts
 
--- what stands behind a topic's sentence: the keys behind that of settings
+-- the text after a topic's sentence: the keys after that of settings
 abbrev pub behind_topic : Topic → List ℕ
 behind_topic Setting = key_lines
 behind_topic other = []
 
--- a word, and what its topic says: `type: the Type= isn't served: simple, exec and oneshot are.`
+-- a word, and the sentence of its topic: `type: the Type= isn't served: simple, exec and oneshot are.`
 abbrev pub topic_line : List ℕ → Topic → List ℕ
 topic_line word topic = word ++ (codes ": " ++ (topic_sentence topic ++ codes "\n"))
 
--- what `umd help` prints of a word
+-- the text that `umd help` prints for a word
 abbrev pub topic_help : List ℕ → Topic → List ℕ
 topic_help word topic = topic_line word topic ++ behind_topic topic
 
@@ -160,7 +160,7 @@ reason_words =
     (codes "setting", Setting) ∷ (codes "type", ServiceType) ∷ (codes "exec-count", ExecCount) ∷ (codes "restart", Restart)
     ∷ (codes "template", Template) ∷ (codes "default-instance", DefaultInstance) ∷ []
 
--- the line of a reason behind that of E6
+-- the line of a reason, for the help of E6
 abbrev pub reason_line : List ℕ × Topic → List ℕ
 reason_line (word, topic) = codes "  " ++ (word ++ (codes ": " ++ (topic_sentence topic ++ codes "\n")))
 

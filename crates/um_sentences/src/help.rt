@@ -1,4 +1,4 @@
-//! What `umd help` prints of a word.
+//! The text that `umd help` prints for a word.
 
 ghost use Rattle.std.specs.Prelude.{◌≡◌, ◌++◌, IfOk, OnOk, flat_map, map, string_bytes};
 ghost use Rattle.um_sentences.specs.Sentences as model;
@@ -8,14 +8,14 @@ use crate::topics::{REASONS, Topic};
 use std::alloc::{AllocError, Global};
 use std::fmt::Write;
 
-/// Puts the line of a key, with why it isn't served; this is told behind its name.
+/// Appends the line of a key, with why it isn't served; `more` follows its name.
 fn push_key(text: &mut String, key: &str, more: &str, why: &str) -> Result<(), AllocError>
     ensures { OnOk result (string_bytes text.new ≡ string_bytes text.old ++ model.key_line more.now (key.now, why.now)) }
 {
     write!(text, "  {key}{more}= isn't served: {why}\n")
 }
 
-/// Puts a line for each of the keys.
+/// Appends a line for each of the keys.
 fn push_keys(text: &mut String, known: &[(&str, &str)], more: &str) -> Result<(), AllocError>
     ensures { OnOk result (string_bytes text.new
         ≡ string_bytes text.old ++ flat_map (model.key_line more.now) (map (λ k. (k.0.now, k.1.now)) known.now)) }
@@ -26,7 +26,7 @@ fn push_keys(text: &mut String, known: &[(&str, &str)], more: &str) -> Result<()
     Ok(())
 }
 
-/// Puts a line for each key that no unit may have.
+/// Appends a line for each key that no unit may have.
 fn push_all_keys(text: &mut String) -> Result<(), AllocError>
     ensures { OnOk result (string_bytes text.new ≡ string_bytes text.old ++ model.key_lines) }
 {
@@ -35,7 +35,7 @@ fn push_all_keys(text: &mut String) -> Result<(), AllocError>
     Ok(())
 }
 
-/// Puts what stands behind the sentence of a topic.
+/// Appends the text after the sentence of a topic.
 fn push_behind(text: &mut String, topic: Topic) -> Result<(), AllocError>
     ensures { OnOk result (string_bytes text.new ≡ string_bytes text.old ++ model.behind_topic topic) }
 {
@@ -45,8 +45,8 @@ fn push_behind(text: &mut String, topic: Topic) -> Result<(), AllocError>
     }
 }
 
-/// What `umd help` prints of a word that has this topic: a line of the word and the topic's sentence, and behind that of `setting` a line for each key that
-/// no unit may have.
+/// The text that `umd help` prints for a word that has this topic: a line of the word and the topic's sentence. For
+/// `setting`, a line for each key that no unit may have follows.
 pub fn topic_help(alloc: Global, word: &str, topic: Topic) -> Result<String, AllocError>
     ensures { IfOk result (λ text. string_bytes text ≡ model.topic_help word.now topic) }
 {
@@ -56,7 +56,7 @@ pub fn topic_help(alloc: Global, word: &str, topic: Topic) -> Result<String, All
     Ok(text)
 }
 
-/// Puts the line of a reason.
+/// Appends the line of a reason.
 fn push_reason(text: &mut String, word: &str, topic: Topic) -> Result<(), AllocError>
     ensures { OnOk result (string_bytes text.new ≡ string_bytes text.old ++ model.reason_line (word.now, topic)) }
 {
@@ -64,7 +64,7 @@ fn push_reason(text: &mut String, word: &str, topic: Topic) -> Result<(), AllocE
     write!(text, "  {word}: {sentence}\n")
 }
 
-/// Puts a line for each of the reasons.
+/// Appends a line for each of the reasons.
 fn push_reasons(text: &mut String, known: &[(&str, Topic)]) -> Result<(), AllocError>
     ensures { OnOk result (string_bytes text.new ≡ string_bytes text.old ++ flat_map model.reason_line (map (λ k. (k.0.now, k.1)) known.now)) }
 {
@@ -74,7 +74,7 @@ fn push_reasons(text: &mut String, known: &[(&str, Topic)]) -> Result<(), AllocE
     Ok(())
 }
 
-/// Puts a line for each reason of E6.
+/// Appends a line for each reason of E6.
 #[tactic(auto, unfolding(crate::specs::Sentences::reason_lines))]
 fn push_all_reasons(text: &mut String) -> Result<(), AllocError>
     ensures { OnOk result (string_bytes text.new ≡ string_bytes text.old ++ model.reason_lines) }

@@ -33,7 +33,7 @@ pub(crate) const REFUSED_KEYS: [(&str, &str); 13] = [
     ("OnSuccess", "no unit is started because another succeeded"),
 ];
 
-/// What keys begin with, and why such keys aren't served.
+/// The fronts of keys, and why such keys aren't served.
 pub(crate) const REFUSED_FRONTS: [(&str, &str); 2] = [
     ("Condition", "no start depends on a condition"),
     ("Assert", "no start depends on an assertion"),
@@ -58,7 +58,7 @@ fn begins_with(key: &str, front: &str) -> bool
     key.as_bytes().starts_with(front.as_bytes())
 }
 
-/// Why the key isn't served, by what it begins with among these.
+/// Why the key isn't served, by its front among these.
 fn why_begun(known: &[(&str, &'static str)], key: &str) -> Option<&'static str>
     ensures { option_map (λ s. s.now) result ≡ lookup (model.begins_with key.now) (map (λ k. (k.0.now, k.1.now)) known.now) }
 {
@@ -70,7 +70,8 @@ fn why_begun(known: &[(&str, &'static str)], key: &str) -> Option<&'static str>
     None
 }
 
-/// Why no unit may have the key with a value, as `every service runs as umd's user` for `User`. None for keys that it may have.
+/// Why no unit may have the key with a value, as `every service runs as umd's user` for `User`. `None` for keys that
+/// it may have.
 pub fn key_why(key: &str) -> Option<&'static str>
     ensures { option_map (λ s. s.now) result ≡ model.key_why key.now }
 {
@@ -80,7 +81,7 @@ pub fn key_why(key: &str) -> Option<&'static str>
     }
 }
 
-/// What is said of a key that isn't served: `User= isn't served: every service runs as umd's user`.
+/// The sentence for a key that isn't served: `User= isn't served: every service runs as umd's user`.
 pub fn key_sentence(alloc: Global, key: &str, why: &str) -> Result<String, AllocError>
     ensures { IfOk result (λ text. string_bytes text ≡ model.key_sentence key.now why.now) }
 {

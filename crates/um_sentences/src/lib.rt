@@ -1,5 +1,5 @@
-//! What numbers and words of replies mean to a person, in a sentence each: the six warnings, the reasons of `E6 BadSetting` with each key that no unit
-//! may have, and the results of units.
+//! The meaning of numbers and words in replies to a person, in a sentence each: the six warnings, the reasons of `E6
+//! BadSetting` with each key that no unit may have, and the results of units.
 #![tactic(auto)]
 
 mod help;

@@ -1,4 +1,4 @@
-//! What is said at a line of a unit's file.
+//! The sentences at the lines of a unit's file.
 
 ghost use Rattle.std.specs.Prelude.{◌≡◌, IfOk, string_bytes};
 ghost use Rattle.um_sentences.specs.Sentences as model;
@@ -21,21 +21,21 @@ pub fn restart_sentence(alloc: Global, value: &str) -> Result<String, AllocError
     format!(in alloc; "Restart={value} isn't served with Type=oneshot")
 }
 
-/// Where no command is left that a service could be started with.
+/// For a unit without any command that a service could be started with.
 pub fn no_command() -> &'static str
     ensures { result.now ≡ model.no_command }
 {
     "no ExecStart= that can be read"
 }
 
-/// At a command too many.
+/// At a further command.
 pub fn further_command() -> &'static str
     ensures { result.now ≡ model.further_command }
 {
     "a command too many: all but Type=oneshot have exactly one"
 }
 
-/// At a line that is warned of, with what stands there: `unknown key, no effect: ExecStrat=/bin/true`.
+/// At a line with a warning, with the text of the line: `unknown key, no effect: ExecStrat=/bin/true`.
 pub fn warning_at(alloc: Global, kind: WarningKind, text: &str) -> Result<String, AllocError>
     ensures { IfOk result (λ said. string_bytes said ≡ model.warning_at kind text.now) }
 {

@@ -7,7 +7,7 @@ ghost use Rattle.um_sentences.specs.Sentences as model;
 
 use um_model::UnitResult;
 
-/// What a word of a reply is about: a reason of `E6 BadSetting`, or the result of a unit.
+/// The kind of a word in a reply: a reason of `E6 BadSetting`, or the result of a unit.
 #[derive(Clone, Copy, Debug, PartialEq, Eq)]
 pub enum Topic {
     /// `setting`: a key that no unit may have is given a value.
@@ -16,13 +16,13 @@ pub enum Topic {
     ServiceType,
     /// `exec-count`: too many commands, or too few.
     ExecCount,
-    /// `restart`: a oneshot would be started again behind a success.
+    /// `restart`: a oneshot would be started again after a success.
     Restart,
     /// `template`: a template is to be started.
     Template,
     /// `default-instance`: a template is to be enabled.
     DefaultInstance,
-    /// What became of a unit.
+    /// The outcome of a unit.
     Outcome(UnitResult),
 }
 
@@ -67,14 +67,14 @@ fn topic_among(known: &[(&str, Topic)], word: &str) -> Option<Topic>
     None
 }
 
-/// The topic of this word. None where a word has no sentence.
+/// The topic of this word. `None` if a word has no sentence.
 pub fn topic_named(word: &str) -> Option<Topic>
     ensures { result ≡ model.topic_named word.now }
 {
     topic_among(&TOPICS, word)
 }
 
-/// What became of a unit, as a sentence.
+/// The outcome of a unit, as a sentence.
 fn result_sentence(outcome: UnitResult) -> &'static str
     ensures { result.now ≡ model.result_sentence outcome }
 {
@@ -99,7 +99,7 @@ fn result_sentence(outcome: UnitResult) -> &'static str
 }
 
 impl Topic {
-    /// What it says to a person, in one sentence.
+    /// Its meaning to a person, in one sentence.
     pub fn sentence(self) -> &'static str
         ensures { result.now ≡ model.topic_sentence self }
     {

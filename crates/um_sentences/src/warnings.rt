@@ -1,9 +1,11 @@
+//! The sentences of warnings.
+
 ghost use Rattle.std.specs.Prelude.{◌≡◌};
 ghost use Rattle.um_sentences.specs.Sentences as model;
 
 use um_model::WarningKind;
 
-/// What a warning says of its line, as `unknown key, no effect`.
+/// The sentence of a warning for its line, as `unknown key, no effect`.
 pub fn warning_sentence(kind: WarningKind) -> &'static str
     ensures { result.now ≡ model.warning_sentence kind }
 {

@@ -5,11 +5,11 @@ use Rattle.um_model.specs.Specifiers.{percent_front, specifier_front}
 use Rattle.um_model.proofs.PiecesLaws.{prefixed, reading, prefixed-prefixed, reading_none, reading-append, reading_more_after}
 use Rattle.um_model.proofs.SpecifiersLaws.{plain_front}
 
--- what is done, and then what is read of the rest
+-- the text so far, followed by the reading of the rest
 abbrev told : List ℕ → Option (List ℕ) → List ℕ → List ℕ → Option (List ℕ)
 told name unescaped done rest = prefixed done (reading (specifier_front name unescaped) rest)
 
--- one specifier more
+-- one more specifier
 pub told_more : (name : List ℕ) (unescaped : Option (List ℕ)) (done rest before after gives later left : List ℕ) (n : ℕ) (whole : Option (List ℕ))
     → (rest ≡ before ++ (37 ∷ after)) × ((i : ℕ) → i < length before → get_or before i 0 ≢ 37) → percent_front name unescaped after ≡ Gives gives n
     → later ≡ (done ++ before) ++ gives → left ≡ drop (n - 1) after

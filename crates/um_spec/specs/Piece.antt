@@ -1,4 +1,4 @@
--- What stands behind a `%`, as the code tells it.
+-- The front of a text that begins with `%`, as the code returns it.
 use Rattle.std.specs.Prelude.{ℕ, Option, Some, None}
 use Rattle.um_model.specs.Pieces.{Front, Unreadable, Gives}
 use Rattle.um_spec.specs.declared.expansion.Piece.{Piece}

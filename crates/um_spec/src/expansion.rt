@@ -12,7 +12,7 @@ ghost use Rattle.um_model.specs.Names.{instance_or_empty};
 use std::alloc::{AllocError, Global};
 use um_name::{UnitName, unescape};
 
-/// The text that the escapes of an instance stand for; None where they are ill formed or stand for no text.
+/// The text that the escapes of an instance stand for; `None` if they are ill formed or stand for no text.
 fn unescaped(alloc: Global, instance: &str) -> Result<Option<String>, AllocError>
     ensures { IfOk result (λ text. IsUnescaped instance.now (option_map string_bytes text)) }
 {
@@ -22,7 +22,7 @@ fn unescaped(alloc: Global, instance: &str) -> Result<Option<String>, AllocError
     }
 }
 
-/// What follows the last `-`, or all.
+/// The text after the last `-`, or all.
 fn after_last_dash(prefix: &str) -> &str
     ensures { result.now ≡ after_last (λ b. b == 45) prefix.now }
 {
@@ -38,7 +38,7 @@ fn instance_or_empty(unit: &UnitName) -> &str
     unit.instance().unwrap_or("")
 }
 
-/// What the letter behind a `%` stands for.
+/// The text that the letter after a `%` stands for.
 fn specified<'a>(unit: &'a UnitName, unescaped: Option<&'a str>, letter: u8) -> Option<&'a str>
     ensures { option_copied result ≡ specified unit.now (option_copied unescaped.entry) letter }
 {
@@ -53,14 +53,14 @@ fn specified<'a>(unit: &'a UnitName, unescaped: Option<&'a str>, letter: u8) -> 
     }
 }
 
-/// What a `%` and some of what follows it stand for: a text, spelled by so many bytes.
+/// A `%` and some of the text after it: the text that they stand for, and their length in bytes.
 #[derive(Clone, Copy)]
 struct Piece<'a> {
     text: &'a str,
     size: usize,
 }
 
-/// What a `%` stands for, from what follows it.
+/// The text that a `%` stands for, by the text after it.
 fn percent<'a>(unit: &'a UnitName, unescaped: Option<&'a str>, after: &str) -> Option<Piece<'a>>
     ensures front { front_of result ≡ percent_front unit.now (option_copied unescaped.entry) after.now }
     ensures some { IfSome result (λ piece. 0 < piece.size) }
@@ -76,7 +76,7 @@ fn percent<'a>(unit: &'a UnitName, unescaped: Option<&'a str>, after: &str) -> O
     }
 }
 
-/// The text with each specifier expanded, where `%I` stands for this text.
+/// The text with each specifier expanded; `unescaped` is the text for `%I`.
 fn expand_with(
     alloc: Global,
     text: &str,
@@ -99,11 +99,11 @@ fn expand_with(
     Ok(Some(expanded))
 }
 
-/// The text with its specifiers expanded under the unit's name: `%n` the full name, `%N` the name without its suffix, `%p`
-/// what stands before the first `@` of that, or all, `%i` the instance as written, empty without one, `%I` the instance
-/// unescaped, `%j` what follows the last `-` of `%p`, or all, and `%%` a `%` (systemd.unit(5), "Specifiers"). A `%` before
-/// anything but a letter stays, also at the end. None where a `%` stands before another letter, and where `%I` is asked for
-/// and the instance is ill escaped or isn't UTF-8.
+/// The text with its specifiers expanded under the unit's name: `%n` the full name, `%N` the name without its suffix,
+/// `%p` the text before the first `@` of that, or all, `%i` the instance as written, empty without one, `%I` the
+/// instance unescaped, `%j` the text after the last `-` of `%p`, or all, and `%%` a `%` (systemd.unit(5),
+/// "Specifiers"). A `%` before anything but a letter stays, also at the end. `None` if a `%` is followed by another
+/// letter, and if there is a `%I` and the instance is ill escaped or isn't UTF-8.
 pub fn expand(alloc: Global, text: &str, unit: &UnitName) -> Result<Option<String>, AllocError>
     ensures { IfOk result (λ r. option_map string_bytes r ≡ expanded_of unit.now text.now) }
 {

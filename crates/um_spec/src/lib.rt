@@ -1,4 +1,5 @@
-//! Specifiers: a text with `%` and a letter in it is expanded exactly where it stands for one, under the name of a unit.
+//! Specifiers: a text with `%` and a letter in it is expanded exactly if it stands for another text, under the name
+//! of a unit.
 #![tactic(auto)]
 
 mod expansion;

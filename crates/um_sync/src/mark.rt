@@ -1,4 +1,5 @@
 //! The mark of an entry that was put.
+
 use sha2::{Digest, Sha256};
 use um_tree::Entry;
 

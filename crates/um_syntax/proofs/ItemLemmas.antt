@@ -1,4 +1,4 @@
--- A line more of what is read.
+-- The reading with one more line.
 use Rattle.std.proofs.Common.{◌≡◌, ◌<◌, ◌+◌, ℕ, ◌≤◌, Bool, false, ◌||◌, List, [], ◌∷◌, ◌++◌, length, get_or, drop, map, Option, Some, None, append_assoc, append-nil, subst, sym, ap, ◌∙◌}
 use Rattle.std.specs.Prelude.{All, IfSome}
 use Rattle.std.specs.Option.{option_to_list}
@@ -19,7 +19,7 @@ seen : (old : List Item) (more : Option Item) → map item_of (old ++ option_to_
 seen old None = map-append item_of old []
 seen old (Some item) = map-append item_of old (item ∷ [])
 
--- what is read so far and what is still to be read, after one more line
+-- the items so far and those still to be read, after one more line
 pub read_more : (lines : List Joined) (i : ℕ) (line : Joined) (begun next : Bool) (old new : List Item) (more : Option Item) (whole : List said.Item)
     → i < length lines → line ≡ get_or lines i line
     → items_seen more ≡ items_of (statement_of (cow_text line.text)) begun line.number (is_borrowed line.text)
@@ -39,16 +39,16 @@ read_more lines i line begun next old new more whole lt at is heads new_is next_
     ∙ ap (λ ls. map item_of old ++ items_in begun (map line_of ls)) (sym (drop_more lines i line lt ∙ ap (λ x. x ∷ drop (i + 1) lines) (sym at)))
     ∙ told
 
--- what holds of each element holds of one that was read
+-- a property of each element holds for the one that was read
 pub at_item : {X : Type 0} (P : X → Type 0) (xs ys : List X) (i : ℕ) (x : X) → xs ≡ ys → i < length xs → x ≡ get_or xs i x → All P ys → P x
 at_item P xs ys i x same lt is all = subst P (sym is) (subst (All P) (sym same) all i x lt)
 
--- what holds of the items so far, and of one more
+-- a property of the items so far, and of one more
 pub all_more : {X : Type 0} (P : X → Type 0) (old new : List X) (more : Option X) → new ≡ old ++ option_to_list more → IfSome more P → All P old → All P new
 all_more P old new None is here all = subst (All P) (sym (is ∙ append-nil old)) all
 all_more P old new (Some x) is here all = subst (All P) (sym is) (All-push P old x all here)
 
--- what is read of all lines is the reading
+-- the items of all lines are the reading
 pub read_all : (source : List ℕ) (lines : List Joined) (i : ℕ) (begun : Bool) (items : List Item) → length lines ≤ i
     → map item_of items ++ items_in begun (map line_of (drop i lines)) ≡ items_in false (map line_of lines)
     → map line_of lines ≡ joined_lines source

@@ -1,17 +1,17 @@
--- What the definitions see of an item, and what its texts and its span are.
+-- Items of the code as those of the definitions, with their texts and spans.
 use Rattle.std.specs.Prelude.{◌≡◌, ℕ, ◌≤◌, Bool, true, false, List, [], ◌∷◌, length, slice_range, Option, Some, None, IfSome, is_some}
 use Rattle.um_model.specs.Syntax as said
 use Rattle.um_syntax.specs.Places.{cow_text, is_borrowed}
 use Rattle.um_syntax.specs.declared.items.Item.{Item}
 use Rattle.um_syntax.specs.declared.items.Item.TheVariants.{Section, Assignment, Warning}
 
--- the item of the definitions; an assignment is whole exactly where it has a span
+-- the item of the definitions; an assignment is whole exactly if it has a span
 abbrev pub item_of : Item → said.Item
 item_of (Section name line) = said.Section (cow_text name) line
 item_of (Assignment key value line span) = said.Assignment (cow_text key) (cow_text value) line (is_some span)
 item_of (Warning kind line) = said.Warned kind line
 
--- what a line gives, which may be nothing
+-- the items of a line, at most one
 abbrev pub items_seen : Option Item → List said.Item
 items_seen None = []
 items_seen (Some item) = item_of item ∷ []
@@ -34,7 +34,7 @@ SpanIsIn source (Assignment key value line span) =
     IfSome span (λ s. (s.end ≤ length source) × (slice_range source s.start s.end ≡ cow_text value))
 SpanIsIn source (Warning kind line) = Unit {0}
 
--- key and value are borrowed exactly where there is a span
+-- key and value are borrowed exactly if there is a span
 abbrev pub BorrowsIfWhole : Item → Type 0
 BorrowsIfWhole (Section name line) = Unit {0}
 BorrowsIfWhole (Assignment key value line span) = (is_borrowed key ≡ is_some span) × (is_borrowed value ≡ is_some span)

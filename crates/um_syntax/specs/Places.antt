@@ -1,11 +1,11 @@
--- Where a text lies in another one, and what a text that is borrowed or owned reads.
+-- The place of a text in another one, and the text of one that is borrowed or owned.
 use Rattle.std.specs.Prelude.{◌≡◌, ℕ, ◌+◌, ◌≤◌, Bool, true, false, List, length, take, drop}
 use Rattle.std.specs.declared.borrow.CowStr.{CowStr}
 use Rattle.std.specs.declared.borrow.CowStr.TheVariants.{Borrowed, Owned}
 use Rattle.std.specs.declared.alloc.Global.{Global}
 use Rattle.std.specs.String.{string_bytes}
 
--- the text, wherever it lies
+-- the text, whether borrowed or owned
 abbrev pub cow_text : CowStr Global → List ℕ
 cow_text (Borrowed s) = s.now
 cow_text (Owned s) = string_bytes s

@@ -1,4 +1,4 @@
--- What the definitions see of a statement.
+-- Statements of the code as those of the definitions.
 use Rattle.std.specs.Prelude.{ℕ, List}
 use Rattle.um_model.specs.Syntax as said
 use Rattle.um_syntax.specs.Places.{LiesAt}
@@ -12,7 +12,7 @@ statement_view (Head name) = said.Head name.now
 statement_view (Pair key value at) = said.Pair key.now value.now
 statement_view Stray = said.Stray
 
--- a value lies where it is said to lie
+-- a value lies at its given place
 abbrev pub ValueLiesIn : List ℕ → Statement → Type 0
 ValueLiesIn line Blank = Unit {0}
 ValueLiesIn line (Head name) = Unit {0}

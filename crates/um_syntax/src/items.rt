@@ -20,8 +20,8 @@ pub struct Span {
     pub end: usize,
 }
 
-/// What a line of a unit file says (systemd.syntax(7)). `line` is the number, from 1, of its first physical line. An item
-/// stands in the section of the last head before it.
+/// An item of a unit file (systemd.syntax(7)). `line` is the number, from 1, of its first physical line. An item
+/// belongs to the section of the last head before it.
 #[derive(Debug, Drop)]
 pub enum Item<'a> {
     /// The head of a section, as `[Unit]`, with its name.
@@ -29,8 +29,8 @@ pub enum Item<'a> {
         name: CowStr<'a>,
         line: usize,
     },
-    /// A key and a value in a section, without the whitespace around them. Where the line is one physical line, both are
-    /// borrowed from the source, and the value lies there at the span; a line that was joined has no span.
+    /// A key and a value in a section, without the whitespace around them. If the line is one physical line, both are
+    /// borrowed from the source, and the span is the value's place there; a line that was joined has no span.
     Assignment {
         key: CowStr<'a>,
         value: CowStr<'a>,
@@ -53,7 +53,7 @@ impl Item<'_> {
     }
 }
 
-/// What a line says that is one physical line, and lies at byte `start` of the source.
+/// The item of a line that is one physical line, and lies at byte `start` of the source.
 fn whole_item<'a>(text: &'a str, begun: bool, line: usize, start: usize) -> Option<Item<'a>>
     requires { start + length text.now < 2 ^ 64 }
     ensures said { items_seen result ≡ items_of (statement_of text.now) begun line true }
@@ -90,7 +90,7 @@ fn owned(alloc: Global, text: &str) -> Result<CowStr<'static>, AllocError>
     Ok(CowStr::Owned(String::from_str(alloc, text)?))
 }
 
-/// What a line says that was joined.
+/// The item of a line that was joined.
 fn joined_item(
     alloc: Global,
     text: &str,
@@ -122,7 +122,7 @@ fn joined_item(
     Ok(Some(Item::Warning { kind, line }))
 }
 
-/// What a joined line says, after a section's head or before any.
+/// The item of a joined line, after a section's head or before any.
 fn read_item<'a>(
     alloc: Global,
     line: &Joined<'a>,
@@ -141,8 +141,8 @@ fn read_item<'a>(
     }
 }
 
-/// What the text of a unit file says, in the order of its lines (systemd.syntax(7)): heads of sections, assignments, and the
-/// warnings `BeforeAnySection` and `NoEqualsSign`. Every text can be read.
+/// The items of the text of a unit file, in the order of its lines (systemd.syntax(7)): heads of sections,
+/// assignments, and the warnings `BeforeAnySection` and `NoEqualsSign`. Every text can be read.
 pub fn parse<'a>(alloc: Global, source: &'a str) -> Result<Vec<Item<'a>>, AllocError>
     ensures reading { IfOk result (λ items. in_sections None (map item_of items.items) ≡ reading_of source.now) }
     ensures spans { IfOk result (λ items. All (SpanIsIn source.now) items.items) }

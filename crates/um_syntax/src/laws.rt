@@ -16,18 +16,18 @@ pub fn one_reading()
     ensures { (text : List ℕ) (a b : List Placed) → IsReading text a → IsReading text b → a ≡ b }
 {}
 
-/// The reading is what the functions of the definitions compute.
+/// The reading is the one that the functions of the definitions compute.
 pub fn reading_is_computed()
     ensures { (text : List ℕ) (reading : List Placed) → IsReading text reading ↔ (reading ≡ reading_of text) }
 {}
 
-/// Items, and so warnings, stand in the order of their lines, and a line gives one at most.
+/// Items, and so warnings, are in the order of their lines, and a line has at most one.
 pub fn lines_rise()
     ensures { (text : List ℕ) (reading : List Placed) → IsReading text reading →
         IsStrictlyIncreasing (map (λ p. line_number p.item) reading) }
 {}
 
-/// A head and an assignment stand in a section, and the warning of an assignment before any section stands in none.
+/// A head and an assignment belong to a section, and the warning of an assignment before any section belongs to none.
 pub fn sections_fit()
     ensures { (text : List ℕ) (reading : List Placed) → IsReading text reading →
         AllPass (λ p. stands_well p.section p.item) reading }

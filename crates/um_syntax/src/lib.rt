@@ -1,5 +1,5 @@
-//! The syntax of unit files: each text has one reading, as heads of sections, assignments and warnings in the order of their
-//! lines, and nothing is refused but want of memory.
+//! The syntax of unit files: each text has one reading, as heads of sections, assignments and warnings in the order
+//! of their lines, and only a failed allocation is an error.
 #![tactic(auto)]
 
 mod items;

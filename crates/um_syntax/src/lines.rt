@@ -7,7 +7,7 @@ ghost use Rattle.um_model.specs.Syntax.{is_comment, continues};
 
 use um_text::trim_start;
 
-/// Whether the first character past whitespace is `#` or `;`.
+/// Whether the first character after whitespace is `#` or `;`.
 pub fn is_comment(line: &str) -> bool
     ensures { result ≡ is_comment line.now }
 {
@@ -36,7 +36,7 @@ pub fn continued(line: &str) -> Option<&str>
     continues(line).then_some(front)
 }
 
-/// The first line, without its end, and what follows it.
+/// The first line, without its end, and the text after it.
 pub fn cut_line(text: &str) -> (&str, &str)
     requires { 0 < length text.now }
     ensures line { lines text.now ≡ result.0.now ∷ lines result.1.now }

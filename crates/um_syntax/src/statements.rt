@@ -1,4 +1,4 @@
-//! What a joined line says.
+//! The statement of a joined line.
 
 ghost use Rattle.std.specs.Prelude.{◌≡◌, option_map};
 ghost use Rattle.um_model.specs.Syntax.{statement_of, in_brackets};
@@ -6,7 +6,7 @@ ghost use Rattle.um_syntax.specs.Statements.{statement_view, ValueLiesIn};
 
 use um_text::{is_blank, trim, trim_end, trim_start};
 
-/// What a joined line says. A value lies at byte `at` of the line.
+/// The statement of a joined line. A value lies at byte `at` of the line.
 #[derive(Clone, Copy)]
 pub enum Statement<'a> {
     Blank,
@@ -19,14 +19,14 @@ pub enum Statement<'a> {
     Stray,
 }
 
-/// What stands between `[` at the front and `]` at the end.
+/// The text between `[` at the front and `]` at the end.
 fn in_brackets(text: &str) -> Option<&str>
     ensures { option_map (λ s. s.now) result ≡ in_brackets text.now }
 {
     text.strip_prefix('[')?.strip_suffix(']')
 }
 
-/// What the line says.
+/// The statement of the line.
 pub fn read_line(line: &str) -> Statement<'_>
     ensures said { statement_view result ≡ statement_of line.now }
     ensures place { ValueLiesIn line.now result }

@@ -10,14 +10,14 @@ use Rattle.um_text.specs.declared.classes.Class.{Class}
 use Rattle.um_text.specs.declared.classes.Class.TheVariants.{Space, Digit, SmallLetter, Letter}
 use Rattle.um_text.specs.Class.{is_of}
 
--- each class is of ASCII characters alone
+-- each class has only ASCII characters
 ascii : (class : Class) (b : ℕ) → is_of class b ≡ true → b < 128
 ascii Space b e = grind (arith, nat_tests)
 ascii Digit b e = grind (arith, nat_tests)
 ascii SmallLetter b e = grind (arith, nat_tests)
 ascii Letter b e = grind (arith, nat_tests)
 
--- so a text may be cut behind a run
+-- so a text may be cut after a run
 pub boundary_behind_run : (class : Class) (text : List ℕ) → IsUtf8 text → IsCharBoundary text (prefix_len (is_of class) text)
 boundary_behind_run class text utf8 =
     let run = prefix_len (is_of class) text in

@@ -1,4 +1,4 @@
--- The test that a class of characters is.
+-- The test of a class of characters.
 use Rattle.std.specs.Prelude.{ℕ, Bool, ◌&&◌, nat_le}
 use Rattle.um_model.specs.Ascii.{is_space, is_digit, is_letter}
 use Rattle.um_text.specs.declared.classes.Class.{Class}

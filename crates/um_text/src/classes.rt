@@ -7,7 +7,7 @@ ghost use Rattle.um_text.specs.Class.{is_of};
 /// A class of ASCII characters.
 #[derive(Clone, Copy, Debug, PartialEq, Eq)]
 pub enum Class {
-    /// Space and tab, which are all the whitespace that unit files have (systemd.syntax(7)).
+    /// Space and tab, the only whitespace in unit files (systemd.syntax(7)).
     Space,
     /// `0` to `9`.
     Digit,
@@ -39,7 +39,7 @@ fn run_length(text: &str, class: Class) -> usize
     codes.take_while(|code| class.contains(**code)).count()
 }
 
-/// The characters at the front of the text that are of the class, as far as they go, and what follows them.
+/// The characters at the front of the text that are of the class, as far as they go, and the text after them.
 pub fn split_run(text: &str, class: Class) -> (&str, &str)
     ensures run { result.0.now ≡ take_while (is_of class) text.now }
     ensures rest { result.1.now ≡ drop (length result.0.now) text.now }

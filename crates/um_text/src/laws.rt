@@ -1,4 +1,4 @@
-//! Trimming, told in other words.
+//! Laws of trimming and of texts of pieces, as functions that do nothing.
 
 ghost use Rattle.std.specs.Prelude.{◌≡◌, ◌↔◌, ℕ, List, Some};
 ghost use Rattle.um_model.specs.Pieces.{Front, begun, reading};
@@ -7,18 +7,18 @@ ghost use Rattle.um_model.specs.Text.{trim_start};
 ghost use Rattle.um_model.specs.Text.{IsCutInFront, IsCutAtEnd};
 ghost use Rattle.um_model.specs.FileForms.{trim_end};
 
-/// A text without the whitespace in front is what is left where whitespace alone is cut off there, as far as it goes.
+/// Trimming in front is a cut at the end of the leading whitespace, as far as it goes.
 pub fn trimming_in_front()
     ensures { (text rest : List ℕ) → IsCutInFront text rest ↔ (rest ≡ trim_start text) }
 {}
 
-/// A text without the whitespace at its end is what is left where whitespace alone is cut off there, as far as it goes.
+/// Trimming at the end is a cut before the trailing whitespace, as far as it goes.
 pub fn trimming_at_the_end()
     ensures { (text rest : List ℕ) → IsCutAtEnd text rest ↔ (rest ≡ trim_end text) }
 {}
 
-/// A text that stands for another one piece by piece, whatever the pieces, stands for one at most; and the functions of the
-/// definition find each beginning of a text by pieces, and each reading of it, and nothing else.
+/// A text that stands for another one piece by piece, whatever the pieces, stands for at most one. The functions of
+/// the definition find each beginning of a text by pieces, and each reading of it, and nothing else.
 pub fn a_text_of_pieces_has_one_reading()
     ensures begins { (front : ℕ → List ℕ → Front ℕ) (text found left : List ℕ) → (begun front text ≡ Some (found, left)) ↔ BeginsWith front text found left }
     ensures reads { (front : ℕ → List ℕ → Front ℕ) (text found : List ℕ) → (reading front text ≡ Some found) ↔ StandsForText front text found }

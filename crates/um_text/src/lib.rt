@@ -1,5 +1,5 @@
-//! What every reader of text shares: classes of ASCII characters, runs of a class, and texts without the spaces and tabs
-//! at their ends; and the law of texts that stand for others piece by piece.
+//! The basics of every reader of text: classes of ASCII characters, runs of a class, and texts without the spaces and
+//! tabs at their ends; and the law of texts that stand for others piece by piece.
 #![tactic(auto)]
 
 mod classes;

@@ -37,7 +37,7 @@ pub fn trim(text: &str) -> &str
     trim_end(trim_start(text))
 }
 
-/// Whether the text is nothing but spaces and tabs; so is an empty one.
+/// Whether the text has only spaces and tabs; an empty one has.
 pub fn is_blank(text: &str) -> bool
     ensures { result ≡ is_blank text.now }
 {

@@ -1,4 +1,4 @@
--- The test of what was read, which the code makes over the entries that it holds.
+-- The test of a tree that was read, which the code makes over the entries that it holds.
 use Rattle.std.proofs.Common.{◌≡◌, ◌&&◌, Bool, true, false, length, map as each, nat_le, string_cmp, sym, ap, ◌∙◌}
 use Rattle.std.specs.BTreeMap as tree
 use Rattle.std.specs.FinMap as map
@@ -9,7 +9,7 @@ use Rattle.um_tree.specs.View.{path_and_entry, stored_entry, tree_of}
 use Rattle.um_tree.proofs.TextMaps.{entries-map_of, len-map_of}
 use Rattle.um_tree.proofs.Trees.{Held}
 
--- each entry may stand at its path
+-- each entry is allowed at its path
 abbrev pub all_fit : Held → Bool
 all_fit m = list_all (λ e. is_fit_entry e.0 e.1) (each path_and_entry m.entries)
 

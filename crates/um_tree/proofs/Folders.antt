@@ -33,7 +33,7 @@ filter_same : {A : Type 0} (p q : A → Bool) → ((x : A) → p x ≡ q x) → 
 filter_same p q h [] = refl
 filter_same p q h (x ∷ xs) = rw (h x, filter_same p q h xs) refl
 
--- between no bounds lie all entries
+-- all entries lie between no bounds
 pub all_between : (es : List (String Global × Stored)) → entries_between string_cmp Unbounded Unbounded es ≡ es
 all_between [] = refl
 all_between (x ∷ xs) = ap (λ ys. x ∷ ys) (all_between xs)

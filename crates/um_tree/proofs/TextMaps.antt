@@ -1,4 +1,5 @@
--- A `BTreeMap` with `String` keys beside the finite map that it stands for, where `f` says what a value stands for.
+-- A `BTreeMap` with `String` keys beside the finite map of the definitions; `f` gives the value of the definitions
+-- for each.
 use Rattle.std.proofs.Common.{◌≡◌, ℕ, List, [], ◌∷◌, map as each, Option, Some, None, option_map, String, string_bytes, string_cmp, Bool, true, false, cond, ◌&&◌, T, is_eq, is_lt, Less, Equal, length, subst, refl, sym, ap, ◌∙◌}
 use Rattle.std.specs.BTreeMap as tree
 use Rattle.std.specs.BTreeMap.{BTreeMap, is_at}
@@ -46,7 +47,7 @@ module _ {A V X : Type 0} (f : V → X) where
   find_lookup q [] = refl
   find_lookup q (e ∷ es) = picked f (is_eq (slice_cmp nat_cmp q (string_bytes e.0))) e.1 _ _ (find_lookup q es)
 
-  -- what stands at a text
+  -- the value at a text
   pub get-map_of : (m : BTreeMap (String A) V) (q : List ℕ) → map.get (map_of m.entries) q ≡ option_map f (tree.get_by_text m q)
   get-map_of m q = map.get-from_entries nat_list_cmp_total (each text_and_value m.entries) q ∙ find_lookup q m.entries
 
@@ -64,7 +65,7 @@ module _ {A V X : Type 0} (f : V → X) where
       map.same_map nat_list_cmp_total (slice_cmp-IsAntisymmetric nat_cmp-IsAntisymmetric) _ _
       (λ q. updated bs m n (Some v) u q ∙ sym (map.get-insert nat_list_cmp_total (map_of m.entries) bs (f v) q))
 
-  -- after a value is taken out
+  -- after a value is removed
   pub map_of_removed : (bs : List ℕ) (m n : BTreeMap (String A) V) → tree.UpdatesBy string_cmp (λ k. slice_cmp nat_cmp bs (string_bytes k)) m n None
       → map_of n.entries ≡ map.remove (map_of m.entries) bs
   map_of_removed bs m n u =
@@ -107,7 +108,7 @@ module _ {A V X : Type 0} (f : V → X) where
   filter-each p [] = refl
   filter-each p (e ∷ es) = each_kept (p (string_bytes e.0)) e _ _ (filter-each p es)
 
-  -- after the entries are kept whose texts pass a test
+  -- after only the entries are kept whose texts pass a test
   pub map_of_filter : (p : List ℕ → Bool) (es : List (String A × V)) → map_of (filter (λ e. p (string_bytes e.0)) es) ≡ map.retain_keys (map_of es) p
   map_of_filter p es =
       let alike : (q x : List ℕ) → slice_cmp nat_cmp q x ≡ Equal → p x ≡ p q = λ q x e. ap p (sym (slice_cmp-IsAntisymmetric nat_cmp-IsAntisymmetric q x e)) in

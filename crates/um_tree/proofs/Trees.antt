@@ -1,4 +1,4 @@
--- What the map's calls leave, as trees.
+-- The results of the map's calls, as trees.
 use Rattle.std.proofs.Common.{◌≡◌, ℕ, Bool, not, filter, List, Option, Some, None, is_some, option_map, String, Global, string_bytes, string_cmp, Ok, true, refl, ap, ◌∙◌}
 use Rattle.std.specs.BTreeMap as tree
 use Rattle.std.specs.BTreeMap.{BTreeMap}
@@ -28,7 +28,7 @@ pub tree_of_removed : (m n : Held) (t : model.Tree) (path : List ℕ) → tree_o
     → tree_of n.entries ≡ map.remove t path
 tree_of_removed m n t path is updates = map_of_removed stored_entry path m n updates ∙ ap (λ x. map.remove x path) is
 
--- the link that stands there already
+-- the link that is there already
 pub put_link-same : (t : model.Tree) (path target : List ℕ) → link_cause t path target ≡ None → is_some (map.get t path) ≡ true → put_link t path target ≡ Ok t
 unfolding put_link
 put_link-same t path target none some =

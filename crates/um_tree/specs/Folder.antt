@@ -5,7 +5,7 @@ use Rattle.std.specs.List.{starts_with}
 use Rattle.std.specs.Prelude.{nat_eq}
 use Rattle.um_model.specs.Tree.{Tree, Entry}
 
--- a folder's path with the slash behind it
+-- a folder's path with the slash after it
 abbrev pub with_slash : List ℕ → List ℕ
 with_slash folder = folder ++ codes "/"
 

@@ -1,4 +1,4 @@
--- What the code holds and hands out, as the paths, entries and trees of the definitions.
+-- The paths, entries and trees that the code holds and returns, as those of the definitions.
 use Rattle.std.specs.Prelude.{ℕ, List, String, string_bytes, map as each}
 use Rattle.std.specs.declared.alloc.Global.{Global}
 use Rattle.std.specs.FinMap as map
@@ -16,7 +16,7 @@ use Rattle.um_tree.specs.Place.{place_of}
 use Rattle.um_tree.specs.declared.entry.Stored.{Stored}
 use Rattle.um_tree.specs.declared.entry.Stored.TheVariants as stored
 
--- an entry that was handed out
+-- an entry that was returned
 abbrev pub entry_of : Entry → model.Entry
 entry_of (seen.File text) = model.File text.now
 entry_of (seen.Link target) = model.Link target.now
@@ -29,7 +29,7 @@ stored_entry (stored.Link target) = model.Link (rc_str_bytes target)
 abbrev pub path_and_entry : String Global × Stored → List ℕ × model.Entry
 path_and_entry e = (string_bytes e.0, stored_entry e.1)
 
--- a path with its entry, as they are handed out
+-- a path with its entry, as they are returned
 abbrev pub path_with_entry : Bor (List ℕ) × Entry → List ℕ × model.Entry
 path_with_entry p = (p.0.now, entry_of p.1)
 
@@ -50,7 +50,7 @@ layer_and_text p = (p.0, p.1.now)
 abbrev pub text_and_place : Bor (List ℕ) × Place → List ℕ × model.Place
 text_and_place p = (p.0.now, place_of p.1)
 
--- what the refusal for a cause tells
+-- the refusal for a cause
 abbrev pub refused_by : Cause → Refused
 refused_by (cause.BadPath path) = bad_path path.now
 refused_by (cause.Exists path) = exists_at path.now

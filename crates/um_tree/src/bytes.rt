@@ -60,7 +60,7 @@ impl Canon for Stored {
     ghost canonical = { canonical_entry };
 }
 
-/// Whether the entry may stand at the path.
+/// Whether the entry is allowed at the path.
 fn is_fit_entry(path: &str, entry: Entry<'_>) -> bool
     ensures { result ≡ model.is_fit_entry path.now (entry_of entry.entry) }
 {
@@ -70,7 +70,7 @@ fn is_fit_entry(path: &str, entry: Entry<'_>) -> bool
     }
 }
 
-/// Whether the entries are those of a tree: each may stand at its path, and there are no more than the limit.
+/// Whether the entries are those of a tree: each is allowed at its path, and there are no more than the limit.
 fn are_tree(entries: &BTreeMap<String, Stored>) -> bool
     ensures { result ≡ is_tree (tree_of entries.now.entries) }
 {

@@ -1,3 +1,4 @@
+//! Why a change of a tree is refused.
 ghost use Rattle.std.specs.Prelude.{◌≡◌};
 ghost use Rattle.um_model.specs.declared.refusals.Limit as limits;
 ghost use Rattle.um_tree.specs.View.{refused_by};
@@ -8,19 +9,19 @@ ghost use Rattle.um_tree.specs.declared.cause.Cause.TheVariants as causes;
 use std::alloc::Global;
 use um_wire::{Limit, Refusal, bad_path, exists_at};
 
-/// Why a change of a tree is refused: it borrows what the refusal tells, and so takes no memory.
+/// Why a change of a tree is refused. It borrows the details of the refusal, and so takes no memory.
 #[derive(Clone, Copy, Debug, PartialEq, Eq)]
 pub enum Cause<'a> {
     /// The path isn't served, the target of the link is unfit, or there is nothing to remove (E12).
     BadPath { path: &'a str },
-    /// Something else stands at the path (E11).
+    /// Something else is at the path (E11).
     Exists { path: &'a str },
-    /// The limit is passed (E13).
+    /// The limit is exceeded (E13).
     TooLarge { limit: Limit },
 }
 
 impl Cause<'_> {
-    /// The refusal for it; want of memory (E15) where the path can't be copied into it. A passed limit needs no memory.
+    /// The refusal for it; `NoMemory` (E15) if the path can't be copied into it. An exceeded limit needs no memory.
     pub fn refusal(self, alloc: Global) -> Refusal
         ensures told { ¬ (result ≡ refusals.NoMemory) → refused_of result ≡ refused_by self.entry }
         ensures limit { (limit : limits.Limit) → self.entry ≡ causes.TooLarge limit → result ≡ refusals.TooLarge limit }

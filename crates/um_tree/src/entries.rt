@@ -1,3 +1,4 @@
+//! The entries of a tree, in order.
 ghost use Rattle.std.specs.Prelude.{◌≡◌, map as each};
 ghost use Rattle.std.specs.Iterator.{YieldsFirstBy, item_count};
 ghost use Rattle.um_tree.specs.View.{path_and_entry, path_with_entry};

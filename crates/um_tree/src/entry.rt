@@ -1,7 +1,9 @@
+//! An entry of a tree: a file or a link.
+
 use std::alloc::AllocError;
 use std::rc::RcStr;
 
-/// What stands at a path of the tree.
+/// The entry at a path of the tree.
 #[derive(Clone, Copy, Debug, PartialEq, Eq)]
 pub enum Entry<'a> {
     /// A file, with its text.
@@ -26,7 +28,7 @@ impl<'a> Entry<'a> {
     }
 }
 
-/// What stands at a path, as the tree holds it: copies of a tree share its texts.
+/// The entry at a path, as the tree holds it: copies of a tree share its texts.
 #[derive(Drop)]
 pub(crate) enum Stored {
     File(RcStr),
@@ -37,7 +39,7 @@ impl Stored {
     ghost use Rattle.std.specs.Prelude.{◌≡◌};
     ghost use Rattle.um_tree.specs.View.{entry_of, stored_entry};
 
-    /// The entry, as it is handed out.
+    /// The entry, as it is returned.
     pub(crate) fn as_entry(&self) -> Entry<'_>
         ensures { entry_of result ≡ stored_entry self.now }
     {

@@ -1,7 +1,8 @@
+//! Laws of served paths, as functions that do nothing.
 ghost use Rattle.std.specs.Prelude.{◌≡◌, ◌↔◌, ℕ, List, Some};
 ghost use Rattle.um_model.specs.Tree.{IsPathOf, PathParts, path_parts};
 
-/// The parts that are told of a path are those of which the path is the text, and they are told of each such path.
+/// A path has these parts by the function exactly if it is the text of these parts.
 pub fn a_served_path_has_its_parts()
     ensures { (path : List ℕ) (p : PathParts) → (path_parts path ≡ Some p) ↔ IsPathOf path p }
 {}

@@ -1,5 +1,5 @@
-//! The manager's own tree of unit files and links: a finite map from served paths, whose calls answer exactly what its
-//! definition says, and which stays as it was where a call is refused.
+//! The manager's own tree of unit files and links: a finite map from served paths. Its calls return exactly the
+//! results of its definition, and a refused call leaves it unchanged.
 #![tactic(auto)]
 
 mod bytes;

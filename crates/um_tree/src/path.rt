@@ -1,3 +1,4 @@
+//! The served paths of a tree, and their parts.
 ghost use Rattle.std.specs.Prelude.{◌≡◌, true, option_map};
 ghost use Rattle.std.specs.List.{list_all};
 ghost use Rattle.um_model.specs.Names as names;
@@ -10,7 +11,7 @@ use std::marker::Model;
 use um_model::Layer;
 use um_name::{is_template, is_unit_name};
 
-/// What a path names, beside its unit.
+/// The kind of entry that a path names, for its unit.
 #[derive(Clone, Copy, Debug, PartialEq, Eq)]
 pub enum Place<'a> {
     /// The unit's own file or link.
@@ -62,10 +63,10 @@ fn are_drop_in_bytes(text: &[u8]) -> bool
     text.iter().all(|b| is_drop_in_byte(*b))
 }
 
-/// The target of a link has 1 to so many bytes.
+/// The greatest length of a link's target, in bytes; the least is 1.
 const TARGET_LIMIT: usize = 512;
 
-/// A drop-in's name has 1 to so many bytes before its `.conf`.
+/// The greatest length of a drop-in's name before its `.conf`, in bytes; the least is 1.
 const DROP_IN_LIMIT: usize = 200;
 
 fn is_drop_in_name(text: &str) -> bool
@@ -157,7 +158,7 @@ impl<'a> ServedPath<'a> {
         self.unit
     }
 
-    /// What the path names, beside its unit.
+    /// The kind of entry that the path names, for its unit.
     pub fn place(&self) -> Place<'a>
         ensures place { place_of result ≡ self.now.place }
         ensures fit { model.is_fit_place self.now.unit self.now.place ≡ true }
@@ -184,7 +185,7 @@ fn may_lead_to(path: &ServedPath<'_>, target: &str) -> bool
     }
 }
 
-/// Whether a link to the target may stand at a path of these parts.
+/// Whether a link to the target is allowed at a path of these parts.
 pub(crate) fn is_fit_target(path: Option<ServedPath<'_>>, target: &str) -> bool
     ensures { result ≡ model.is_fit_target path.entry target.now }
 {

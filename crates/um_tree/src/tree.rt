@@ -1,3 +1,4 @@
+//! A tree of unit files and links.
 ghost use Rattle.std.specs.Prelude.{◌≡◌, ◌≤◌, ◌^◌, ◌++◌, string_bytes, Some, Ok, Err, IfErr, IfOk, IsOk, IsTrue, OnErr, OnOk, option_map};
 ghost use Rattle.std.specs.FinMap as map;
 ghost use Rattle.std.specs.Map.Iter.{ShowsInOrder};
@@ -24,13 +25,13 @@ use std::rc::RcStr;
 use um_model::Layer;
 use um_wire::{Limit, Refusal};
 
-/// The text of a file has at most so many bytes.
+/// The most bytes of a file's text.
 pub(crate) const TEXT_LIMIT: usize = 65_536;
 
-/// A tree has at most so many entries.
+/// The most entries of a tree.
 pub(crate) const ENTRY_LIMIT: usize = 4_096;
 
-/// An entry weighs so many bytes beside its path and its text or target.
+/// The weight of an entry in addition to its path and its text or target.
 const ENTRY_WEIGHT: u64 = 32;
 
 /// One text after the other.
@@ -70,7 +71,7 @@ impl Tree {
         }
     }
 
-    /// What stands at the path. It takes no memory.
+    /// The entry at the path. It takes no memory.
     pub fn get(&self, path: &str) -> Option<Entry<'_>>
         ensures { option_map entry_of result ≡ map.get self.now path.now }
     {
@@ -91,15 +92,15 @@ impl Tree {
         Entries::of(self.entries.range(..))
     }
 
-    /// The entries in a folder with their paths, in ascending order of the paths by bytes: those whose path begins with the folder's and a
-    /// slash. The others cost nothing.
+    /// The entries in a folder with their paths, in ascending order of the paths by bytes: those whose path begins
+    /// with the folder's and a slash. No other entry is looked at.
     pub fn entries_in(&self, folder: &str) -> Result<Entries<'_>, AllocError>
         ensures entries { IfOk result (λ found. found ≡ entries_in folder.now self.now) }
 
         // The iterator gives them in this order.
         ensures runs { ShowsInOrder path_with_entry }
     {
-        // the sign after the slash is the digit zero: what lies between has the slash there
+        // the sign after the slash is the digit zero: everything between the two has the slash there
         let first = joined(self.alloc, folder, "/")?;
         let end = joined(self.alloc, folder, "0")?;
         Ok(Entries::of(self.entries.range(&first..&end)))
@@ -113,8 +114,8 @@ impl Tree {
         self.entries.len()
     }
 
-    /// What the tree weighs: an upper bound of the bytes that it takes in a snapshot, of each entry 32 beside those of its path and
-    /// of its text or target. It takes no memory.
+    /// The weight of the tree: an upper bound of the bytes that it takes in a snapshot. For each entry these are 32
+    /// and the bytes of its path and of its text or target. It takes no memory.
     pub fn weight(&self) -> u64
         ensures weight { result ≡ tree_weight self.now }
         ensures light { tree_weight self.now ≤ 2 ^ 29 }
@@ -126,7 +127,7 @@ impl Tree {
         weight
     }
 
-    /// The same tree again. It takes memory for the paths alone: the two share their texts.
+    /// A copy of the tree. It takes memory only for the paths: the two share their texts.
     pub fn copy(&self) -> Result<Tree, AllocError>
         ensures { IfOk result (λ t. t ≡ self.now) }
     {
@@ -185,9 +186,10 @@ impl Tree {
         Ok(())
     }
 
-    /// Puts a file with the text at the path, in place of a file that stands there. Refused, with the tree as it was, are a
-    /// path that isn't served (E12), one at which a link stands (E11), a text of more than 65,536 bytes (E13 `text`), and a
-    /// new path where there are 4,096 entries (E13 `entries`), in this order. A passed limit is told without memory.
+    /// Puts a file with the text at the path, in place of a file that is there. Refused, with the tree unchanged,
+    /// are, in this order: a path that isn't served (E12), one at which there is a link (E11), a text of more than
+    /// 65,536 bytes (E13 `text`), and a new path if there are 4,096 entries (E13 `entries`). An exceeded limit is
+    /// reported without memory.
     #[tactic(auto, unfolding(um_model::specs::Tree::put_file))]
     pub fn put(&mut self, path: &str, text: &str) -> Result<(), Refusal>
         ensures ok { OnOk result (model.put_file self.old path.now text.now ≡ Ok self.new) }
@@ -231,13 +233,13 @@ impl Tree {
         None
     }
 
-    /// Puts a link to the target at the path; where the same link stands there nothing changes, and no memory is taken.
-    /// Refused, with the tree as it was, are a path that isn't served or that of a drop-in, and an unfit target (E12); a path
-    /// at which something else stands (E11); and a new path where there are 4,096 entries (E13 `entries`), in this order. A
-    /// passed limit is told without memory.
+    /// Puts a link to the target at the path. If the same link is there, nothing changes, and no memory is taken.
+    /// Refused, with the tree unchanged, are, in this order: a path that isn't served or that of a drop-in, and an
+    /// unfit target (E12); a path at which there is something else (E11); and a new path if there are 4,096 entries
+    /// (E13 `entries`). An exceeded limit is reported without memory.
     ///
-    /// A target has 1 to 512 bytes. At `LAYER/NAME` it is `/dev/null`, or its part after the last `/` is another unit name
-    /// than NAME; at a path in `.wants` or `.requires` it may be any text.
+    /// A target has 1 to 512 bytes. At `LAYER/NAME` it is `/dev/null`, or its part after the last `/` is another unit
+    /// name than NAME; at a path in `.wants` or `.requires` it may be any text.
     #[tactic(auto, unfolding(um_model::specs::Tree::put_link))]
     pub fn link(&mut self, path: &str, target: &str) -> Result<(), Refusal>
         ensures ok { OnOk result (model.put_link self.old path.now target.now ≡ Ok self.new) }
@@ -257,7 +259,7 @@ impl Tree {
         Ok(())
     }
 
-    /// Whether an entry stands under `run/`. It takes no memory.
+    /// Whether there is an entry under `run/`. It takes no memory.
     pub fn has_run(&self) -> bool
         ensures { result ≡ has_run self.now }
     {
@@ -269,7 +271,7 @@ impl Tree {
         false
     }
 
-    /// Takes out each entry under `run/`: those don't outlive a boot. It takes no memory.
+    /// Removes each entry under `run/`: those don't outlive a boot. It takes no memory.
     pub fn clear_run(&mut self)
         ensures { self.new ≡ model.without_run self.old }
     {
@@ -293,8 +295,8 @@ impl Tree {
         self.entries.remove(path);
     }
 
-    /// Takes out what stands at the path, without memory. Where nothing stands there it is refused (E12), and the tree is as it
-    /// was.
+    /// Removes the entry at the path, without memory. If there is none, it is refused (E12), and the tree is
+    /// unchanged.
     #[tactic(auto, unfolding(um_model::specs::Tree::remove_at))]
     pub fn remove(&mut self, path: &str) -> Result<(), Refusal>
         ensures ok { OnOk result (model.remove_at self.old path.now ≡ Ok self.new) }
@@ -310,7 +312,7 @@ impl Tree {
     }
 }
 
-/// What an entry weighs at its path.
+/// The weight of an entry at its path.
 fn entry_weight(path: &str, entry: Entry<'_>) -> u64
     requires { entry_weight path.now (entry_of entry) ≤ 2 ^ 17 }
     ensures { result ≡ entry_weight path.now (entry_of entry.entry) }

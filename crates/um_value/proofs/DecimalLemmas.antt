@@ -3,7 +3,7 @@ use Rattle.std.proofs.Common.{◌≡◌, ◌<◌, ◌≤◌, ℕ, ◌+◌, ◌-�
 use Rattle.std.proofs.lemmas.List.{at_drop_more}
 use Rattle.std.specs.Prelude.{fold}
 
--- the number that a number's digits and these digits behind them spell
+-- the number that a number's digits followed by these digits spell
 abbrev pub decimal_after : ℕ → List ℕ → ℕ
 decimal_after n bs = fold (λ m b. 10 * m + (b - 48)) n bs
 
@@ -11,7 +11,7 @@ decimal_after-least : (n : ℕ) (bs : List ℕ) → n ≤ decimal_after n bs
 decimal_after-least n [] = omega arith
 decimal_after-least n (b ∷ bs) = omega (arith, decimal_after-least (10 * n + (b - 48)) bs)
 
--- one digit more
+-- one more digit
 pub decimal_step : (n i : ℕ) (bs : List ℕ) → i < length bs → decimal_after n (drop i bs) ≡ decimal_after (10 * n + (get_or bs i 0 - 48)) (drop (i + 1) bs)
 decimal_step n i bs below = at_drop_more (decimal_after n) bs i 0 below
 

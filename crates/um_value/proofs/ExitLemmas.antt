@@ -12,11 +12,11 @@ use Rattle.um_model.specs.ValueSpellings.{is_exit}
 use Rattle.um_value.specs.ExitSet.{holds}
 use Rattle.um_value.specs.declared.exits.ExitSet.{ExitSet}
 
--- one word more
+-- one more word
 pub word_more : (words : List (List ℕ)) (n : ℕ) (word : List ℕ) → (n < length words) × (word ≡ get_or words n word) → take (n + 1) words ≡ take n words ++ word ∷ []
 word_more words n word here = take_more words n word here.0 ∙ ap (λ x. take n words ++ x ∷ []) (sym here.1)
 
--- that tells an end
+-- that names an end
 pub readable_more : (words : List (List ℕ)) (word : List ℕ) (end : End) → exit_of word ≡ Some end → list_all is_exit words ≡ true → list_all is_exit (words ++ word ∷ []) ≡ true
 readable_more words word end told all = list_all-append is_exit words (word ∷ []) ∙ ap (λ b. b && (is_exit word && true)) all ∙ ap (λ o. is_some o && true) told
 
@@ -28,7 +28,7 @@ exact_more words word end other old new told before now =
     ∙ ap (λ b. list_any (λ w. is_end other (exit_of w)) words || b) (sym (or-false (is_end other (Some end))) ∙ ap (λ o. is_end other o || false) (sym told))
     ∙ sym (list_any-append (λ w. is_end other (exit_of w)) words (word ∷ []))
 
--- where a word tells none
+-- if a word names none
 pub unreadable : (words : List (List ℕ)) (n : ℕ) (word : List ℕ) → (n < length words) × (word ≡ get_or words n word) → exit_of word ≡ None → list_all is_exit words ≡ true → ⊥
 unreadable [] n word here none all = omega (arith, here.0)
 unreadable (w ∷ ws) zero word here none all =

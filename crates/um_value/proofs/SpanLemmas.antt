@@ -1,4 +1,4 @@
--- Whether a text is empty, by its length, and where it says no span.
+-- Whether a text is empty, by its length, and when it spells no span.
 use Rattle.std.proofs.Common.{◌≡◌, ◌≢◌, ℕ, true, false, eqb, List, [], ◌∷◌, Option, Some, None, IfNone, codes, length, refl, arith}
 use Rattle.std.proofs.lemmas.Bool.{eqb-true, true≢false}
 use Rattle.um_model.specs.Text.{is_empty}
@@ -13,7 +13,7 @@ pub none_from : (text : List ℕ) → eqb (length text) 0 ≡ true → text ≡ 
 none_from [] e = refl
 none_from (b ∷ bs) e = absurd (omega (arith, eqb-true (length (b ∷ bs)) 0 e))
 
--- where a text isn't `infinity` and its parts add up to nothing, it says no span
+-- a text other than `infinity` whose parts add up to nothing spells no span
 pub none_said : (text : List ℕ) (found : Option TimeSpan) → text ≢ codes "infinity" → IfNone found ((n : ℕ) → ¬ (IsSpan text (Some n)))
     → IfNone found ((span : Option ℕ) → ¬ (IsSpan text span))
 none_said text (Some span) other none = tt

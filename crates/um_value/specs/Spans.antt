@@ -3,7 +3,7 @@ use Rattle.std.specs.Prelude.{ℕ, Option, Some, None}
 use Rattle.um_model.specs.declared.settings.TimeSpan.{TimeSpan}
 use Rattle.um_model.specs.declared.settings.TimeSpan.TheVariants.{Micros, Infinite}
 
--- microseconds, or none where the span never ends
+-- microseconds, or none if the span never ends
 abbrev pub micros_in : TimeSpan → Option ℕ
 micros_in Infinite = None
 micros_in (Micros n) = Some n

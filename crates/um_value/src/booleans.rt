@@ -23,8 +23,8 @@ fn is_one_of(words: &[&str], text: &str) -> bool
 }
 
 #[tactic(auto, unfolding(um_model::specs::Values::boolean_of))]
-/// The truth value that the text says: `1 yes true on y t` or `0 no false off n f`, in any ASCII case (systemd.syntax(7)).
-/// None for any other text.
+/// The truth value of the text: `1 yes true on y t` or `0 no false off n f`, in any ASCII case (systemd.syntax(7)).
+/// `None` for any other text.
 pub fn boolean(text: &str) -> Option<bool>
     ensures { result ≡ boolean_of text.now }
 {

@@ -10,7 +10,7 @@ use crate::tables::number_among;
 use um_model::End;
 use um_text::Class;
 
-/// What is in either of two sets of as many places.
+/// The union of two sets with the same number of places.
 fn add_all(set: &mut [bool], other: &[bool])
     requires { length set.old ≡ length other.now }
     ensures same_length { length set.new ≡ length set.old }
@@ -31,7 +31,7 @@ pub struct ExitSet {
 }
 
 impl ExitSet {
-    /// The set that no end is in.
+    /// The empty set.
     pub fn empty() -> ExitSet
         ensures { (end : ends.End) → holds result end ≡ false }
     {
@@ -41,7 +41,7 @@ impl ExitSet {
         }
     }
 
-    /// Whether the end is in the set. An end that nobody can tell is in none.
+    /// Whether the end is in the set. An unknown end is in none.
     pub fn holds(&self, end: End) -> bool
         ensures { result ≡ holds self.now end }
     {
@@ -104,7 +104,7 @@ fn signal_number(word: &[u8]) -> Option<u8>
     number_among(&SIGNALS, word)
 }
 
-/// The end that the word tells: a code from 0 to 255, or a signal by its name.
+/// The end that the word names: a code from 0 to 255, or a signal by its name.
 fn exit_of(word: &[u8]) -> Option<End>
     ensures value { result ≡ exit_of word.now }
     ensures fits { IfSome result (λ end. fits end ≡ true) }
@@ -116,9 +116,9 @@ fn exit_of(word: &[u8]) -> Option<End>
     }
 }
 
-/// The set of the ends that the text's words tell: codes from 0 to 255, and the names from `SIGHUP` to `SIGTERM`. Spaces and
-/// tabs alone part words; a text without words gives the empty set (systemd.service(5), `SuccessExitStatus=`). None where a
-/// word is anything else.
+/// The set of the ends that the text's words name: codes from 0 to 255, and the names from `SIGHUP` to `SIGTERM`.
+/// Only spaces and tabs separate words; a text without words gives the empty set (systemd.service(5),
+/// `SuccessExitStatus=`). `None` if a word is anything else.
 pub fn exit_set(text: &str) -> Option<ExitSet>
     ensures { option_map holds result ≡ exits_of text.now }
 {

@@ -1,4 +1,4 @@
-//! What the definitions of values say together, as functions that do nothing.
+//! Consequences of the definitions of values together, as functions that do nothing.
 
 ghost use Rattle.std.specs.Prelude.{◌≡◌, ℕ, List, Bool, Option};
 ghost use Rattle.um_model.specs.Results.{Finds};

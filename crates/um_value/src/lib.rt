@@ -1,5 +1,5 @@
-//! The values of settings: each text is read exactly where it has a reading, as a truth value, a number, a time span, a set
-//! of exits or a restart policy, and takes no memory.
+//! The values of settings. Each text is read, as a truth value, a number, a time span, a set of exits or a restart
+//! policy, exactly if it has such a reading; that takes no memory.
 #![tactic(auto)]
 
 mod booleans;

@@ -8,7 +8,7 @@ ghost use Rattle.um_model.specs.Values.{decimal, is_decimal, number_of};
 /// The greatest number that `decimal` reads.
 const LIMIT: u64 = 1 << 62;
 
-/// The number that the digits spell; None where it is above 2^62.
+/// The number that the digits spell; `None` if it is above 2^62.
 #[tactic(auto, using(crate::proofs::DecimalLemmas::decimal_step, crate::proofs::DecimalLemmas::decimal_ten))]
 pub fn decimal(digits: &[u8]) -> Option<u64>
     ensures { MatchOption result (2 ^ 62 < decimal digits.now) (λ n. (n ≡ decimal digits.now) × (n ≤ 2 ^ 62)) }
@@ -29,7 +29,7 @@ fn is_digits(text: &[u8]) -> bool
     text.iter().all(|b| b.is_ascii_digit())
 }
 
-/// Whether the text is decimal digits alone, and one at least.
+/// Whether the text is one or more decimal digits.
 pub fn is_decimal(text: &[u8]) -> bool
     ensures { result ≡ is_decimal text.now }
 {
@@ -37,8 +37,8 @@ pub fn is_decimal(text: &[u8]) -> bool
 }
 
 #[tactic(auto, unfolding(um_model::specs::Values::number_of))]
-/// The number that the text's decimal digits spell, at most 4,294,967,295. None for a greater one, for any other byte than a
-/// digit, and for no digit.
+/// The number that the text's decimal digits spell, at most 4,294,967,295. `None` for a greater one, for any other
+/// byte than a digit, and for no digit.
 pub fn number(text: &str) -> Option<u32>
     ensures { result ≡ number_of text.now }
 {

@@ -16,7 +16,7 @@ const POLICIES: [RestartPolicy; 7] = [
 ];
 
 /// The policy of that name: `no always on-success on-failure on-abnormal on-abort on-watchdog` (systemd.service(5),
-/// `Restart=`). None for any other text.
+/// `Restart=`). `None` for any other text.
 pub fn restart(text: &str) -> Option<RestartPolicy>
     ensures { result ≡ policy_named text.now }
 {

@@ -38,7 +38,7 @@ const TIME_UNITS: [(&str, u64); 23] = [
     ("weeks", 604_800_000_000),
 ];
 
-/// Microseconds in the unit; in a second where none is named.
+/// Microseconds in the unit; in a second if none is named.
 fn unit_size(unit: &str) -> Option<u64>
     ensures value { result ≡ unit_size unit.now }
     ensures positive { IfSome result (λ size. 0 < size) }
@@ -46,7 +46,7 @@ fn unit_size(unit: &str) -> Option<u64>
     number_among(&TIME_UNITS, unit.as_bytes())
 }
 
-/// A number and its unit as a text spells them, and what follows them.
+/// A number and its unit as a text spells them, and the text after them.
 #[derive(Clone, Copy)]
 struct Part<'a> {
     digits: &'a str,
@@ -54,7 +54,7 @@ struct Part<'a> {
     rest: &'a str,
 }
 
-/// The part at the front: a run of digits, and past whitespace a run of letters; both may be empty.
+/// The part at the front: a run of digits, and after whitespace a run of letters; both may be empty.
 fn split_part(text: &str) -> Part<'_>
     ensures digits { result.digits.now ≡ digits_of text.now }
     ensures unit { result.unit.now ≡ unit_of text.now }
@@ -66,8 +66,8 @@ fn split_part(text: &str) -> Part<'_>
     Part { digits, unit, rest }
 }
 
-/// The time that a number and its unit say. None where there is no number or no such unit, and where it is
-/// longer than a span can be.
+/// The time of a number and its unit. `None` without a number, for an unknown unit, and if it is longer than a span
+/// can be.
 fn time(digits: &str, unit: &str) -> Option<Span>
     ensures found { IfSome result (λ n. IsTime digits.now unit.now n × (n ≤ 2 ^ 62)) }
     ensures none { IfNone result ((n : ℕ) → n ≤ 2 ^ 62 → ¬ (IsTime digits.now unit.now n)) }
@@ -79,8 +79,7 @@ fn time(digits: &str, unit: &str) -> Option<Span>
     Span::new(decimal(digits.as_bytes())?.checked_mul(size)?)
 }
 
-/// The sum of the parts. None where the text has no part, or isn't parts alone, or where they are longer
-/// than a span can be.
+/// The sum of the parts. `None` if the text has no part, or has other text, or if they are longer than a span can be.
 fn sum_of_parts(text: &str) -> Option<Span>
     ensures found { IfSome result (λ n. IsSpan text.now (Some n)) }
     ensures none { IfNone result ((n : ℕ) → ¬ (IsSpan text.now (Some n))) }
@@ -98,10 +97,10 @@ fn sum_of_parts(text: &str) -> Option<Span>
     Some(total)
 }
 
-/// The time span that the text says: parts of decimal digits and a unit, added up, at most 2^62 microseconds, or `infinity`
-/// alone. The units are `us usec`, `ms msec`, `s sec second seconds`, `m min minute minutes`, `h hr hour hours`, `d day days`
-/// and `w week weeks`; a part without one is seconds. Whitespace may stand around each number and unit (systemd.time(7),
-/// "Parsing Time Spans"). None for any other text.
+/// The time span of the text: parts of decimal digits and a unit, added up, at most 2^62 microseconds, or `infinity`
+/// alone. The units are `us usec`, `ms msec`, `s sec second seconds`, `m min minute minutes`, `h hr hour hours`, `d
+/// day days` and `w week weeks`; a part without one is in seconds. There may be whitespace around each number and
+/// unit (systemd.time(7), "Parsing Time Spans"). `None` for any other text.
 pub fn span(text: &str) -> Option<TimeSpan>
     ensures { option_map micros_in result ≡ span_of text.now }
 {

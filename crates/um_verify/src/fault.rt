@@ -1,4 +1,5 @@
 //! Why unit files can't be read into a tree.
+
 use std::alloc::{AllocError, AllocFailed};
 use std::io;
 use um_wire::Refusal;

@@ -1,4 +1,5 @@
 //! A finding: a report on a line of a file, or on a whole file.
+
 ghost use Rattle.std.specs.Prelude.{◌≡◌, IfOk, None, string_bytes};
 
 use std::alloc::{AllocError, Global};

@@ -1,4 +1,4 @@
--- Items read and put one behind the other, as loops do it.
+-- Items read and put one after another, as loops do it.
 use Rattle.std.proofs.Common.{◌≡◌, ℕ, suc, ◌-◌, ◌+◌, ◌≤◌, ◌<◌, List, [], ◌∷◌, ◌++◌, length, drop, Option, Some, None, refl, sym, ap, ◌∙◌, append_assoc, arith}
 use Rattle.std.proofs.lemmas.List.{append-nil, length-drop}
 use Rattle.um_model.specs.Bytes.{Decoder, nothing_left, ◌>>=◌, many_at, list_at, number_at}
@@ -9,7 +9,7 @@ some x = Some x
 abbrev none : {A : Type 0} → Option A
 none = None
 
--- what was read before, and what is still read
+-- the items read before, and the items still to be read
 abbrev pub with_front : {A : Type 0} → List A → Option (List A × List ℕ) → Option (List A × List ℕ)
 with_front front read = read >>= λ x. Some (front ++ x.0, x.1)
 
@@ -45,6 +45,6 @@ some_left : {V : Type 0} (v : V) (rest : List ℕ) → 0 < length rest → none 
 some_left v [] h = absurd (omega (arith, h))
 some_left v (b ∷ rest) h = refl
 
--- bytes are left behind what was read
+-- bytes are left after the read items
 pub left_over : {V : Type 0} (r : Option (V × List ℕ)) (v : V) (bytes : List ℕ) (n : ℕ) → r ≡ Some (v, drop n bytes) → n < length bytes → none ≡ nothing_left r
 left_over r v bytes n e h = some_left v (drop n bytes) (omega (arith, length-drop n bytes, h)) ∙ ap nothing_left (sym e)

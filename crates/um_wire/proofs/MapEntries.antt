@@ -1,4 +1,4 @@
--- The entries of a map in their order, beside those that they stand for.
+-- The entries of a map in their order, beside the entries of the definitions.
 use Rattle.std.proofs.Common.{◌≡◌, ℕ, suc, List, [], ◌∷◌, ◌++◌, length, Bool, true, false, cond, T, option_map, ◌<◌, ◌^◌, ◌&&◌, Ordering, Less, Greater, Option, Some, None, refl, sym, ap, subst, ◌∙◌, append_assoc}
 use Rattle.std.specs.BTreeMap.{insert_entry}
 use Rattle.std.specs.Cmp.{IsTotalOrder}
@@ -19,12 +19,13 @@ use Rattle.um_wire.specs.Entries.{seen}
 abbrev some : {A : Type 0} → A → Option A
 some x = Some x
 
--- what is in the map, and what is left, are all; and only what is left may be no key
+-- the entries in the map and the remaining ones are all; only the remaining ones may have keys that are none
 pub record IsMade {Y : Type 0} (is_key : List ℕ → Bool) (made left all : List (List ℕ × Y)) : Type 0 where
   pub parts : made ++ left ≡ all
   pub keys : are_keys is_key left ≡ are_keys is_key all
 
--- what was put, and what is left to be put, are all; if what is left fits, all does; and only what is left may be no key
+-- the entries put and the remaining ones are all; if the remaining ones fit, all do; only the remaining ones may have
+-- keys that are none
 pub record IsPut {Y : Type 0} (is_key : List ℕ → Bool) (fits : Y → Type 0) (one : Spelling Y) (left all : List (List ℕ × Y)) (start old out : List ℕ) : Type 0 where
   pub bytes : out ++ flat_map (pair_spelling text_spelling one) left ≡ start ++ flat_map (pair_spelling text_spelling one) all
   pub fit : AllByRecursion (λ e. FitText e.0 × fits e.1) left → AllByRecursion (λ e. FitText e.0 × fits e.1) all
@@ -47,7 +48,7 @@ module _ {K X Y : Type 0} (text : K → List ℕ) (value : X → Y) (R : K → K
   sorted_seen [] h = tt
   sorted_seen (e ∷ es) h = both_hold _ _ (below_seen e.0 es h.0) (sorted_seen es h.1)
 
-  -- the entries of the map that a map in order stands for
+  -- the entries of the map of the definitions, for a map in order
   pub entries_seen : (es : List (K × X)) → IsStrictlySortedBy R (keys_of es) → map.entries (map.from_entries {R = slice_cmp nat_cmp} (seen text value es)) ≡ seen text value es
   entries_seen es h =
       let s = sorted_seen es h in
@@ -71,7 +72,7 @@ module _ {K X Y : Type 0} (text : K → List ℕ) (value : X → Y) (R : K → K
     seen_append [] fs = refl
     seen_append (e ∷ es) fs = ap (λ t. (text e.0, value e.1) ∷ t) (seen_append es fs)
 
-    -- a key above all, put in: the entries, and what is still to be put in
+    -- a key above all is put in: the entries, and those still to be put in
     pub put_last : (old new : List (K × X)) (k : K) (v : X) (more all : List (List ℕ × Y)) → T (ascends all) → seen text value old ++ (text k, value v) ∷ more ≡ all
         → new ≡ insert_entry R old k v → seen text value new ++ more ≡ all
     put_last old new k v more all up parts put =
@@ -79,7 +80,7 @@ module _ {K X Y : Type 0} (text : K → List ℕ) (value : X → Y) (R : K → K
         ap (λ l. seen text value l ++ more) (put ∙ inserted old k v more in_order)
         ∙ (ap (λ l. l ++ more) (seen_append old ((k, v) ∷ [])) ∙ (append_assoc (seen text value old) ((text k, value v) ∷ []) more ∙ parts))
 
-    -- one more of those that are left is put in
+    -- one more of the remaining entries is put in
     pub made_more : (is_key : List ℕ → Bool) (old new : List (K × X)) (k : K) (v : X) (t : List ℕ) (left all : List (List ℕ × Y)) → ascends all ≡ true → is_key t ≡ true → text k ≡ t
         → new ≡ insert_entry R old k v → IsMade is_key (seen text value old) ((t, value v) ∷ left) all → IsMade is_key (seen text value new) left all
     made_more is_key old new k v t left all up keyed same put so_far = record {
@@ -101,7 +102,7 @@ module _ {K X Y : Type 0} (text : K → List ℕ) (value : X → Y) (R : K → K
       sym (append-nil out) ∙ end ∙ put.bytes ∙ append_assoc old (big_bytes 4 (length initial)) (flat_map (pair_spelling text_spelling one) (seen text value initial))
       ∙ ap (λ l. items (length l) (seen text value l)) all ∙ ap (λ n. items n (seen text value es)) (sym (length_seen es)) ∙ ap (λ l. items (length l) l) (sym (entries_seen es s))
 
-  -- and has a spelling
+  -- and the map has a spelling
   pub all_fits : (is_key : List ℕ → Bool) (fits : Y → Type 0) (one : Spelling Y) (es initial left : List (K × X)) (start old out : List ℕ)
       → IsStrictlySortedBy R (keys_of es) → left ≡ [] → initial ≡ es → length es < 2 ^ 32
       → IsPut is_key fits one (seen text value left) (seen text value initial) start old out → FitMap is_key fits (map.from_entries (seen text value es))

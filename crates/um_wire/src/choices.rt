@@ -1,4 +1,4 @@
-//! Choices without fields, told by a tag of one byte.
+//! Choices without fields, each identified by a tag of one byte.
 ghost use Rattle.std.specs.Prelude.{◌≡◌, ◌≤◌, ◌++◌, ◌∷◌, [], ℕ, Bool, Option, Some, length, drop, IfSome, OnOk, OnErr, ⊤};
 ghost use Rattle.std.specs.Option.{option_map};
 ghost use Rattle.std.specs.List.{slice_get};
@@ -20,18 +20,18 @@ pub trait Tagged: Copy {
     fn tag(&self) -> u8
         ensures { result ≡ tag_of self.now };
 
-    /// The choice of the tag, or None where no choice has it.
+    /// The choice of the tag, or `None` if no choice has it.
     fn from_tag(tag: u8) -> Option<Self>
         ensures { result ≡ with_tag tag };
 
-    /// A choice is told by its tag.
+    /// The tag identifies the choice.
     ghost again: { (choice : Self) → with_tag (tag_of choice) ≡ Some choice };
 
-    /// No other tag tells it.
+    /// No other tag has the choice.
     ghost back: { (n : ℕ) (choice : Self) → with_tag n ≡ Some choice → tag_of choice ≡ n };
 }
 
-/// Puts the tag of the choice behind what is there. Where the growth is refused all is as before.
+/// Appends the tag of the choice. If the allocation failed, nothing changes.
 pub fn put_tag<T: Tagged>(choice: &T, out: &mut Vec<u8>) -> Result<(), AllocError>
     ensures put { OnOk result (out.new.items ≡ out.old.items ++ T.tag_of choice.now ∷ []) }
     ensures same { OnErr result (out.new.items ≡ out.old.items) }
@@ -40,7 +40,7 @@ pub fn put_tag<T: Tagged>(choice: &T, out: &mut Vec<u8>) -> Result<(), AllocErro
     Ok(())
 }
 
-/// The choice whose tag stands in front of the bytes, and the count of its bytes, if there is one.
+/// The choice whose tag is the first of the bytes, and the count of its bytes, if there is one.
 pub fn get_tag<T: Tagged>(bytes: &[u8]) -> Option<(T, usize)>
     ensures read { tag_at T.with_tag bytes.now ≡ option_map (λ x. (x.0, drop x.1 bytes.now)) result }
     ensures within { IfSome result (λ x. x.1 ≤ length bytes.now) }
@@ -77,7 +77,7 @@ impl Tagged for bool {
     ghost back = { truth_back };
 }
 
-/// The tag alone.
+/// The tag, and nothing else.
 impl<T: Tagged> Canon for T {
     ghost Value = { T };
 

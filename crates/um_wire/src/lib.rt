@@ -1,5 +1,6 @@
-//! Why a call was refused: the 22 refusals with their details, each with the number, name and texts that its reply tells; and
-//! canonical bytes: one spelling a value, of which none begins another, and what is spelled is read again whatever follows.
+//! Why a call was refused: the 22 refusals with their details, each with the number, name and texts of its reply. And
+//! canonical bytes: each value has one spelling, no spelling begins another, and a spelled value is read again
+//! whatever follows.
 #![tactic(auto)]
 
 mod canon;

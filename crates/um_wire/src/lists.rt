@@ -1,4 +1,4 @@
-//! Lists: how many items, and those.
+//! Lists: the number of items, then the items.
 ghost use Rattle.std.specs.Prelude.{List, map};
 ghost use Rattle.um_model.specs.Bytes.{FitList, list_spelling, list_at};
 ghost use Rattle.um_model.proofs.BytesLaws.{canonical_list};

@@ -1,4 +1,4 @@
-//! Values made of others: one behind the other, and an option.
+//! Values made of others: a pair, and an option.
 ghost use Rattle.std.specs.Prelude.{IfSome, Option};
 ghost use Rattle.std.specs.Option.{option_map};
 ghost use Rattle.um_model.specs.Bytes.{pair_spelling, pair_at, option_spelling, option_at};
@@ -7,7 +7,7 @@ ghost use Rattle.um_model.proofs.BytesLaws.{canonical_pair, canonical_option};
 use crate::canon::Canon;
 use std::alloc::{AllocError, Global};
 
-/// One behind the other.
+/// One after the other.
 impl<A: Canon + Drop, B: Canon + Drop> Canon for (A, B) {
     ghost Value = { A.Value × B.Value };
 

@@ -26,7 +26,7 @@ pub trait Key: Ord + Sized {
         ensures bytes { result.now ≡ bytes self.now }
         ensures key { is_key (bytes self.now) ≡ true };
 
-    /// The key that stands for the text, or None where none does. It answers want of memory where a growth is refused.
+    /// The key that stands for the text, or `None` if there is none. Returns `AllocError` if an allocation failed.
     fn from_text(alloc: Global, text: &str) -> Result<Option<Self>, AllocError>
         ensures { IfOk result (λ key. option_map bytes key ≡ (if is_key text.now then Some text.now else None)) };
 

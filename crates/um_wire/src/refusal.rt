@@ -1,3 +1,4 @@
+//! The refusals of calls, with their details.
 ghost use Rattle.std.specs.Prelude.{◌≡◌, ◌↔◌, IsTrue};
 
 use std::alloc::{AllocError, AllocFailed};
@@ -25,7 +26,7 @@ impl fmt::Display for Texts {
     }
 }
 
-/// Why a call was refused, with the details that its reply tells. The command line prints it as `E4 NotFound b.service`:
+/// Why a call was refused, with the details of its reply. The command line prints it as `E4 NotFound b.service`:
 /// number, name and details, with single spaces.
 #[derive(Debug, Drop, Error)]
 pub enum Refusal {
@@ -36,13 +37,13 @@ pub enum Refusal {
     /// No such verb in this mode.
     #[error("E2 UnknownVerb {verb}")]
     UnknownVerb { verb: String },
-    /// Not a unit name: the text as it was asked.
+    /// Not a unit name: the text as it was sent.
     #[error("E3 BadName {text}")]
     BadName { text: String },
-    /// A unit to be started or enabled, or named to cat, isn't found.
+    /// A unit to be started or enabled, or named to `cat`, isn't found.
     #[error("E4 NotFound {unit}")]
     NotFound { unit: String },
-    /// A unit to be started or enabled, or named to cat, is masked.
+    /// A unit to be started or enabled, or named to `cat`, is masked.
     #[error("E5 Masked {unit}")]
     Masked { unit: String },
     /// The unit has a setting that is refused, or is a template.
@@ -60,7 +61,7 @@ pub enum Refusal {
     /// Mode `fail` would drop a pending job of the unit.
     #[error("E10 JobConflict {unit}")]
     JobConflict { unit: String },
-    /// Something else stands at the path.
+    /// Something else is at the path.
     #[error("E11 Exists {path}")]
     Exists { path: String },
     /// The path has no served form, the target of the link is unfit, or there is nothing to remove.
@@ -72,7 +73,7 @@ pub enum Refusal {
     /// The weight of the state would exceed the store's size.
     #[error("E14 NoRoom")]
     NoRoom,
-    /// A growth of memory was refused.
+    /// An allocation failed.
     #[error("E15 NoMemory")]
     NoMemory,
     /// The disk or the children failed in that call.
@@ -101,7 +102,7 @@ pub enum Refusal {
 impl Refusal {
     ghost use Rattle.um_wire.specs.Refusal.{refused_of};
 
-    /// The number that a reply tells, 1 to 22.
+    /// The number in a reply, 1 to 22.
     pub fn number(&self) -> u64
         ensures { result ≡ (refused_of self.now).number }
     {

@@ -1,4 +1,4 @@
-//! Refusals that tell a text, each with a copy of its own; what can go wrong with the copy is want of memory alone.
+//! Refusals with a text, each with a copy of its own; the copy can fail only for lack of memory.
 ghost use Rattle.std.specs.Prelude.{◌≡◌, IfOk};
 ghost use Rattle.um_model.specs.Refusals as told;
 ghost use Rattle.um_wire.specs.Refusal.{refused_of};

@@ -1,4 +1,4 @@
-//! Texts: how many bytes, and those, in UTF-8.
+//! Texts: the number of bytes, then the bytes, in UTF-8.
 ghost use Rattle.std.specs.Prelude.{◌≡◌, ◌≤◌, ◌++◌, ℕ, List, length, drop, IfSome, OnOk, OnErr};
 ghost use Rattle.std.specs.Option.{option_map};
 ghost use Rattle.std.specs.String.{string_bytes};
@@ -9,7 +9,7 @@ use crate::canon::Canon;
 use byteorder::{BigEndian, ByteOrder};
 use std::alloc::{AllocError, Global};
 
-/// So many bytes, where they are there and a text.
+/// The text of the first `len` bytes, if there are that many and they are UTF-8.
 fn front_text(bytes: &[u8], len: usize) -> Option<&str>
     ensures text { option_map (λ s. s.now) result ≡ front_text_of len bytes.now }
     ensures within { IfSome result (λ _. len ≤ length bytes.now) }
@@ -24,8 +24,8 @@ fn front_text(bytes: &[u8], len: usize) -> Option<&str>
     }
 }
 
-/// The text in front of the bytes and how many bytes it has with its length, or None where none stands there. It takes no
-/// memory.
+/// The text in front of the bytes and its length in bytes with the bytes of the length, or `None` if there is none.
+/// It takes no memory.
 pub fn text_in_front(bytes: &[u8]) -> Option<(&str, usize)>
     ensures read { text_at bytes.now ≡ option_map (λ x. (x.0.now, drop x.1 bytes.now)) result }
     ensures within { IfSome result (λ x. x.1 ≤ length bytes.now) }
@@ -39,7 +39,7 @@ pub fn text_in_front(bytes: &[u8]) -> Option<(&str, usize)>
     Some((text, 4 + len))
 }
 
-/// Puts the bytes of a text, as those of a `String`. It answers want of memory also for a text of 2^32 bytes or more.
+/// Appends the bytes of a text, as those of a `String`. Returns `AllocError` also for a text of 2^32 bytes or more.
 pub fn put_text(text: &str, out: &mut Vec<u8>) -> Result<(), AllocError>
     ensures put { OnOk result (out.new.items ≡ out.old.items ++ text_spelling text.now) }
     ensures fits { OnOk result (FitText text.now) }

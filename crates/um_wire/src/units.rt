@@ -1,4 +1,5 @@
-//! What the state holds of one unit, and its profile: choices by their tags, how a process ended, a start window, and the unit.
+//! The parts of a unit in the state, and its profile: choices by their tags, how a process ended, a start window, and
+//! the unit.
 ghost use Rattle.um_model.specs.InputSpellings.{mode_tag, modes};
 ghost use Rattle.um_model.specs.Spellings.{FitCounted, FitEnd, FitUnit, counted_at, counted_spelling, end_at, end_spelling, unit_at, unit_of, unit_spelling};
 ghost use Rattle.um_model.specs.Spellings.{job_state_tag, job_states, kind_tag, kinds, profile_of, profile_tag, result_tag, results, sub_states, sub_tag};

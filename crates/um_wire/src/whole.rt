@@ -1,4 +1,4 @@
-//! A value and its bytes, with nothing behind them.
+//! A value and its bytes, with no bytes after them.
 ghost use Rattle.std.specs.Prelude.{◌≡◌, IfOk};
 ghost use Rattle.std.specs.Option.{option_map};
 ghost use Rattle.um_model.specs.Bytes.{nothing_left};
@@ -6,7 +6,7 @@ ghost use Rattle.um_model.specs.Bytes.{nothing_left};
 use crate::canon::Canon;
 use std::alloc::{AllocError, Global};
 
-/// The bytes of the value. It answers want of memory where a growth is refused, and for a value that has no spelling.
+/// The bytes of the value. Returns `AllocError` if an allocation failed, and for a value that has no spelling.
 pub fn spell<T: Canon>(alloc: Global, value: &T) -> Result<Vec<u8>, AllocError>
     ensures bytes { IfOk result (λ bytes. bytes.items ≡ T.spelling (T.value value.now)) }
     ensures fits { IfOk result (λ bytes. T.fits (T.value value.now)) }
@@ -16,8 +16,7 @@ pub fn spell<T: Canon>(alloc: Global, value: &T) -> Result<Vec<u8>, AllocError>
     Ok(bytes)
 }
 
-/// The value that these bytes spell, all of them, or None where they spell none. It answers want of memory where a growth is
-/// refused.
+/// The value that all these bytes spell, or `None` if they spell none. Returns `AllocError` if an allocation failed.
 pub fn read_whole<T: Canon + Drop>(alloc: Global, bytes: &[u8]) -> Result<Option<T>, AllocError>
     ensures { IfOk result (λ found. option_map T.value found ≡ nothing_left (T.reading bytes.now)) }
 {

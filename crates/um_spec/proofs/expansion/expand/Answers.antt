@@ -6,7 +6,7 @@ use Rattle.um_model.specs.Specifiers.{IsUnescaped}
 use Rattle.um_spec.proofs.expansion.expand.Goals as goal
 use Rattle.um_model.specs.Names.{instance_or_empty}
 
--- what is read with the one unescaped instance is what the text stands for
+-- the reading with the one unescaped instance is the text's reading
 same_with : {E : Type 0} (name text : List ℕ) (unescaped : Option (List ℕ)) (r : Result (Option (String Global)) E) → IsUnescaped (instance_or_empty name) unescaped
     → IfOk r (λ o. option_map string_bytes o ≡ reading (specifier_front name unescaped) text) → IfOk r (λ o. option_map string_bytes o ≡ expanded_of name text)
 unfolding expanded_of
@@ -15,7 +15,7 @@ same_with name text unescaped (Ok o) is told =
     let instance = instance_or_empty name in
     told ∙ ap (λ u. reading (specifier_front name u) text) (one_unescaped instance unescaped (unescaped_of instance) is (IsUnescaped-unescaped_of instance))
 
--- the instance's text, as the code holds it
+-- the instance's text, as the code has it
 unescaped_so : (name escaped : List ℕ) (r : Option (String Global)) (text : Option (List ℕ)) → escaped ≡ instance_or_empty name → IsUnescaped escaped (option_map string_bytes r)
     → option_map string_bytes r ≡ text → IsUnescaped (instance_or_empty name) text
 unescaped_so name escaped r text e is same = subst (IsUnescaped (instance_or_empty name)) same (subst (λ i. IsUnescaped i (option_map string_bytes r)) e is)

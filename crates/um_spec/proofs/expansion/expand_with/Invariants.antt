@@ -5,7 +5,7 @@ use Rattle.um_model.specs.Specifiers.{specifier_front}
 use Rattle.um_model.proofs.PiecesLaws.{prefixed, reading}
 use Rattle.um_spec.proofs.expansion.expand_with.Given as goal
 
--- what is done, and then what is read of the rest, is what is read of the text
+-- the text so far, followed by the reading of the rest, is the reading of the text
 abbrev pub invariant-loop-before : goal.invariant-loop-before
 invariant-loop-before l = record {
   utf8 : shadow (Utf8 l.rest);

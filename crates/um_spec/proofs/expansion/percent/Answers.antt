@@ -9,7 +9,7 @@ first_is : (bytes : List ℕ) (b : ℕ) → Some b ≡ slice_get bytes 0 → (0 
 first_is [] b e = absurd (none-some b (sym e))
 first_is (x ∷ xs) b e = (omega arith, sym (same_Some b x e))
 
--- a text may be cut behind a first byte that is ASCII
+-- a text may be cut after a first byte that is ASCII
 behind_first : (text bytes : List ℕ) (b : ℕ) → IsUtf8 text → bytes ≡ text → Some b ≡ slice_get bytes 0 → b < 128 → IsCharBoundary text 1
 behind_first text bytes b utf8 same first small =
     let at = first_is text b (first ∙ ap (λ t. slice_get t 0) same) in

@@ -14,7 +14,7 @@ bytes_of : {E : Type 0} (bytes : Vec ℕ Global) (r : Result (String Global) E) 
 bytes_of bytes (Ok t) same = ap (λ v. v.items) same
 bytes_of bytes (Err e) same = tt
 
--- the bytes that the escapes stand for, as a text where they are one
+-- the bytes that the escapes stand for, as a text if they are one
 read : {E : Type 0} (escaped bytes : List ℕ) (r : Result (String Global) E) → StandsForBytes escaped bytes → IfOk r (λ t. string_bytes t ≡ bytes) → (IsUtf8 bytes → IsOk r)
     → IsUnescaped escaped (option_map string_bytes (result_ok r))
 read escaped bytes (Ok t) stands same succeeds = (subst (StandsForBytes escaped) (sym same) stands, IsUtf8-string_bytes t)

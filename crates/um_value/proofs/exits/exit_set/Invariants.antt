@@ -7,7 +7,7 @@ use Rattle.um_value.specs.ExitSet.{holds}
 use Rattle.um_value.proofs.exits.exit_set.Given as goal
 use Rattle.um_model.specs.FileForms.{words_in}
 
--- the set holds what the words so far tell
+-- the set holds the ends that the words so far name
 abbrev pub invariant-loop-word : goal.invariant-loop-word
 invariant-loop-word l = record {
   can : (goal.iterator-loop-word).can_next l.word-iterator;

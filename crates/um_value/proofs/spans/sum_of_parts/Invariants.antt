@@ -5,7 +5,7 @@ use Rattle.um_model.specs.Text.{trim_start}
 use Rattle.um_model.specs.ValueSpellings.{AddUpTo}
 use Rattle.um_value.proofs.spans.sum_of_parts.Given as goal
 
--- what serves the rest serves the text, with the parts before it
+-- the sums of the rest, with the parts before it, are those of the text
 abbrev pub invariant-loop-rest : goal.invariant-loop-rest
 invariant-loop-rest l = record {
   utf8 : shadow (Utf8 l.rest);

@@ -4,7 +4,8 @@ use Rattle.um_model.specs.Tree.{is_fit_entry}
 use Rattle.um_model.proofs.WeightLaws.{weight_by_entry}
 use Rattle.um_tree.proofs.tree.Tree.weight.Given as goal
 
--- what is weighed and the weight of the rest are the weight of all, which isn't much; and each entry of the rest may stand at its path
+-- the weight so far and the weight of the rest add up to the weight of all, which is small; each entry of the rest is
+-- allowed at its path
 abbrev pub invariant-loop-path : goal.invariant-loop-path
 invariant-loop-path l = record {
   whole : l.weight + sum_by weight_by_entry l.path-iterator ≡ sum_by weight_by_entry l.initial.path-iterator;

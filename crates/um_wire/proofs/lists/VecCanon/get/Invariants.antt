@@ -3,7 +3,7 @@ use Rattle.um_model.specs.Bytes.{Decoder, many_at}
 use Rattle.um_wire.proofs.Items.{with_front}
 use Rattle.um_wire.proofs.lists.VecCanon.get.Given as goal
 
--- what was read before, and what is left makes what there is to be read
+-- the items read before, with those in the remaining bytes, are all items
 pub record IsRead {A : Type 0} (one : Decoder A) (front : List A) (count counter at start : ℕ) (bytes : List ℕ) : Type 0 where
   pub within : at ≤ length bytes
   pub so_far : with_front front (many_at one (count - counter) (drop at bytes)) ≡ many_at one count (drop start bytes)

@@ -3,7 +3,7 @@ use Rattle.std.specs.List.{flat_map, AllByRecursion}
 use Rattle.byteorder.specs.Endian.{big_bytes}
 use Rattle.um_wire.proofs.lists.VecCanon.put.Given as goal
 
--- what was put before
+-- the items put before
 pub record IsPut {A : Type 0} (fits : A → Type 0) (spelling : A → List ℕ) (done : List A) (count : ℕ) (old out : List ℕ) : Type 0 where
   pub bytes : out ≡ (old ++ big_bytes 4 count) ++ flat_map spelling done
   pub fit : AllByRecursion fits done
