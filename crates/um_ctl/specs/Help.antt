@@ -1,6 +1,6 @@
--- The help of the client: a line for each verb, from the table of requests, and a sentence for each refusal. No
--- manual page has this: the verbs are those of systemctl(1), the rest is the project's own (docs/FORMATS.md, "The
--- program"). The help of the client stands on this file.
+-- The help of the client: a line for each verb, from the table of requests, and a sentence for each refusal.
+-- No manual page has this: the verbs are those of systemctl(1), the rest is the project's own (docs/FORMATS.md, "The program").
+-- The help of the client stands on this file.
 use Rattle.std.specs.Prelude.{◌≡◌, ℕ, List, [], ◌++◌, Bool, Option, Some, None, codes, decimal, filter, flat_map, if◌then◌else◌, String, string_bytes}
 use Rattle.std.specs.declared.alloc.Global.{Global}
 use Rattle.um_model.specs.Requests.{Row, row_of, verbs_in}

@@ -1,5 +1,6 @@
--- The request that is prepared from the words before any connection, and why there is no report in the end. No manual
--- page has this: it is the project's own (docs/FORMATS.md, "The program"). The client stands on this file.
+-- The request that is prepared from the words before any connection, and why there is no report in the end.
+-- No manual page has this: it is the project's own (docs/FORMATS.md, "The program").
+-- The client stands on this file.
 use Rattle.std.specs.Prelude.{⊤, ◌≡◌, ℕ, List, true, Option, Some, None, map, option_map, length, codes, IsUtf8, Vec}
 use Rattle.std.specs.Io.KnownBytes.{Keeps}
 use Rattle.std.specs.declared.alloc.Global.{Global}
@@ -21,16 +22,14 @@ use Rattle.um_ctl.specs.declared.words.Words.{Words}
 abbrev pub verb_told : Words → Option Verb
 verb_told words = verb_of words.verb.now (length words.arguments.now) (option_map (λ s. s.now) words.mode)
 
--- the words' own verb, and a text that a manager reads as the request of that verb with the words' arguments and
--- mode, and with the text of a file if the verb takes one
+-- the verb of the words, and a text that a manager reads as their request, with the text of a file if the verb takes one
 abbrev pub Prepares : Words → Option (List ℕ) → Option (List ℕ) → Verb × Vec ℕ Global → Type 0
 Prepares words old new (verb, bytes) =
     (verb_told words ≡ Some verb)
     × (text : Option (List ℕ)) × IsTextRead (takes_text (row_of verb)) old new text
     × IsReadAs bytes.items (request_data verb (map (λ s. s.now) words.arguments.now) text (option_map (λ s. s.now) words.mode))
 
--- why nothing was prepared: wrong words are a fault before the input is read, a text that is too long before one that
--- isn't UTF-8
+-- why nothing was prepared: wrong words come before the input is read, a long text before one that isn't UTF-8
 abbrev pub IsUnprepared : Option (List ℕ) → Option (List ℕ) → CtlFault → Type 0
 IsUnprepared old new Usage = Keeps old new
 IsUnprepared old new TooLarge = IsTooLong old new

@@ -1,6 +1,6 @@
--- How a text is shown: no character of it can mislead a terminal, or a script that reads lines. No manual page has
--- this; the escapes are those of systemd-escape(1), and on a terminal's standard output those of JSON. The client,
--- and the text that the program prints, stand on this file.
+-- How a text is shown: no character of it can mislead a terminal, or a script that reads lines.
+-- No manual page has this; the escapes are those of systemd-escape(1), and on a terminal's standard output those of JSON.
+-- The client, and the text that the program prints, stand on this file.
 use Rattle.std.specs.Prelude.{ℕ, List, [], ◌∷◌, ◌/◌, ◌%◌, Bool, ◌||◌, ◌==◌, flat_map, if◌then◌else◌}
 use Rattle.std.specs.Char.{digit_char, encode_utf8, is_control}
 use Rattle.std.specs.Int.{is_in_range}

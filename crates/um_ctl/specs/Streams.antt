@@ -1,5 +1,6 @@
--- The parts that are read from an input: the text of a file, and the frame of a reply. No manual page has this: it is
--- the project's own protocol (docs/FORMATS.md, "Frames" and "The program"). The client stands on this file.
+-- The parts that are read from an input: the text of a file, and the frame of a reply.
+-- No manual page has this: it is the project's own protocol (docs/FORMATS.md, "Frames" and "The program").
+-- The client stands on this file.
 use Rattle.std.specs.Prelude.{◌≡◌, ◌≤◌, ◌<◌, ℕ, List, ◌++◌, length, Bool, true, false, Option, Some, None, IsUtf8, string_bytes}
 use Rattle.std.specs.Io.KnownBytes.{Appends, Consumes, IsAtEnd, Keeps}
 use Rattle.byteorder.specs.Endian.{big_number}

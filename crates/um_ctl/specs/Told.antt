@@ -1,5 +1,6 @@
--- The text that is printed for a reply, and the exit status of the program. No manual page has this: texts and
--- statuses are the project's own (docs/FORMATS.md, "The program"). The client stands on this file.
+-- The text that is printed for a reply, and the exit status of the program.
+-- No manual page has this: texts and statuses are the project's own (docs/FORMATS.md, "The program").
+-- The client stands on this file.
 use Rattle.std.specs.Prelude.{ℕ, List, [], ◌∷◌, ◌++◌, Bool, true, false, not, ◌==◌, Option, Some, None, is_some, option_map, option_and_then, find, flat_map, codes, decimal, if◌then◌else◌}
 use Rattle.std.specs.List.{list_all}
 use Rattle.serde_json.specs.Data.{Data, Items, no_items, item}

@@ -10,8 +10,7 @@ use Rattle.um_stream.specs.declared.fault.Fault.TheVariants as stream
 abbrev pub told_view : Told → model.Told
 told_view t = record { output = string_bytes t.output; error = string_bytes t.error; status = t.status }
 
--- the exit status of a fault: 1 refused, 2 wrong words, 4 nobody read the request, 5 reading or writing failed, 6 the
--- time was up
+-- the exit status: 1 refused, 2 wrong words, 4 nobody read the request, 5 reading or writing failed, 6 the time was up
 abbrev pub status_of : CtlFault → ℕ
 status_of Usage = 2
 status_of TooLarge = 1

@@ -1,6 +1,6 @@
--- The request that the words after `umd ctl` stand for: arguments are the fields of the verb's row in their order. No
--- manual page has this: the verbs are those of systemctl(1), the rest is the project's own (docs/FORMATS.md, "The
--- program"). The client stands on this file.
+-- The request that the words after `umd ctl` stand for: arguments are the fields of the verb's row in their order.
+-- No manual page has this: the verbs are those of systemctl(1), the rest is the project's own (docs/FORMATS.md, "The program").
+-- The client stands on this file.
 use Rattle.std.specs.Prelude.{◌≡◌, ℕ, List, ◌∷◌, ◌++◌, Bool, true, ◌&&◌, not, nat_le, Option, Some, None, is_some, option_and_then, filter, length, codes, if◌then◌else◌}
 use Rattle.std.specs.Str.{bytes_eq}
 use Rattle.serde_json.specs.Data.{Data, Members, string, object, no_members, put}
@@ -8,8 +8,7 @@ use Rattle.um_model.specs.Requests.{Row, row_of, verb_in, is_among, job_mode_of,
 use Rattle.um_model.specs.declared.requests.Mode.TheVariants.{Service}
 use Rattle.um_model.specs.declared.requests.Verb.{Verb}
 
--- an argument gives the field: neither the text, which comes on standard input, nor the mode, which has a word of its
--- own
+-- an argument gives the field: neither the text, from standard input, nor the mode, which has a word of its own
 abbrev pub is_argument : List ℕ → Bool
 is_argument name = not (bytes_eq name (codes "text")) && not (bytes_eq name (codes "mode"))
 

@@ -28,7 +28,7 @@ pub(crate) struct Waiting {
 }
 
 impl Waiting {
-    /// It begins now.
+    /// Starts to wait now, with this patience.
     pub fn starting<R: Clock>(rt: &R, patience: Patience) -> Waiting
         ensures { result.patience ≡ patience }
     {
@@ -84,12 +84,12 @@ pub(crate) struct Timed<'a, 'b, R> {
     stream: &'a UnixStream,
     rt: &'b R,
     waiting: Waiting,
-    /// A byte came.
+    /// Whether a byte was received.
     pub has_heard: bool,
 }
 
 impl<'a, 'b, R> Timed<'a, 'b, R> {
-    /// Nothing came yet.
+    /// A connection over this stream; nothing was received yet.
     pub fn over(stream: &'a UnixStream, rt: &'b R, waiting: Waiting) -> Timed<'a, 'b, R> {
         Timed {
             stream,

@@ -1,5 +1,6 @@
--- What the words of a command line mean: the words as clap reads them, and the line for each of its mistakes. No
--- manual page has this: it is the project's own (docs/FORMATS.md, "The program"). The program stands on this file.
+-- What the words of a command line mean: the words as clap reads them, and the line for each of its mistakes.
+-- No manual page has this: it is the project's own (docs/FORMATS.md, "The program").
+-- The program stands on this file.
 use Rattle.std.specs.Prelude.{⊤, ◌≡◌, ◌≢◌, ◌⊎◌, ◌↔◌, ◌<◌, ◌≤◌, ◌^◌, ℕ, List, [], ◌∷◌, Bool, true, Option, Some, None, map, option_map, slice_get, bytes_eq, codes, decimal, drop, length, if◌then◌else◌}
 use Rattle.clap.specs.Words.{App, Kinds, Row, Rule, IsAmong, all_of, fault_of, first_of, matches_of, new_app, new_rule, with_rule}
 use Rattle.clap.specs.Simple.{on_top}
@@ -74,16 +75,14 @@ create_words =
 abbrev pub check_words : App
 check_words = with_rule (with_rule (new_app (codes "umd check")) (flag_rule (codes "units"))) (word_rule (codes "file"))
 
--- the words of `umd serve`: the unit that a new boot starts, the output folder and the size of an output file are
--- optional
+-- the words of `umd serve`: the unit to start, the output folder and the size of an output file are optional
 abbrev pub serve_words : App
 serve_words =
     with_rule (with_rule (with_rule (with_rule (with_rule (with_rule (with_rule (with_rule (new_app (codes "umd serve")) (option_rule (codes "boot")))
     (option_rule (codes "socket"))) (option_rule (codes "dir"))) (option_rule (codes "runner"))) (optional_rule (codes "start")))
     (optional_rule (codes "output"))) (optional_rule (codes "output-size"))) (word_rule (codes "file"))
 
--- the words of `umd ctl`: optional are the socket, two times, a mode and three flags; then a verb with its arguments,
--- or `sync` with its folder
+-- the words of `umd ctl`: optional a socket, two times, a mode and three flags; then a verb with arguments, or `sync`
 abbrev pub ctl_words : App
 ctl_words =
     with_rule (with_rule (with_rule (with_rule (with_rule (with_rule (with_rule (with_rule (new_app (codes "umd ctl")) (optional_rule (codes "socket")))
@@ -231,8 +230,7 @@ IsToRun has_file folder number entries command (Run line) =
     (line.has_file ≡ has_file) × (line.folder.now ≡ folder) × (line.number ≡ number) × (entries_of line.job ≡ entries) × (words_of line.job ≡ command)
 IsToRun has_file folder number entries command other = ⊥
 
--- the line for the words after `run`: a runner's words are run, others are reported as wrong, except `--help` in
--- front
+-- the line for the words after `run`: a runner's words are run, others are wrong, except `--help` in front
 abbrev pub IsRunLine : List (List ℕ) → Line → Type 0
 IsRunLine words (Run line) = TellsRunner line.has_file line.folder.now line.number (entries_of line.job) (words_of line.job) words
 IsRunLine words (Told text) = slice_get words 0 ≡ Some (codes "--help")

@@ -1,4 +1,4 @@
-//! The words of the program: a command line means exactly what the definitions say.
+//! The words of the program: a command line has exactly the meaning that the definitions give it.
 #![tactic(auto)]
 
 mod check;

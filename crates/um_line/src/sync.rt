@@ -18,7 +18,7 @@ pub struct SyncLine<'a> {
     pub retry: Option<u32>,
     /// How many seconds to wait for all replies together: the value of `--timeout`.
     pub timeout: Option<u32>,
-    /// The folder.
+    /// The folder whose files are put.
     pub folder: &'a str,
     /// The steps are only printed.
     pub is_dry: bool,

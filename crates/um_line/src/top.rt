@@ -32,7 +32,7 @@ const NOTHING: &str = "error: a subcommand is missing\n\nUsage: ";
 /// The text after the usage.
 const MORE: &str = "\n\nFor more information, try '--help'.\n";
 
-/// The required option.
+/// The required option `--memory`.
 fn memory<'a>(alloc: Global) -> Arg<'a>
     ensures rule { rule_of result ≡ memory_rule }
     ensures local { result.global ≡ false }

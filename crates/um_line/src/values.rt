@@ -23,7 +23,7 @@ pub fn described<'a>(
         .after_help(after)
 }
 
-/// A required option.
+/// A required option of this name with one value; `value` and `help` are shown in the help.
 pub fn option<'a>(alloc: Global, name: &'a str, value: &'a str, help: &'a str) -> Arg<'a>
     ensures rule { rule_of result ≡ option_rule name.entry.now }
     ensures local { result.global ≡ false }
@@ -48,7 +48,7 @@ pub fn with_option<'a>(
     command.arg(option(alloc, name, value, help))
 }
 
-/// A required word.
+/// A required word; `value` and `help` are shown in the help.
 pub fn word<'a>(alloc: Global, name: &'a str, value: &'a str, help: &'a str) -> Arg<'a>
     ensures rule { rule_of result ≡ word_rule name.entry.now }
     ensures local { result.global ≡ false }
@@ -72,7 +72,7 @@ pub fn with_word<'a>(
     command.arg(word(alloc, name, value, help))
 }
 
-/// An optional option.
+/// An optional option of this name with one value.
 pub fn optional<'a>(alloc: Global, name: &'a str, value: &'a str, help: &'a str) -> Arg<'a>
     ensures rule { rule_of result ≡ optional_rule name.entry.now }
     ensures local { result.global ≡ false }
@@ -174,7 +174,7 @@ pub fn with_flag<'a>(
     command.arg(flag(alloc, name, help))
 }
 
-/// One or more words.
+/// One or more words, collected under this name.
 pub fn words<'a>(alloc: Global, name: &'a str, value: &'a str, help: &'a str) -> Arg<'a>
     ensures rule { rule_of result ≡ words_rule name.entry.now }
     ensures local { result.global ≡ false }
@@ -199,7 +199,7 @@ pub fn with_words<'a>(
     command.arg(words(alloc, name, value, help))
 }
 
-/// Any number of words.
+/// Any number of words, collected under this name.
 pub fn any_words<'a>(alloc: Global, name: &'a str, value: &'a str, help: &'a str) -> Arg<'a>
     ensures rule { rule_of result ≡ any_words_rule name.entry.now }
     ensures local { result.global ≡ false }

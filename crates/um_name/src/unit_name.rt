@@ -104,7 +104,7 @@ impl UnitName {
         }
     }
 
-    /// The whole name.
+    /// The whole name, with its suffix.
     pub fn as_str(&self) -> &str
         ensures value { result.now ≡ self.now }
         ensures name { names.is_unit_name self.now ≡ true }
@@ -176,7 +176,7 @@ impl UnitName {
         }
     }
 
-    /// The same name.
+    /// The same name; the copy shares its text.
     pub fn copy(&self) -> Result<UnitName, AllocError>
         ensures { IfOk result (λ name. name ≡ self.now) }
     {

@@ -1,5 +1,6 @@
--- The lines that record how processes ended. No manual page has this: it is the project's own (docs/FORMATS.md,
--- "Output"). Output stands on this file.
+-- The lines that record how processes ended.
+-- No manual page has this: it is the project's own (docs/FORMATS.md, "Output").
+-- Output stands on this file.
 use Rattle.std.specs.Prelude.{ℕ, Option, Some, None, List, ◌++◌, codes, decimal}
 use Rattle.um_model.specs.declared.children.Fate.{Fate}
 use Rattle.um_model.specs.declared.children.Fate.TheVariants as fate

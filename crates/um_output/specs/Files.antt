@@ -1,5 +1,6 @@
--- The names of the output files: a process's number, and the file's part. No manual page has this: it is the
--- project's own (docs/FORMATS.md, "Output"). Output stands on this file.
+-- The names of the output files: a process's number, and the file's part.
+-- No manual page has this: it is the project's own (docs/FORMATS.md, "Output").
+-- Output stands on this file.
 use Rattle.std.specs.Prelude.{ℕ, List, [], ◌++◌, codes, decimal}
 use Rattle.um_output.specs.declared.files.Part.{Part}
 use Rattle.um_output.specs.declared.files.Part.TheVariants.{Printed, Old, Draft}

@@ -1,5 +1,6 @@
--- Lines of bytes: the bytes after a number of line feeds. No manual page has this: it is the project's own
--- (docs/FORMATS.md, "Output"). Output stands on this file.
+-- Lines of bytes: the bytes after a number of line feeds.
+-- No manual page has this: it is the project's own (docs/FORMATS.md, "Output").
+-- Output stands on this file.
 use Rattle.std.specs.Prelude.{ℕ, zero, suc, ◌/◌, List, [], ◌∷◌, ◌==◌, count_by, drop, length, if◌then◌else◌}
 
 -- how many line feeds there are

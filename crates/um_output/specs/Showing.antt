@@ -1,6 +1,6 @@
--- The output of processes, as it is shown: no byte of it can mislead a terminal. No manual page has this: it is the
--- project's own (docs/FORMATS.md, "The program"); the escapes are those of systemd-escape(1). Output stands on this
--- file.
+-- The output of processes, as it is shown: no byte of it can mislead a terminal.
+-- No manual page has this: it is the project's own (docs/FORMATS.md, "The program"); the escapes are those of systemd-escape(1).
+-- Output stands on this file.
 use Rattle.std.specs.Prelude.{◌≡◌, ◌<◌, ◌≤◌, ◌-◌, ℕ, List, [], ◌∷◌, ◌++◌, Bool, ◌||◌, ◌&&◌, ◌==◌, not, drop, length, slice_index, take, flat_map, Option, Some, None, if◌then◌else◌}
 use Rattle.std.specs.Char.{is_control}
 use Rattle.std.specs.Int.{is_in_range}
@@ -15,8 +15,7 @@ is_direction c = c == 1564 || (is_in_range 8206 8207 c || (is_in_range 8234 8238
 abbrev pub misleads : ℕ → Bool
 misleads c = (is_control c && (not (c == 10) && not (c == 9))) || is_direction c
 
--- the text for a piece of bytes: its bytes if it is a character that doesn't mislead, otherwise `\x` and two digits
--- for each byte
+-- the text for a piece: its bytes if it is a character that doesn't mislead, otherwise `\x` and two digits for each byte
 abbrev pub piece_shown : Option ℕ → List ℕ → List ℕ
 piece_shown None bytes = flat_map byte_escape bytes
 piece_shown (Some c) bytes = if misleads c then flat_map byte_escape bytes else bytes

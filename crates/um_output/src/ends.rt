@@ -22,7 +22,7 @@ pub enum Ended {
 /// The file of these lines.
 const NAME: &str = "ends";
 
-/// Its draft.
+/// The name of its draft.
 const DRAFT: &str = "ends.new";
 
 /// If the file is longer than this many bytes, its older half is removed.

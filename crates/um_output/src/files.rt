@@ -95,7 +95,6 @@ pub(crate) fn path_of(
     Ok(format!(in alloc; "{folder}/{number}{ending}")?)
 }
 
-/// Adds a name.
 fn push_name(names: &mut Vec<String>, alloc: Global, name: &str) -> io::Result<()> {
     names.push(String::from_str(alloc, name)?)?;
     Ok(())

@@ -1,4 +1,4 @@
-//! What follows from the definitions alone.
+//! A consequence of the definitions alone.
 
 ghost use Rattle.std.specs.Prelude.{◌≡◌, ℕ, List, false, nat_lt, true};
 ghost use Rattle.std.specs.List.{list_all, list_any};

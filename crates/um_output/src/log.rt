@@ -351,7 +351,7 @@ impl<'a, R: Files, W: Write + Drop> Log<'a, R, W> {
         Ok(())
     }
 
-    /// Prints these whole files.
+    /// Prints each of these files from its beginning.
     fn put_whole(&mut self, files: &[OutputFile], room: &mut [u8]) -> Result<(), LogFault> {
         for file in files {
             self.put_noted(file, 0, room)?;

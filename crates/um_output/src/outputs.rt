@@ -277,7 +277,7 @@ impl<'a, R: Files> Outputs<'a, R> {
         }
     }
 
-    /// Notes a failure.
+    /// Notes a failure, if it is the first since the last `take_failure`.
     fn fail(&mut self, number: Option<ProcessNumber>, error: io::Error) {
         if self.failure.is_none() {
             self.failure = Some(Failure { number, error });
@@ -339,7 +339,6 @@ impl<'a, R: Files> Outputs<'a, R> {
         place_in(self.rt, self.alloc, self.folder, folder.as_str(), number)
     }
 
-    /// Adds a live process.
     fn add(&mut self, live: Live) -> io::Result<()> {
         self.live.insert(live.number.get(), live)?;
         Ok(())

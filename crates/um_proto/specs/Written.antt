@@ -1,5 +1,6 @@
--- The values of a file, a unit, a job and the paths of an install, each by itself, and the text of warnings. Follows
--- the definition of a reply's text, which has them in place. Writing replies stands on this file.
+-- The values of a file, a unit, a job and the paths of an install, each by itself, and the text of warnings.
+-- Follows the definition of a reply's text, which has them in place.
+-- Writing replies stands on this file.
 use Rattle.std.specs.Prelude.{◌≡◌, ℕ, List, [], ◌∷◌, ◌++◌, Option, Some, None, false, Vec, codes, decimal}
 use Rattle.std.specs.declared.alloc.Global.{Global}
 use Rattle.std.specs.List.{flat_map}

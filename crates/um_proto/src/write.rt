@@ -42,7 +42,6 @@ fn room_of_words() -> Room
     }
 }
 
-/// A list of texts.
 fn texts_value(alloc: Global, texts: &[String]) -> Result<Value, AllocError>
     ensures { IfOk result (λ v. view v ≡ model.texts_data (map string_bytes texts.now)) }
 {
@@ -53,7 +52,6 @@ fn texts_value(alloc: Global, texts: &[String]) -> Result<Value, AllocError>
     Ok(Value::Array(list))
 }
 
-/// An empty list.
 fn no_texts(alloc: Global) -> Value
     ensures { view result ≡ model.texts_data [] }
 {

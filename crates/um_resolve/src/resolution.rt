@@ -47,7 +47,7 @@ pub enum Resolution<'t> {
 #[derive(Drop)]
 enum Step<'t> {
     Ends(Resolution<'t>),
-    /// On to another name.
+    /// The name leads on to another one.
     LeadsOn(UnitName),
 }
 

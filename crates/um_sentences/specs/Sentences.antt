@@ -1,6 +1,6 @@
--- The sentences for the numbers and words in replies: the meaning of each to a person. No manual page has this: the
--- words are those of docs/FORMATS.md, the sentences the project's own. The sentences of `umd help`, `umd verify` and
--- `umd status` stand on this file.
+-- The sentences for the numbers and words in replies: the meaning of each to a person.
+-- No manual page has this: the words are those of docs/FORMATS.md, the sentences the project's own.
+-- The sentences of `umd help`, `umd verify` and `umd status` stand on this file.
 use Rattle.std.specs.Prelude.{ℕ, List, [], ◌∷◌, ◌++◌, Bool, Option, Some, codes, flat_map, if◌then◌else◌, nat_eq}
 use Rattle.std.specs.List.{starts_with}
 use Rattle.std.specs.Map.{lookup}

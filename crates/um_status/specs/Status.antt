@@ -1,6 +1,6 @@
--- The state of a unit, as a person reads it: from the replies to `show` and `list-jobs`, a pid, and the line that
--- records the end of its last process. No manual page has this: it is the project's own (docs/FORMATS.md, "The
--- program"). The text that `umd status` prints, and the standing that `umd ctl --wait` waits for, stand on this file.
+-- The state of a unit, as a person reads it: from replies, a pid, and the line that records the last process's end.
+-- No manual page has this: it is the project's own (docs/FORMATS.md, "The program").
+-- The text that `umd status` prints, and the standing that `umd ctl --wait` waits for, stand on this file.
 use Rattle.std.specs.Prelude.{◌≡◌, ◌≢◌, ◌<◌, ◌⊎◌, ℕ, ◌-◌, ◌*◌, ◌/◌, ◌^◌, List, [], ◌∷◌, ◌++◌, Bool, false, ◌&&◌, ◌||◌, not, max, ◌==◌}
 use Rattle.std.specs.Prelude.{Option, Some, None, codes, decimal, find, flat_map, fold, if◌then◌else◌, length, option_and_then, replicate, pos}
 use Rattle.std.specs.List.{list_any}
@@ -25,8 +25,7 @@ use Rattle.um_status.specs.declared.standing.Standing.TheVariants.{Moving, Runs,
 
 -- ---- the reply to `show`
 
--- the unit in the reply: its own name, whether it is loaded, its two states, its result and the number of its main
--- process
+-- the unit in the reply: its own name, whether it is loaded, its two states, its result and its main process
 pub record UnitShown : Type 0 where
   pub id : List ℕ
   pub loaded : List ℕ
@@ -109,8 +108,7 @@ abbrev pub standing_for : Goal → UnitShown → Standing
 standing_for Up s = standing_up s
 standing_for Down s = standing_down s
 
--- the standing of a unit for a goal: on its way if a job of it is pending or it starts or stops, otherwise reached or
--- not
+-- a unit's standing for a goal: on its way if a job of it is pending or it starts or stops, otherwise reached or not
 abbrev pub standing_of : Goal → UnitShown → List Data → Standing
 standing_of goal s jobs = if has_job s.id jobs || is_among s.sub moving_states then Moving else standing_for goal s
 

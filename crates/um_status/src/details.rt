@@ -84,7 +84,7 @@ fn push_warnings(alloc: Global, text: &mut String, values: &[Value]) -> Result<(
     Ok(())
 }
 
-/// Appends a line.
+/// Appends a line to the lines after a row, with its indent.
 fn push_line(text: &mut String, line: &str) -> Result<(), AllocError>
     ensures { OnOk result (string_bytes text.new ≡ string_bytes text.old ++ model.detail_line line.now) }
 {

@@ -14,7 +14,7 @@ use std::alloc::{AllocError, Global};
 #[derive(Drop)]
 pub struct Row {
     pub unit: String,
-    /// Whether it is loaded.
+    /// Whether it is loaded: its load state.
     pub loaded: String,
     /// Its active state and its sub state.
     pub state: String,
@@ -120,7 +120,6 @@ fn wider(widths: Widths, row: &Row) -> Widths
     }
 }
 
-/// Columns of no width.
 fn no_width() -> Widths
     ensures { widths_view result ≡ model.no_width }
 {
@@ -179,7 +178,6 @@ fn push_row(text: &mut String, widths: Widths, row: &Row) -> Result<(), AllocErr
     Ok(())
 }
 
-/// Appends the rows.
 fn push_rows(text: &mut String, widths: Widths, rows: &[Row]) -> Result<(), AllocError>
     ensures { OnOk result (string_bytes text.new ≡ string_bytes text.old ++ flat_map (model.row_text (widths_view widths)) (map row_view rows.now)) }
 {

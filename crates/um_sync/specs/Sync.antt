@@ -1,5 +1,5 @@
--- The record of the files of a folder that were put into a manager's tree, its text, and the steps after which the
--- tree has the folder's files. No manual page has this: it is the project's own (docs/FORMATS.md, "umd ctl sync").
+-- The record of the files of a folder that were put into a manager's tree, and the steps to put the folder's files.
+-- No manual page has this: it is the project's own (docs/FORMATS.md, "umd ctl sync").
 -- um_sync stands on this file.
 use Rattle.std.specs.Prelude.{◌++◌, ◌==◌, ℕ, List, [], Bool, true, false, Option, Some, None, Result, Ok, Err, map, filter, flat_map, fold, is_none, length, nat_lt, option_map, option_to_list, codes, bytes_eq, if◌then◌else◌}
 use Rattle.std.specs.FinMap as map_of
@@ -105,8 +105,7 @@ abbrev pub in_place_of : Mark → Mark → Action
 in_place_of (File a) (File b) = Put
 in_place_of before now = Replace
 
--- the action for this mark in the folder and that mark of the record; if both are the same, the entry is put only
--- with all
+-- the action for this mark in the folder and that mark of the record; if they are the same, put only with all
 abbrev pub action_for : (all : Bool) → Option Mark → Mark → Option Action
 action_for all None now = Some Put
 action_for all (Some before) now = if same before now then (if all then Some Put else None) else Some (in_place_of before now)

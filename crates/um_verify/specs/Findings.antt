@@ -1,7 +1,6 @@
--- The report on a unit before any manager has it: each reason why it can't be loaded, at its line, and the files
--- without that line. Follows systemd.unit(5) in the meaning of `X-` before a key; the sentences are the project's own
--- (docs/FORMATS.md, "The program"). `umd verify`, and the reasons that `umd status` gives for a unit that isn't
--- loaded, stand on this file.
+-- The report on a unit before any manager has it: each reason why it can't be loaded, at its line, and the files without that line.
+-- Follows systemd.unit(5) in the meaning of `X-` before a key; the sentences are the project's own (docs/FORMATS.md, "The program").
+-- `umd verify`, and the reasons that `umd status` gives for a unit that isn't loaded, stand on this file.
 use Rattle.std.specs.Prelude.{◌≡◌, Ok, ◌⊎◌, ℕ, ◌+◌, ◌-◌, ◌≤◌, ◌==◌, ◌&&◌, not, Bool, true, false, List, [], ◌∷◌, ◌++◌, Option, Some, None}
 use Rattle.std.specs.Prelude.{codes, count_by, decimal, drop, find, fold, if◌then◌else◌, length, map, option_map, slice_get, take}
 use Rattle.std.specs.FinMap as finite
@@ -24,14 +23,12 @@ use Rattle.um_sentences.specs.Sentences.{further_command, key_sentence, key_why,
 
 -- ---- lines
 
--- the text about a file at a line, or about the whole file: `y.service:2: User= isn't served: every service runs as
--- umd's user`
+-- the text about a line, or the whole file: `y.service:2: User= isn't served: every service runs as umd's user`
 abbrev pub finding_text : (path : List ℕ) → (line : Option ℕ) → (told : List ℕ) → List ℕ
 finding_text path None told = path ++ (codes ": " ++ told)
 finding_text path (Some line) told = path ++ (codes ":" ++ (decimal line ++ (codes ": " ++ told)))
 
--- the physical line of this number begins at this place of the text: `line - 1` line feeds stand before it, the last
--- of them directly
+-- the physical line of this number begins at this place: `line - 1` line feeds stand before it, the last one directly
 abbrev pub BeginsLine : (text : List ℕ) → (line place : ℕ) → Type 0
 BeginsLine text line place =
     (place ≤ length text) × (count_by (λ b. b == 10) (take place text) + 1 ≡ line) × ((place ≡ 0) ⊎ (slice_get text (place - 1) ≡ Some 10))
@@ -179,8 +176,7 @@ abbrev pub TellsLack : List UnitFile → Told → (text : List ℕ) → Type 0
 TellsLack files t text =
     (file : UnitFile) × (slice_get files 0 ≡ Some file) × (t ≡ record { path = file.path; line = None; told = no_command }) × (text ≡ file.text ++ command)
 
--- a further command: reported at the last ExecStart= that counts; without it the file gets another command if it was
--- the only one
+-- a further command: reported at the last ExecStart= that counts; if it is the only one, its file gets another
 abbrev pub TellsFurther : List UnitFile → List Spot → Told → (text : List ℕ) → Type 0
 TellsFurther files starts t text =
     (s : Spot) × (without : List ℕ) × (slice_get starts (length starts - 1) ≡ Some s) × TellsAt files s further_command t without

@@ -44,8 +44,7 @@ IsTaken before after unit reason (taken.Out f) =
     (text : List ℕ) × model.TellsIn before unit reason (told_of f) text × (f.stops ≡ true) × (put_file before (string_bytes f.path) text ≡ Ok after)
 IsTaken before after unit reason (taken.Left f) = before ≡ after
 
--- the findings after the reasons: the warnings of the unit that is found then, or anything if a reason couldn't be
--- removed
+-- the findings after the reasons: the warnings of the found unit, or anything if a reason couldn't be removed
 abbrev pub IsRest : Tree → List ℕ → List Finding → Type 0
 IsRest tree unit rest =
     ((u : LoadedUnit) × (load (read_by current tree) unit ≡ Found u) × (map place_of rest ≡ map model.warning_place u.warnings))

@@ -139,7 +139,6 @@ fn read_entry<R: Files>(
     }
 }
 
-/// Adds a name.
 fn push_name(names: &mut Vec<String>, alloc: Global, name: &str) -> io::Result<()> {
     names.push(String::from_str(alloc, name)?)?;
     Ok(())

@@ -21,7 +21,7 @@ pub struct Collected {
 }
 
 impl Collected {
-    /// Nothing was read yet.
+    /// An empty tree, without any finding or misfit.
     pub(crate) fn new(alloc: Global) -> Collected {
         Collected {
             alloc,

@@ -1,4 +1,5 @@
--- The entries of a map beside those of the definitions. No manual page has it: it is how a map of the code is seen.
+-- The entries of a map beside those of the definitions.
+-- No manual page has it: it is how a map of the code is seen.
 -- The bytes of maps stand on this file.
 use Rattle.std.specs.Prelude.{ℕ, List, map}
 

@@ -16,7 +16,7 @@ pub trait Tagged: Copy {
     /// The choice of a tag, if there is one.
     ghost with_tag: { ℕ → Option Self };
 
-    /// Its tag.
+    /// The tag of the choice.
     fn tag(&self) -> u8
         ensures { result ≡ tag_of self.now };
 
@@ -54,7 +54,7 @@ pub fn get_tag<T: Tagged>(bytes: &[u8]) -> Option<(T, usize)>
     }
 }
 
-/// 00 or 01.
+/// The tags are 00 for false and 01 for true.
 impl Tagged for bool {
     ghost tag_of = { truth_tag };
 

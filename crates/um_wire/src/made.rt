@@ -7,7 +7,7 @@ ghost use Rattle.um_model.proofs.BytesLaws.{canonical_pair, canonical_option};
 use crate::canon::Canon;
 use std::alloc::{AllocError, Global};
 
-/// One after the other.
+/// A pair: the bytes of the first, then those of the second.
 impl<A: Canon + Drop, B: Canon + Drop> Canon for (A, B) {
     ghost Value = { A.Value × B.Value };
 

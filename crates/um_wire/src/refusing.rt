@@ -6,7 +6,7 @@ ghost use Rattle.um_wire.specs.Refusal.{refused_of};
 use crate::refusal::Refusal;
 use std::alloc::{AllocError, Global};
 
-/// E2 with the verb.
+/// The refusal `E2 UnknownVerb`, with a copy of the verb.
 pub fn unknown_verb(alloc: Global, verb: &str) -> Result<Refusal, AllocError>
     ensures { IfOk result (λ r. refused_of r ≡ told.unknown_verb verb.now) }
 {
@@ -14,7 +14,7 @@ pub fn unknown_verb(alloc: Global, verb: &str) -> Result<Refusal, AllocError>
     Ok(Refusal::UnknownVerb { verb })
 }
 
-/// E3 with the text.
+/// The refusal `E3 BadName`, with a copy of the text.
 pub fn bad_name(alloc: Global, text: &str) -> Result<Refusal, AllocError>
     ensures { IfOk result (λ r. refused_of r ≡ told.bad_name text.now) }
 {
@@ -22,7 +22,7 @@ pub fn bad_name(alloc: Global, text: &str) -> Result<Refusal, AllocError>
     Ok(Refusal::BadName { text })
 }
 
-/// E4 with the unit.
+/// The refusal `E4 NotFound`, with a copy of the unit's name.
 pub fn not_found(alloc: Global, unit: &str) -> Result<Refusal, AllocError>
     ensures { IfOk result (λ r. refused_of r ≡ told.not_found unit.now) }
 {
@@ -30,7 +30,7 @@ pub fn not_found(alloc: Global, unit: &str) -> Result<Refusal, AllocError>
     Ok(Refusal::NotFound { unit })
 }
 
-/// E5 with the unit.
+/// The refusal `E5 Masked`, with a copy of the unit's name.
 pub fn masked(alloc: Global, unit: &str) -> Result<Refusal, AllocError>
     ensures { IfOk result (λ r. refused_of r ≡ told.masked unit.now) }
 {
@@ -38,7 +38,7 @@ pub fn masked(alloc: Global, unit: &str) -> Result<Refusal, AllocError>
     Ok(Refusal::Masked { unit })
 }
 
-/// E6 with the unit and the reason.
+/// The refusal `E6 BadSetting`, with copies of the unit's name and the reason.
 pub fn bad_setting(alloc: Global, unit: &str, reason: &str) -> Result<Refusal, AllocError>
     ensures { IfOk result (λ r. refused_of r ≡ told.bad_setting unit.now reason.now) }
 {
@@ -47,7 +47,7 @@ pub fn bad_setting(alloc: Global, unit: &str, reason: &str) -> Result<Refusal, A
     Ok(Refusal::BadSetting { unit, reason })
 }
 
-/// E7 with the unit.
+/// The refusal `E7 NotLoaded`, with a copy of the unit's name.
 pub fn not_loaded(alloc: Global, unit: &str) -> Result<Refusal, AllocError>
     ensures { IfOk result (λ r. refused_of r ≡ told.not_loaded unit.now) }
 {
@@ -55,7 +55,7 @@ pub fn not_loaded(alloc: Global, unit: &str) -> Result<Refusal, AllocError>
     Ok(Refusal::NotLoaded { unit })
 }
 
-/// E8 with the unit.
+/// The refusal `E8 Clash`, with a copy of the unit's name.
 pub fn clash(alloc: Global, unit: &str) -> Result<Refusal, AllocError>
     ensures { IfOk result (λ r. refused_of r ≡ told.clash unit.now) }
 {
@@ -63,7 +63,7 @@ pub fn clash(alloc: Global, unit: &str) -> Result<Refusal, AllocError>
     Ok(Refusal::Clash { unit })
 }
 
-/// E10 with the unit.
+/// The refusal `E10 JobConflict`, with a copy of the unit's name.
 pub fn job_conflict(alloc: Global, unit: &str) -> Result<Refusal, AllocError>
     ensures { IfOk result (λ r. refused_of r ≡ told.job_conflict unit.now) }
 {
@@ -71,7 +71,7 @@ pub fn job_conflict(alloc: Global, unit: &str) -> Result<Refusal, AllocError>
     Ok(Refusal::JobConflict { unit })
 }
 
-/// E11 with the path.
+/// The refusal `E11 Exists`, with a copy of the path.
 pub fn exists_at(alloc: Global, path: &str) -> Result<Refusal, AllocError>
     ensures { IfOk result (λ r. refused_of r ≡ told.exists_at path.now) }
 {
@@ -79,7 +79,7 @@ pub fn exists_at(alloc: Global, path: &str) -> Result<Refusal, AllocError>
     Ok(Refusal::Exists { path })
 }
 
-/// E12 with the path.
+/// The refusal `E12 BadPath`, with a copy of the path.
 pub fn bad_path(alloc: Global, path: &str) -> Result<Refusal, AllocError>
     ensures { IfOk result (λ r. refused_of r ≡ told.bad_path path.now) }
 {
@@ -87,7 +87,7 @@ pub fn bad_path(alloc: Global, path: &str) -> Result<Refusal, AllocError>
     Ok(Refusal::BadPath { path })
 }
 
-/// E21 with the unit.
+/// The refusal `E21 NoSuchJob`, with a copy of the unit's name.
 pub fn no_such_job(alloc: Global, unit: &str) -> Result<Refusal, AllocError>
     ensures { IfOk result (λ r. refused_of r ≡ told.no_such_job unit.now) }
 {

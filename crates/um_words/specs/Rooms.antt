@@ -1,6 +1,6 @@
--- How much room texts take, one after another. No manual page has this: it is execve(2)'s count of the arguments,
--- where a zero byte follows each. The words that a process is started with, and the length of replies, stand on this
--- file.
+-- How much room texts take, one after another.
+-- No manual page has this: it is execve(2)'s count of the arguments, where a zero byte follows each.
+-- The words that a process is started with, and the length of replies, stand on this file.
 use Rattle.std.specs.Prelude.{ℕ, ◌+◌, ◌-◌, Bool, ◌&&◌, nat_le, List, length, Option, Some, None, if◌then◌else◌}
 use Rattle.std.specs.List.{list_all, sum_by}
 use Rattle.um_words.specs.declared.room.Room.{Room}

@@ -1,6 +1,6 @@
--- The result of substitution, as functions of the command's words and the environment. Follows systemd.service(5),
--- "Command lines"; the law `a_substitution_is_found` says that it is the relation of the definitions. The words that
--- a process is started with stand on this file.
+-- The result of substitution, as functions of the command's words and the environment.
+-- Follows systemd.service(5), "Command lines"; the law `a_substitution_is_found` says that it is the relation of the definitions.
+-- The words that a process is started with stand on this file.
 use Rattle.std.specs.Prelude.{ℕ, List, [], ◌∷◌, Option, Some, None, unwrap_or}
 use Rattle.std.specs.List.{flat_map}
 use Rattle.um_model.specs.Pieces.{reading}

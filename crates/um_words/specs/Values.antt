@@ -1,5 +1,6 @@
--- The values of variables, stored under their names. No manual page has this: it is how values are found without a
--- search of the environment for each. Substitution, and the count of the room that it takes, stand on this file.
+-- The values of variables, stored under their names.
+-- No manual page has this: it is how values are found without a search of the environment for each.
+-- Substitution, and the count of the room that it takes, stand on this file.
 use Rattle.std.specs.Prelude.{◌≡◌, ℕ, List, map, option_map, string_bytes, find, reverse, bytes_eq}
 use Rattle.std.specs.BTreeMap.{get_by}
 use Rattle.std.specs.Cmp.Lexicographic.{slice_cmp}

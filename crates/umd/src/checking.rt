@@ -114,7 +114,7 @@ fn unread<R: Eprint>(rt: &R, alloc: Global, path: &str, fault: &FileFault) -> u8
     DEVICE
 }
 
-/// The report on the store on a disk that these words ask for.
+/// The report that the words want, on the store on a disk.
 fn told_of_disk<D: Disk + Drop>(
     alloc: Global,
     disk: D,

@@ -28,7 +28,7 @@ pub trait Keeps {
     fn tend(&self, state: &State, now: Instant);
 }
 
-/// The output folder, or none if no output is kept, and what was reported about it.
+/// The output folder, or none if no output is kept, and the failures that were reported.
 #[derive(Drop)]
 pub struct Keeping<'a, R: Files, E> {
     lines: &'a E,

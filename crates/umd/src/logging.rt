@@ -56,7 +56,7 @@ fn folder_told<'x>(option: Option<&'x str>, variable: Option<&'x str>) -> Option
     }
 }
 
-/// Prints the unit's output in the folder as the line asks; with `--follow`, without an end.
+/// Prints the unit's output in the folder as the line says; with `--follow`, without an end.
 fn put<R: Files + Print + Clock>(
     rt: &R,
     alloc: Global,

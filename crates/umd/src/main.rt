@@ -1,6 +1,7 @@
-//! The program `umd`: `--memory` answers the frames of standard input on standard output, `create` makes a store, `check` looks at one, `ctl` asks a
-//! manager, `status` shows how its units stand, `verify` looks at unit files, `run` runs a command for the manager, `serve` serves a store over a socket,
-//! `logs` prints what services printed, `help` says what a refusal or a word means.
+//! The program `umd`: `--memory` answers the frames of standard input on standard output, `create` makes a store,
+//! `check` reports on one, `ctl` sends a request to a manager, `status` prints the status of its units, `verify`
+//! checks unit files, `run` runs a command for the manager, `serve` serves a store over a socket, `logs` prints the
+//! output of services, `help` explains a refusal or a word.
 #![tactic(auto)]
 
 mod checking;
@@ -77,7 +78,7 @@ fn run_runner<R: Files + Net + Processes + Clock + Eprint>(
     }
 }
 
-/// Makes a new store.
+/// Makes a new store, and returns the exit status.
 fn create<R: Files<File = File> + Eprint>(rt: &R, alloc: Global, line: &CreateLine<'_>) -> u8 {
     let Some(layout) = Layout::new(line.slot, line.log) else {
         return USAGE;
@@ -156,7 +157,7 @@ fn null<R: Files<File = File>>(rt: &R) -> Option<File> {
     File::open(rt, "/dev/null").ok()
 }
 
-/// Says what is wrong with the words. If standard error fails too, only the exit status shows the error.
+/// Reports wrong words. If standard error fails too, only the exit status shows the error.
 fn put_usage<R: Eprint>(rt: &R, text: &str) -> u8 {
     let _unheard = eprint!(rt; "{text}");
     USAGE

@@ -96,7 +96,7 @@ impl Failure {
 }
 
 impl Repeats {
-    /// Nothing failed yet.
+    /// Without any failure yet.
     pub fn new(alloc: Global) -> Repeats {
         Repeats {
             alloc,

@@ -233,7 +233,7 @@ fn put_outcome<R: Net + Clock + Input>(
     }
 }
 
-/// Sends the requests of a step; `entry` is what the folder has at its path.
+/// Sends the requests of a step; `entry` is the folder's entry at its path.
 fn ask_step<R: Net + Clock + Input>(
     asking: &Asking<'_, R>,
     step: &Step,

@@ -17,7 +17,7 @@ use um_keeper::SpawnOrder;
 use um_model::Moment;
 use um_state::State;
 
-/// What was seen of the children since the last look.
+/// The processes seen since the last look.
 #[derive(Drop)]
 pub struct Tally {
     /// How many fates were queried and how many processes started, in all.
@@ -29,7 +29,7 @@ pub struct Tally {
 }
 
 impl Tally {
-    /// Nothing was seen yet.
+    /// A tally without any process.
     pub fn new() -> Tally {
         Tally {
             live: Cell::new(0),
@@ -103,7 +103,7 @@ impl<'a, C: Children + Seen, R: Eprint, K: Keeps> Telling<'a, C, R, K> {
         }
     }
 
-    /// Why a call failed.
+    /// The text of the cause for which a call failed.
     fn why(&self, fault: ChildFault) -> Result<String, AllocError> {
         let alloc = self.alloc;
         match self.children.trouble() {

@@ -67,7 +67,7 @@ fn put_findings<R: Print>(rt: &R, alloc: Global, findings: &[Finding]) -> Result
     }
 }
 
-/// Verifies unit files.
+/// Verifies unit files, prints the findings, and returns the exit status.
 pub fn verify<R: Files + Print + Eprint>(
     rt: &R,
     alloc: Global,

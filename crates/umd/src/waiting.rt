@@ -215,7 +215,7 @@ struct Running {
     since: Duration,
 }
 
-/// What a look decides.
+/// The decision after a look.
 #[derive(Clone, Copy)]
 enum Next {
     /// Look again.
@@ -224,7 +224,7 @@ enum Next {
     Missed,
 }
 
-/// What a look decides that finds a process running under this number, given the process that ran before.
+/// The decision after a look that finds a process running under this number, given the process that ran before.
 fn next_of_running(number: u64, before: Option<Running>, spent: Duration) -> Next {
     let Some(running) = before else {
         let since = spent;
@@ -240,7 +240,7 @@ fn next_of_running(number: u64, before: Option<Running>, spent: Duration) -> Nex
     }
 }
 
-/// What a look decides that finds this standing, given the process that ran before.
+/// The decision after a look that finds this standing, given the process that ran before.
 fn next_of(standing: Standing, before: Option<Running>, spent: Duration) -> Next {
     match standing {
         Standing::Moving => Next::Again(before),
