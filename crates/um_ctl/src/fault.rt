@@ -30,7 +30,7 @@ pub enum CtlFault {
     Write(io::Error),
     /// The received bytes are no reply.
     NoReply,
-    /// A growth of memory was refused.
+    /// An allocation failed.
     NoMemory,
 }
 

@@ -34,7 +34,7 @@ option_rule name = record (new_rule name) { long = Some name; required = true; v
 abbrev pub word_rule : List ℕ → Rule
 word_rule name = record (new_rule name) { required = true; value_names = 1 }
 
--- an optional option
+-- an option that may be omitted
 abbrev pub optional_rule : List ℕ → Rule
 optional_rule name = record (new_rule name) { long = Some name; value_names = 1 }
 
@@ -42,7 +42,7 @@ optional_rule name = record (new_rule name) { long = Some name; value_names = 1 
 abbrev pub flag_rule : List ℕ → Rule
 flag_rule name = record (new_rule name) { long = Some name; action = Some SetTrue }
 
--- an optional option of one letter
+-- an option of one letter that may be omitted
 abbrev pub letter_rule : List ℕ → ℕ → Rule
 letter_rule name letter = record (new_rule name) { short = Some letter; value_names = 1 }
 

@@ -72,7 +72,7 @@ pub fn with_word<'a>(
     command.arg(word(alloc, name, value, help))
 }
 
-/// An optional option of this name with one value.
+/// An option of this name with one value, which may be omitted.
 pub fn optional<'a>(alloc: Global, name: &'a str, value: &'a str, help: &'a str) -> Arg<'a>
     ensures rule { rule_of result ≡ optional_rule name.entry.now }
     ensures local { result.global ≡ false }
@@ -83,7 +83,7 @@ pub fn optional<'a>(alloc: Global, name: &'a str, value: &'a str, help: &'a str)
         .help(help)
 }
 
-/// The command with one more optional option.
+/// The command with one more option that may be omitted.
 pub fn with_optional<'a>(
     command: Command<'a>,
     alloc: Global,
@@ -135,7 +135,7 @@ pub fn letter_flag<'a>(alloc: Global, name: &'a str, short: char, help: &'a str)
         .action(ArgAction::SetTrue)
 }
 
-/// The command with one more optional option of one letter.
+/// The command with one more option of one letter, which may be omitted.
 pub fn with_letter<'a>(
     command: Command<'a>,
     alloc: Global,

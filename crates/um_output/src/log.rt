@@ -19,7 +19,7 @@ pub enum LogFault {
     Read(String, io::Error),
     /// The output can't be written.
     Write(io::Error),
-    /// A growth of memory was refused.
+    /// An allocation failed.
     NoMemory,
 }
 

@@ -61,10 +61,10 @@ fn push_piece(text: &mut Vec<u8>, c: Option<char>, bytes: &[u8]) -> Result<(), A
     }
 }
 
-/// The bytes as they are shown. Each byte of the following becomes `\x` and two lower-case hexadecimal digits: a
-/// control character (below U+0020, and U+007F to U+009F) other than line feed and tab, a mark of direction (U+061C,
-/// U+200E, U+200F, U+202A to U+202E, U+2066 to U+2069), and anything that isn't UTF-8. Other characters are shown as
-/// they are.
+/// The bytes as they are shown. A control character (below U+0020, and U+007F to U+009F) other than line feed and
+/// tab, a mark of direction, and anything that isn't UTF-8 becomes `\x` and two lower-case hexadecimal digits for
+/// each byte. The marks are U+061C, U+200E, U+200F, U+202A to U+202E and U+2066 to U+2069. Other characters are shown
+/// as they are.
 pub fn printed(alloc: Global, bytes: &[u8]) -> Result<Vec<u8>, AllocError>
     ensures { IfOk result (λ text. text.items ≡ model.shown bytes.now) }
 {

@@ -217,8 +217,8 @@ fn asking_by<'v>(mode: Mode, verb: Verb, value: &'v Value) -> Option<Asking<'v>>
     asking_with(verb, value)
 }
 
-/// The request of an object, or the first cause why it is none. A unit's name would be checked last, and is not
-/// checked here.
+/// The request of an object, or the first cause why it is none. A unit's name, which is checked last, is not checked
+/// here.
 #[tactic(auto, unfolding(um_model::specs::Requests::request_of_data))]
 pub fn draft_of<'v>(mode: Mode, value: &'v Value) -> Result<Draft<'v>, Cause<'v>>
     ensures { leads_to result ≡ model.request_of_data mode (view value.now) }

@@ -29,7 +29,7 @@ use um_words::Room;
 /// The longest text of a reply, in bytes.
 const REPLY_LIMIT: usize = 1 << 24;
 
-/// The room of a reply for the words of its actions: each takes two quotes and a comma or a bracket beside it.
+/// The room of a reply for the words of its actions: each takes two quotes and a comma or a bracket in addition.
 fn room_of_words() -> Room
     ensures total { result.total ≡ model.reply_limit }
     ensures longest { result.longest ≡ result.total }

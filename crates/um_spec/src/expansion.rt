@@ -99,10 +99,10 @@ fn expand_with(
     Ok(Some(expanded))
 }
 
-/// The text with its specifiers expanded under the unit's name: `%n` the full name, `%N` the name without its suffix,
-/// `%p` the text before the first `@` of that, or all, `%i` the instance as written, empty without one, `%I` the
-/// instance unescaped, `%j` the text after the last `-` of `%p`, or all, and `%%` a `%` (systemd.unit(5),
-/// "Specifiers"). A `%` before anything but a letter stays, also at the end. `None` if a `%` is followed by another
+/// The text with its specifiers expanded under the unit's name (systemd.unit(5), "Specifiers"). `%n` is the full
+/// name, `%N` the name without its suffix. `%p` is the text before the first `@` of that, or all; `%i` the instance
+/// as written, empty without one; `%I` the instance unescaped. `%j` is the text after the last `-` of `%p`, or all,
+/// and `%%` a `%`. A `%` before anything but a letter stays, also at the end. `None` if a `%` is followed by another
 /// letter, and if there is a `%I` and the instance is ill escaped or isn't UTF-8.
 pub fn expand(alloc: Global, text: &str, unit: &UnitName) -> Result<Option<String>, AllocError>
     ensures { IfOk result (λ r. option_map string_bytes r ≡ expanded_of unit.now text.now) }

@@ -7,12 +7,12 @@ ghost use Rattle.um_model.specs.Text.{trim_start};
 ghost use Rattle.um_model.specs.Text.{IsCutInFront, IsCutAtEnd};
 ghost use Rattle.um_model.specs.FileForms.{trim_end};
 
-/// Trimming in front is a cut at the end of the leading whitespace, as far as it goes.
+/// Trimming in front cuts off whitespace and nothing else, as far as it goes.
 pub fn trimming_in_front()
     ensures { (text rest : List ℕ) → IsCutInFront text rest ↔ (rest ≡ trim_start text) }
 {}
 
-/// Trimming at the end is a cut before the trailing whitespace, as far as it goes.
+/// Trimming at the end cuts off whitespace and nothing else, as far as it goes.
 pub fn trimming_at_the_end()
     ensures { (text rest : List ℕ) → IsCutAtEnd text rest ↔ (rest ≡ trim_end text) }
 {}

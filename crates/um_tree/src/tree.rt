@@ -186,10 +186,10 @@ impl Tree {
         Ok(())
     }
 
-    /// Puts a file with the text at the path, in place of a file that is there. Refused, with the tree unchanged,
-    /// are, in this order: a path that isn't served (E12), one at which there is a link (E11), a text of more than
-    /// 65,536 bytes (E13 `text`), and a new path if there are 4,096 entries (E13 `entries`). An exceeded limit is
-    /// reported without memory.
+    /// Puts a file with the text at the path, in place of a file that is there. Refused, with the tree unchanged, are
+    /// a path that isn't served (E12); one at which there is a link (E11); a text of more than 65,536 bytes (E13
+    /// `text`); and a new path if there are 4,096 entries (E13 `entries`). The first of these is reported. An
+    /// exceeded limit is reported without memory.
     #[tactic(auto, unfolding(um_model::specs::Tree::put_file))]
     pub fn put(&mut self, path: &str, text: &str) -> Result<(), Refusal>
         ensures ok { OnOk result (model.put_file self.old path.now text.now ≡ Ok self.new) }

@@ -41,7 +41,7 @@ impl ExitSet {
         }
     }
 
-    /// Whether the end is in the set. An unknown end is in none.
+    /// Whether the end is in the set. A lost end is in none.
     pub fn holds(&self, end: End) -> bool
         ensures { result ≡ holds self.now end }
     {

@@ -19,13 +19,13 @@ use Rattle.um_wire.specs.Entries.{seen}
 abbrev some : {A : Type 0} → A → Option A
 some x = Some x
 
--- the entries in the map and the remaining ones are all; only the remaining ones may have keys that are none
+-- the entries in the map and the remaining ones are all; a text that is no key can only be among the remaining ones
 pub record IsMade {Y : Type 0} (is_key : List ℕ → Bool) (made left all : List (List ℕ × Y)) : Type 0 where
   pub parts : made ++ left ≡ all
   pub keys : are_keys is_key left ≡ are_keys is_key all
 
--- the entries put and the remaining ones are all; if the remaining ones fit, all do; only the remaining ones may have
--- keys that are none
+-- the entries put and the remaining ones are all; if the remaining ones fit, all do; a text that is no key can only
+-- be among the remaining ones
 pub record IsPut {Y : Type 0} (is_key : List ℕ → Bool) (fits : Y → Type 0) (one : Spelling Y) (left all : List (List ℕ × Y)) (start old out : List ℕ) : Type 0 where
   pub bytes : out ++ flat_map (pair_spelling text_spelling one) left ≡ start ++ flat_map (pair_spelling text_spelling one) all
   pub fit : AllByRecursion (λ e. FitText e.0 × fits e.1) left → AllByRecursion (λ e. FitText e.0 × fits e.1) all

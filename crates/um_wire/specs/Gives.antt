@@ -10,7 +10,7 @@ abbrev pub Gives : {X Y : Type 0} → (X → Y) → Result X Refusal → Result 
 Gives view (Ok x) defined = defined ≡ Ok (view x)
 Gives view (Err e) defined = ¬ (e ≡ NoMemory) → defined ≡ Err (refused_of e)
 
--- the call passes if no refusal has a cause, or is refused for one that has; or an allocation failed
+-- the call passes and no refusal has a cause, or it is refused for one that has; or an allocation failed
 abbrev pub RefusesBy : {X : Type 0} → (Refused → Type 0) → Result X Refusal → Type 0
 RefusesBy Cause (Ok done) = (r : Refused) → ¬ Cause r
 RefusesBy Cause (Err e) = (e ≢ NoMemory) → Cause (refused_of e)

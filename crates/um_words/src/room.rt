@@ -10,7 +10,7 @@ pub struct Room {
     pub total: u32,
     /// The most that each of them may take.
     pub longest: u32,
-    /// The bytes that each takes beside its own.
+    /// The bytes that each takes in addition to its own.
     pub beside: u32,
 }
 

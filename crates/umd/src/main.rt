@@ -1,7 +1,7 @@
-//! The program `umd`: `--memory` answers the frames of standard input on standard output, `create` makes a store,
-//! `check` reports on one, `ctl` sends a request to a manager, `status` prints the status of its units, `verify`
-//! checks unit files, `run` runs a command for the manager, `serve` serves a store over a socket, `logs` prints the
-//! output of services, `help` explains a refusal or a word.
+//! The program `umd`. `--memory` answers the frames of standard input on standard output, `create` makes a store, and
+//! `check` reports on one. `serve` serves a store over a socket, and `run` runs a command for the manager. `ctl`
+//! sends a request to a manager, `status` prints the status of its units, `logs` prints the output of services.
+//! `verify` checks unit files, and `help` explains a refusal or a word.
 #![tactic(auto)]
 
 mod checking;

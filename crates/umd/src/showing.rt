@@ -37,7 +37,7 @@ enum ShowFault {
     Asked(CtlFault),
     /// A file can't be read.
     Read(String, io::Error),
-    /// A growth of memory was refused.
+    /// An allocation failed.
     NoMemory,
 }
 

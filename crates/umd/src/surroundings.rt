@@ -1,6 +1,6 @@
-//! The inputs of a run of the program beside its words.
+//! The inputs of a run of the program other than its words.
 
-/// The inputs of a run of the program beside its words.
+/// The inputs of a run of the program other than its words.
 #[derive(Clone, Copy)]
 pub struct Surroundings<'a> {
     /// Standard output is a terminal.
