@@ -1,17 +1,16 @@
 //! `umd check`: reports the state of a store that no manager serves, or why the store can't be opened.
 
-use crate::lines::put_line;
-use crate::messages::{DEVICE, REFUSED, put_text, tell_uncounted};
-use crate::places::open_read_only;
 use serde_json::Value;
 use std::alloc::Global;
 use std::fs::{File, Files};
 use std::time::Clock;
+use um_commands::put_text;
 use um_ctl::told_of;
+use um_daemon::{open_read_only, tell_uncounted};
 use um_engine::Engine;
 use um_filedisk::FileFault;
 use um_keeper::{Summary, inspect, look};
-use um_line::CheckLine;
+use um_line::{CheckLine, DEVICE, REFUSED, put_line};
 use um_memory::Fault;
 use um_proto::{Verb, write_reply};
 use um_sector::Disk;

@@ -5,30 +5,11 @@
 #![tactic(auto)]
 
 mod checking;
-mod controlling;
-mod keeping;
-mod lines;
-mod logging;
 mod messages;
-mod places;
-mod repeats;
-mod serving;
-mod showing;
-mod starting;
-mod surroundings;
-mod syncing;
-mod telling;
 mod um_bin;
-mod verifying;
-mod waiting;
-mod waking;
 
 use checking::check;
-use controlling::ctl;
-use logging::logs;
-use messages::{DEVICE, REFUSED, USAGE, put_text, report, status_of, tell_create};
-use serving::serve_store;
-use showing::show_units;
+use messages::{report, status_of, tell_create};
 use std::alloc::{AllocError, Global};
 use std::env::Env;
 use std::fs::{File, Files};
@@ -37,16 +18,14 @@ use std::net::Net;
 use std::process::{ExitCode, Processes};
 use std::time::Clock;
 use std::{env, io, process};
-use surroundings::Surroundings;
-use syncing::sync;
-use um_bin::{memory, read_line};
+use um_bin::{memory, read_line, serve_store};
+use um_commands::{Surroundings, ctl, logs, put_text, show_units, sync, verify};
 use um_create::{Layout, create_store};
 use um_ctl::{meaning_line, shown};
-use um_line::{CreateLine, Line, TopicLine};
+use um_line::{CreateLine, DEVICE, Line, REFUSED, TopicLine, USAGE};
 use um_memory::{Ending, Fault};
 use um_runner::{FolderFault, RunnerLine};
 use um_sentences::{reason_lines, topic_help};
-use verifying::verify;
 
 /// The number of the first process of a machine or container.
 const FIRST: u32 = 1;

@@ -1,13 +1,13 @@
 //! `umd ctl`: sends a request to the manager at a socket, and prints its reply.
 
-use crate::messages::{USAGE, ctl_fault, put_text};
+use crate::answers::{ctl_fault, put_text};
 use crate::surroundings::{Surroundings, told};
 use crate::waiting::wait;
 use std::alloc::Global;
 use std::net::Net;
 use std::time::Clock;
 use um_ctl::{Patience, Told, Words, ask, on_terminal};
-use um_line::CtlLine;
+use um_line::{CtlLine, USAGE};
 use um_memory::Fault;
 use um_status::Goal;
 

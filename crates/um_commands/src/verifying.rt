@@ -1,11 +1,10 @@
 //! `umd verify`: which units of folders and files can't be loaded and why, and which of their lines have no effect.
 
-use crate::lines::put_line;
-use crate::messages::{DEVICE, REFUSED, USAGE, put_text};
+use crate::answers::put_text;
 use crate::showing::push_shown;
 use std::alloc::{AllocError, Global};
 use std::fs::Files;
-use um_line::VerifyLine;
+use um_line::{DEVICE, REFUSED, USAGE, VerifyLine, put_line};
 use um_memory::Fault;
 use um_verify::{Finding, VerifyFault, collect};
 

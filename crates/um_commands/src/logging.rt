@@ -1,13 +1,11 @@
 //! `umd logs`: prints the output of a unit's processes.
 
-use crate::lines::put_line;
-use crate::messages::{DEVICE, REFUSED, USAGE};
 use std::alloc::{AllocError, Global};
 use std::fs::Files;
 use std::time::{Clock, Duration};
 use std::{io, thread};
 use um_ctl::{Words, request};
-use um_line::LogsLine;
+use um_line::{DEVICE, LogsLine, REFUSED, USAGE, put_line};
 use um_memory::Fault;
 use um_name::UnitName;
 use um_output::{Log, LogFault};

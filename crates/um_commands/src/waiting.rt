@@ -1,7 +1,6 @@
 //! `umd ctl --wait`: waits until a unit has started or stopped.
 
-use crate::lines::put_line;
-use crate::messages::{DEVICE, REFUSED, ctl_fault};
+use crate::answers::ctl_fault;
 use serde_json::Value;
 use std::alloc::Global;
 use std::io::Read;
@@ -9,7 +8,7 @@ use std::net::Net;
 use std::thread;
 use std::time::{Clock, Duration, Instant};
 use um_ctl::{CtlFault, Patience, Told, Words, ask};
-use um_line::CtlLine;
+use um_line::{CtlLine, DEVICE, REFUSED, put_line};
 use um_memory::Fault;
 use um_status::{Goal, Standing, standing_line, standing_of, unit_shown};
 

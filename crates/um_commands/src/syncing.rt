@@ -1,8 +1,7 @@
 //! `umd ctl sync`: brings the files of a folder into a manager's tree.
 
+use crate::answers::{ctl_fault, put_text};
 use crate::controlling::lacks_socket;
-use crate::lines::put_line;
-use crate::messages::{DEVICE, REFUSED, ctl_fault, put_text};
 use crate::surroundings::{Surroundings, told};
 use crate::verifying::tell_unread;
 use crate::waiting::Asking;
@@ -13,7 +12,7 @@ use std::net::Net;
 use std::time::Clock;
 use std::{fs, io};
 use um_ctl::{CtlFault, Told, Words};
-use um_line::SyncLine;
+use um_line::{DEVICE, REFUSED, SyncLine, put_line};
 use um_memory::Fault;
 use um_sync::{Action, Ledger, Mark, Step, steps_of};
 use um_tree::{Entry, Tree};

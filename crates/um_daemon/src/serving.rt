@@ -1,12 +1,11 @@
 //! `umd serve`: one loop over a store, children and a socket.
 
+use crate::endings::{tell_ending, tell_uncounted};
 use crate::keeping::{Keeping, Keeps};
 use crate::lines::Lines;
-use crate::messages::{DEVICE, REFUSED, tell_ending, tell_uncounted};
 use crate::places::{Taken, lacks, news_in, take_places};
 use crate::starting::{request_in, start_first};
 use crate::telling::{News, Tally, Telling};
-use crate::um_bin::serve;
 use crate::waking::Waking;
 use std::alloc::{AllocError, Global};
 use std::fs::{File, Files};
@@ -18,12 +17,12 @@ use um_children::{Children, RunnerDir};
 use um_filedisk::FileDisk;
 use um_gate::{Moments, SocketGate, SystemMoments, system_moment};
 use um_keeper::{OpenedStore, look};
-use um_line::ServeLine;
+use um_line::{DEVICE, REFUSED, ServeLine};
 use um_manager::Manager;
 use um_model::{Deadline, Moment};
 use um_output::{OpenFault, Outputs};
 use um_sector::Disk;
-use um_serve::{Buffered, pause};
+use um_serve::{Buffered, pause, serve};
 use um_state::BootId;
 use um_wire::Refusal;
 

@@ -1,36 +1,21 @@
-//! Lines on standard error: no control character goes out as it is, and a manager that serves never waits for them.
+//! Standard error of a manager that serves, which never waits for it.
 
 use mio::unix::SourceFd;
 use mio::{Events, Interest, Poll, Token};
-use std::alloc::{AllocError, Global};
+use std::alloc::Global;
 use std::cell::{Cell, RefCell};
 use std::fmt::Display;
 use std::io;
 use std::io::ErrorKind;
 use std::net::Net;
 use std::time::Duration;
-use um_ctl::shown;
+use um_line::shown_line;
 
 /// The descriptor of standard error.
 const STANDARD_ERROR: i32 = 2;
 
 /// A longer line is cut to this many bytes: a pipe that takes anything takes 4,096 bytes at once.
 const LONGEST: usize = 4_000;
-
-/// The line with its control characters escaped.
-fn shown_line<D: Display + Drop>(alloc: Global, line: D) -> Result<String, AllocError> {
-    let text = String::format(alloc, line)?;
-    shown(alloc, text.as_str())
-}
-
-/// Puts a line on standard error, and waits until it is taken. If standard error fails, only the exit status shows
-/// the error.
-pub fn put_line<R: Eprint, D: Display + Drop>(rt: &R, alloc: Global, line: D) {
-    let _unheard = match shown_line(alloc, line) {
-        Ok(text) => eprintln!(rt; "{text}"),
-        Err(_) => eprintln!(rt; "E15 NoMemory"),
-    };
-}
 
 /// The front of the line that goes out.
 fn cut(line: &str) -> &str {

@@ -1,12 +1,12 @@
 //! `umd serve --start UNIT`: the first request after a new boot.
 
-use crate::messages::{REFUSED, USAGE};
 use crate::telling::News;
 use serde_json::Value;
 use std::alloc::{AllocError, Global};
 use um_children::Children;
 use um_ctl::{Words, request, told_of};
 use um_gate::Moments;
+use um_line::{REFUSED, USAGE};
 use um_manager::{Connection, Manager, Piece, Pieces};
 use um_proto::{Mode, Verb, read_request};
 use um_sector::Disk;

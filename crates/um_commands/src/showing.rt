@@ -1,8 +1,7 @@
 //! `umd status`: prints the state of units.
 
+use crate::answers::{ctl_fault, put_text};
 use crate::controlling::lacks_socket;
-use crate::lines::put_line;
-use crate::messages::{DEVICE, ctl_fault, put_text};
 use crate::surroundings::{Surroundings, told};
 use crate::waiting::{Answer, Asking, refused, value_of};
 use serde_json::Value;
@@ -13,7 +12,7 @@ use std::io::{ErrorKind, Read, Seek, SeekFrom};
 use std::net::Net;
 use std::time::Clock;
 use um_ctl::{CtlFault, Told, shown};
-use um_line::StatusLine;
+use um_line::{DEVICE, StatusLine, put_line};
 use um_memory::Fault;
 use um_model::ProcessNumber;
 use um_runner::FolderFault;

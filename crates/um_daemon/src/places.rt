@@ -1,6 +1,6 @@
 //! The places that a server uses: its store, the folder of its processes, its socket, and the output folder.
 
-use crate::messages::{DEVICE, REFUSED, USAGE, tell_ending};
+use crate::endings::tell_ending;
 use std::alloc::Global;
 use std::fmt::Display;
 use std::fs::{File, Files};
@@ -13,7 +13,7 @@ use std::{fs, thread};
 use um_children::{OpenFault, RunnerDir, take_folder};
 use um_filedisk::{DirectoryLock, FileDisk, FileFault, is_same_place};
 use um_gate::look_at_socket;
-use um_line::ServeLine;
+use um_line::{DEVICE, REFUSED, ServeLine, USAGE};
 use um_runner::news_path;
 use um_wire::Refusal;
 
