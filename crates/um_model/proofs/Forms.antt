@@ -59,7 +59,7 @@ ends_in text s = ends_with nat_eq text (suffix_text s)
 abbrev pub stem_before : List ℕ → Option Suffix → List ℕ
 stem_before text suffix = option_map_or (λ s. take (length text - length (suffix_text s)) text) suffix text
 
--- what is read next, as a list
+-- the next reading, as a list
 abbrev pub asked_in : Option Asked → List Asked
 asked_in asked = option_to_list asked
 
@@ -87,7 +87,7 @@ cause b r = if b then Some r else None
 abbrev pub is_before_next : JobShown → List JobShown → Bool
 is_before_next j more = option_map_or (is_job_before j) (slice_get more 0) true
 
--- what stands behind the tag of an entry
+-- the fields after the tag of an entry
 abbrev pub entry_fields : Spelling Entry
 entry_fields e = text_spelling (text_of_entry e)
 

@@ -27,7 +27,7 @@ find-same : {X : Type 0} (p q : X → Bool) (xs : List X) → ((x : X) → p x �
 find-same p q [] same = refl
 find-same p q (x ∷ xs) same = ap (λ b. cond b (Some x) (find p xs)) (same x) ∙ ap (λ r. cond (q x) (Some x) r) (find-same p q xs same)
 
--- How a text ends, seen from behind.
+-- How a text ends, read from its end.
 
 abbrev begins : List ℕ → List ℕ → Bool
 begins [] ys = true

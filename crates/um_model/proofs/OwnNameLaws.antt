@@ -30,11 +30,11 @@ same_type unit other same =
     sym (suffix_of_text (suffix_of unit))
     ∙ (ap suffix_of ((bytes_eq-Decides (suffix_text_of (suffix_of unit)) (suffix_text_of (suffix_of other))).0 same) ∙ suffix_of_text (suffix_of other))
 
--- the unit has the name that was asked for, or a unit name
+-- the unit has the given name, or a unit name
 abbrev pub AskedOrName : List ℕ → List ℕ → Type 0
 AskedOrName asked unit = (unit ≡ asked) ⊎ (is_unit_name unit ≡ true)
 
--- a unit to which the asked name leads has that name's type, is led to the same by its own name in however many hops, and is named so or by a unit name
+-- a unit to which the given name leads has that name's type; its own name leads to the same in any number of hops, and is the given name or a unit name
 record Stays (tree : Tree) (asked unit : List ℕ) (r : Resolution) : Type 0 where
   type : suffix_of asked ≡ suffix_of unit
   stays : (hops : ℕ) → resolved hops tree unit ≡ r
@@ -99,12 +99,12 @@ returns : (hops : ℕ) (tree : Tree) (unit : List ℕ) → Returns tree unit (re
 returns zero tree unit = returns_at tree unit (λ other. Nowhere) (λ other. tt) (held tree unit) refl
 returns (suc hops) tree unit = returns_at tree unit (resolved hops tree) (returns hops tree) (held tree unit) refl
 
--- the unit's own name leads to the same in all hops that are allowed, and is the asked one or a unit name
+-- the unit's own name leads to the same in all hops that are allowed, and is the given name or a unit name
 record OwnName (tree : Tree) (asked unit : List ℕ) (r : Resolution) : Type 0 where
   leads : resolution_of tree unit ≡ r
   is_name : AskedOrName asked unit
 
--- so does that of the unit to which the asked name leads, where it leads to one
+-- the unit to which the given name leads, if it leads to one, has such an own name
 abbrev HasOwn : Tree → List ℕ → Resolution → Type 0
 HasOwn tree asked (AtFile unit path text) = OwnName tree asked unit (AtFile unit path text)
 HasOwn tree asked (AtNoFile unit) = OwnName tree asked unit (AtNoFile unit)
@@ -141,7 +141,7 @@ name_at_file tree asked unit path text =
     let sources = sources_at tree.entries (AtFile unit path text) in
     name_by_reason asked (unit_by tree.profile unit (Some path) sources) (reason_of tree.profile unit (assignments_in (suffix_of unit) sources))
 
--- the name that counts is that of what was found
+-- the name that counts is that of the unit that was found
 pub named_by_loading : (tree : ReadTree) (asked : List ℕ) → unit_named tree.entries asked ≡ name_in asked (load tree asked)
 unfolding load
 named_by_loading tree asked = by_resolution (resolution_of tree.entries asked)
@@ -152,7 +152,7 @@ named_by_loading tree asked = by_resolution (resolution_of tree.entries asked)
     by_resolution (AtMask unit) = refl
     by_resolution Nowhere = refl
 
--- the name that counts for one that was asked for is that one or a unit name
+-- the name that counts for a given name is that name or a unit name
 pub named_or_asked : (tree : Tree) (asked : List ℕ) → AskedOrName asked (unit_named tree asked)
 named_or_asked tree asked = by_resolution (resolution_of tree asked) (own_resolution tree asked)
   where

@@ -122,7 +122,7 @@ same_job_state Running Running = inl refl
 same_job_state Waiting Running = inr (λ e. cc)
 same_job_state Running Waiting = inr (λ e. cc)
 
--- a test that decides tells whether
+-- a test that decides it shows which
 by_test : {P : Type 0} (b : Bool) → Decides b P → IsDecided P
 by_test true decides = inl (decides.0 refl)
 by_test false decides = inr (λ is. true≢false (sym (decides.1 is)))

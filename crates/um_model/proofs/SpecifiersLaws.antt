@@ -32,7 +32,7 @@ unescaped_as escaped (Some bytes) e =
           true≢false (sym (is_utf8-from_IsUtf8 more utf8) ∙ ap is_utf8 (one_reading unescape_front escaped more bytes means stands) ∙ other))
     ]
 
--- the function tells what an instance's escapes stand for
+-- the function returns the text that an instance's escapes stand for
 pub IsUnescaped-unescaped_of : (escaped : List ℕ) → IsUnescaped escaped (unescaped_of escaped)
 IsUnescaped-unescaped_of escaped = unescaped_as escaped (reading unescape_front escaped) refl
 
@@ -55,7 +55,7 @@ IsExpanded-expanded_of name text expanded e =
       pieces = StandsForText-reading (specifier_front name (unescaped_of instance)) text expanded e;
     }
 
--- the function finds what the relation tells
+-- the function finds what the relation says
 pub finds_expanded : (name text : List ℕ) → Finds (expanded_of name text) (IsExpanded name text)
 finds_expanded name text = λ expanded. (IsExpanded-expanded_of name text expanded, expanded_of-IsExpanded name text expanded)
 

@@ -1,4 +1,4 @@
--- The reading of a unit file, told as a relation and as functions; its lines rise.
+-- The reading of a unit file, as a relation and as functions; its lines rise.
 use Rattle.std.proofs.Common.{◌≡◌, ◌<◌, ◌≤◌, ℕ, ◌+◌, ◌-◌, zero, suc, Bool, true, false, not, ◌&&◌, ◌||◌, cond, eqb, List, [], ◌∷◌, ◌++◌, length, get_or, take, drop, map, append_assoc, length-append, Option, Some, None, refl, sym, ap, ◌∙◌, subst, inl, inr, arith}
 use Rattle.std.specs.List.{AllPass, list_all, prefix_len, position_or_len, before_first, after_first, take_while, slice_index}
 use Rattle.std.specs.List.Sorted.{IsStrictlyIncreasing}
@@ -163,7 +163,7 @@ prefix_passes q (x ∷ xs) = ap (list_all q) (take_while-cons q x xs) ∙ by_tes
     by_test true is later = rw is later
     by_test false is later = refl
 
--- the first `=` stands behind what has none
+-- the first `=` stands after a text that has none
 first_equals : (before after : List ℕ) → has_no_equals before ≡ true → position_or_len (λ b. eqb b 61) (before ++ 61 ∷ after) ≡ length before
 first_equals before after fit =
     let q : ℕ → Bool = λ b. not (eqb b 61) in

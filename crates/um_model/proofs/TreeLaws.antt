@@ -37,7 +37,7 @@ tied Greater e = cc
 same_order : (a b : List ℕ) → eq_by_cmp (slice_cmp nat_cmp) a b ≡ true → a ≡ b
 same_order a b e = slice_cmp-IsAntisymmetric nat_cmp-IsAntisymmetric a b (tied _ e)
 
--- where none of three causes is told, none of them holds
+-- if none of three causes is named, none of them holds
 pub none_of_three : (a b c : Bool) (r s t : Refused) → cond a (Some r) (cond b (Some s) (cond c (Some t) None)) ≡ None → (a ≡ false) × (b ≡ false) × (c ≡ false)
 none_of_three true b c r s t e = cc
 none_of_three false true c r s t e = cc
@@ -195,7 +195,7 @@ both_parts false b h = absurd h
 abbrev Fits : List (List ℕ × Entry) → Type 0
 Fits es = (q : List ℕ) → is_fit_at q (find (slice_cmp nat_cmp) q es) ≡ true
 
--- what is found behind an entry is found with it, or nothing is
+-- if entries with one more in front fit, so do those after it
 find-behind : (k : List ℕ) (entry : Entry) (es : List (List ℕ × Entry)) → T (below_all (slice_cmp nat_cmp) k es) → Fits ((k, entry) ∷ es) → Fits es
 find-behind k entry es below fits q =
     (elim (eq_by_cmp (slice_cmp nat_cmp) q k) as (λ b. eq_by_cmp (slice_cmp nat_cmp) q k ≡ b → is_fit_at q (cond b (Some entry) (find (slice_cmp nat_cmp) q es)) ≡ true → is_fit_at q (find (slice_cmp nat_cmp) q es) ≡ true) [
@@ -215,7 +215,7 @@ all_fit (e ∷ es) sorted fits =
 pub entries-fit : (tree : Tree) → IsTree tree → list_all (λ e. is_fit_entry e.0 e.1) (map.entries tree) ≡ true
 entries-fit tree is = all_fit (map.entries tree) (map.entries_sorted tree) (λ q. ap (is_fit_at q) (sym (map.get-entries tree q)) ∙ is.fit q)
 
--- ---- what is found in a text stands in it
+-- ---- parts found in a text stand in it
 
 cond_some : {A : Type 0} (b : Bool) (x y : A) → cond b (Some x) None ≡ Some y → (b ≡ true) × (x ≡ y)
 cond_some true x y e = (refl, same_Some x y e)
@@ -305,7 +305,7 @@ path-parts path None found p e = cc
 path-parts path (Some q) found p e =
     subst (λ text. IsPathOf text p) (sym (layer-parts path _ _ _ refl refl refl q found)) (fit-parts q.0 q.1 _ refl p e)
 
--- the parts that are told are those of the path
+-- the parts returned are those of the path
 pub path_of_parts : (path : List ℕ) (p : PathParts) → path_parts path ≡ Some p → IsPathOf path p
 unfolding path_parts
 path_of_parts path p e = path-parts path (layer_and_rest path) refl p e
@@ -448,13 +448,13 @@ unit-place unit (DropIn name) is = in_directory unit (codes ".d") (name ++ codes
 unit-place unit (Wants other) is = in_directory unit (codes ".wants") other _ is refl (in_wants unit other)
 unit-place unit (Requires other) is = in_directory unit (codes ".requires") other _ is refl (in_requires unit other)
 
--- the parts of a path of a unit name are told where they fit together
+-- the parts of a path of a unit name are returned if they fit together
 pub parts_at : (p : PathParts) → is_unit_name p.unit ≡ true → path_parts (path_text p) ≡ cond (is_fit_place p.unit p.place) (Some p) None
 unfolding path_parts
 parts_at p is =
     ap parts_behind (layer-text p.layer (p.unit ++ place_text p.place)) ∙ ap (λ o. o >>= λ u. where_fit (parts_of p.layer u)) (unit-place p.unit p.place is)
 
--- the parts of a path are told
+-- the parts of a path are returned
 pub parts_of_path : (path : List ℕ) (p : PathParts) → IsPathOf path p → path_parts path ≡ Some p
 parts_of_path path p of =
     ap path_parts of.spelled ∙ parts_at p (fit-name p.unit p.place of.fit) ∙ cond-true (is_fit_place p.unit p.place) (Some p) None of.fit

@@ -97,7 +97,7 @@ module _ {A : Type 0} (nothing : A) where
   same_held (Some x) None h k e = absurd (h (ap Some e))
   same_held (Some x) (Some y) h k e = ap Some e
 
-  -- tidy maps that tell the same of each name are the same
+  -- tidy maps that say the same of each name are the same
   pub same_tidy : (m n : ByUnit A) → IsTidy m → IsTidy n → ((k : List ℕ) → unwrap_or (map.get m k) nothing ≡ unwrap_or (map.get n k) nothing) → m ≡ n
   same_tidy m n h g e =
       map.same_map nat_list_cmp_total (map.slice_cmp-IsAntisymmetric map.nat_cmp-IsAntisymmetric) m n (λ k. same_held (map.get m k) (map.get n k) (h k) (g k) (e k))
@@ -126,7 +126,7 @@ not_dead u h e = true≢false (ap holds_nothing (sym e) ∙ h)
 pub not_jobless : (j : UnitJobs) → has_job j ≡ true → j ≢ no_jobs
 not_jobless j h e = true≢false (sym h ∙ ap has_job e)
 
--- what is put into tidy units leaves them so
+-- a unit put into tidy units leaves them tidy
 pub tidy_units : (units : ByUnit UnitState) (unit : List ℕ) (u : UnitState) → IsTidy dead_unit units → IsTidy dead_unit (with_unit units unit u)
 tidy_units units unit u h = by_test (holds_nothing u) refl
   where

@@ -1,6 +1,6 @@
 -- Words as commands.
 -- Follows systemd.service(5), "Command lines".
--- The settings of units and the start of a process stand on this file.
+-- The settings of units and the start of a process depend on this file.
 use Rattle.std.specs.Prelude.{ℕ, Bool, false, not, ◌||◌, ◌==◌, if◌then◌else◌, List, [], ◌∷◌, length, map, drop, take_while, Option, option_map, bytes_eq}
 use Rattle.std.specs.List.{list_any, flat_map, slice_split}
 use Rattle.um_model.specs.Pieces.{reading}

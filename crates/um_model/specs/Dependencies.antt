@@ -1,6 +1,6 @@
 -- How units depend on one another by a tree, which of them are known, and which come before which.
 -- Follows systemd.unit(5), "Wants=" to "Conflicts=", "Before=", "After=" and "Default Dependencies".
--- Transactions, the job order and the limit of known units stand on this file.
+-- Transactions, the job order and the limit of known units depend on this file.
 use Rattle.std.specs.Prelude.{◌≡◌, ◌≢◌, ◌⊎◌, ◌↔◌, ℕ, ◌<◌, max, Bool, true, false, not, ◌&&◌, if◌then◌else◌, List, length, AllPairs, All, Contains, Option, Some, None, is_some}
 use Rattle.std.specs.Str.{bytes_eq}
 use Rattle.std.specs.FinMap as map
@@ -73,7 +73,7 @@ pub data Declares (tree : ReadTree) : List ℕ → List ℕ → List ℕ → Typ
   follows : {a y : List ℕ} {l : LoadedUnit} → loadable_in tree a ≡ Some l → Contains l.settings.dependencies.after y
       → Declares tree a (unit_named tree.entries y) l.name
 
--- what is known along with the name a: all names in its dependencies
+-- the names that are known along with the name a: all in its dependencies
 pub data Mentions (tree : ReadTree) : List ℕ → List ℕ → Type 0 where
   owner : {a x y : List ℕ} {kind : DependencyKind} → Gives tree a kind x y → Mentions tree a x
   other : {a x y : List ℕ} {kind : DependencyKind} → Gives tree a kind x y → Mentions tree a y
@@ -93,7 +93,7 @@ pub data IsNamed (tree : ReadTree) (Extra : List ℕ → Type 0) : List ℕ → 
 abbrev pub IsKnown : ReadTree → (List ℕ → Type 0) → List ℕ → Type 0
 IsKnown tree Extra = Reached (IsNamed tree Extra) (Mentions tree)
 
--- a manager knows at most so many units
+-- the most units that a manager knows
 abbrev pub unit_limit : ℕ
 unit_limit = 1024
 
@@ -104,14 +104,14 @@ pub record KnowsTooMany (tree : ReadTree) (Extra : List ℕ → Type 0) : Type 0
   pub apart : AllPairs (λ x y. x ≢ y) names
   pub many : unit_limit < length names
 
--- just so many units are known: a list of exactly these, none twice
+-- exactly `count` units are known: a list of just these, none twice
 pub record KnowsSoMany (tree : ReadTree) (Extra : List ℕ → Type 0) (count : ℕ) : Type 0 where
   pub names : List (List ℕ)
   pub whole : (x : List ℕ) → Contains names x ↔ IsKnown tree Extra x
   pub apart : AllPairs (λ x y. x ≢ y) names
   pub long : length names ≡ count
 
--- a tree counts for so many units: the greater of the counts by it and by it without its entries under `run/`
+-- a tree counts for `count` units: the greater of the counts by it and by it without its entries under `run/`
 pub record CountsFor (tree : ReadTree) (Extra : List ℕ → Type 0) (count : ℕ) : Type 0 where
   pub held : ℕ
   pub lasting : ℕ

@@ -1,6 +1,6 @@
--- The disk model: what was asked of a disk since it was made, what a read gives, and which images a crash may leave.
+-- The disk model: the calls on a disk since it was made, the values that a read gives, and the images that a crash may leave.
 -- No manual page has it: it is the usual model of sectors whose writes reach the disk in any order until a sync answers.
--- The trait `Disk` and its devices, the log, the slots and the keeper stand on this file.
+-- The trait `Disk` and its devices, the log, the slots and the keeper depend on this file.
 use Rattle.std.specs.Prelude.{◌≡◌, ◌⊎◌, ◌+◌, ◌≤◌, min, ℕ, suc, ◌==◌, if◌then◌else◌, List, [], ◌∷◌, ◌++◌, length}
 use Rattle.std.specs.Prelude.{Result, Ok, Err}
 use Rattle.std.specs.List.{Contains}
@@ -25,7 +25,7 @@ pub data Call : Type 0 where
   -- a sync that answered Ok
   synced : Call
 
--- what the disk was made with, and the calls since, the newest first
+-- the image that the disk was made with, and the calls since, the newest first
 pub record Past : Type 0 where
   pub start : Image
   pub calls : List Call

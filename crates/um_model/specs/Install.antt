@@ -1,6 +1,6 @@
 -- What enabling a unit makes, what disabling and unmasking remove, and how a unit is enabled.
 -- Follows systemctl(1), "enable", "disable", "mask", "unmask" and "is-enabled", and systemd.unit(5), "[INSTALL] SECTION OPTIONS".
--- The machine stands on this file.
+-- The machine depends on this file.
 use Rattle.std.specs.Prelude.{◌≡◌, ◌≢◌, ◌⊎◌, ℕ, ◌<◌, Bool, true, false, not, if◌then◌else◌, List, [], ◌∷◌, ◌++◌, map as each, Contains}
 use Rattle.std.specs.Prelude.{Option, Some, None, is_none, option_and_then, Ok, Err, codes}
 use Rattle.std.specs.Bool.{Decides}
@@ -23,7 +23,7 @@ use Rattle.um_model.specs.declared.refusals.Limit.TheVariants.{Entries}
 use Rattle.um_model.specs.declared.tree.Layer.TheVariants.{Etc}
 use Rattle.um_model.specs.declared.tree.Layer.{Layer}
 
--- ---- the links that a unit asks for
+-- ---- the links that a unit calls for
 
 -- a link: the path at which it stands, and its target
 pub record LinkAt : Type 0 where
@@ -48,7 +48,7 @@ linked_name l =
 abbrev pub path_in_etc : List ℕ → Place → List ℕ
 path_in_etc unit place = path_text (record { layer = Etc; unit = unit; place = place })
 
--- WantedBy=, RequiredBy= and Alias= ask for a link each, to the unit's file
+-- each name in WantedBy=, RequiredBy= and Alias= calls for a link to the unit's file
 abbrev pub links_to : InstallSettings → Option (List ℕ) → Option (List ℕ) → List LinkAt
 links_to install (Some name) (Some path) =
     each (λ unit. link_at (path_in_etc unit (Wants name)) path) install.wanted_by
@@ -56,7 +56,7 @@ links_to install (Some name) (Some path) =
     ++ each (λ alias. link_at (path_in_etc alias Unit) path) install.alias
 links_to install name path = []
 
--- the links that a unit asks for, by what was found of it
+-- the links that a unit calls for, by the result of its loading
 abbrev pub links_of : Loading → List LinkAt
 links_of (Found l) = links_to l.settings.install (linked_name l) l.path
 links_of other = []
@@ -71,13 +71,13 @@ pub data IsAlso (tree : ReadTree) (unit : List ℕ) : List ℕ → Type 0 where
 abbrev pub IsTaken : ReadTree → List ℕ → List ℕ → Type 0
 IsTaken tree asked = Reached (λ unit. unit ≡ unit_named tree.entries asked) (IsAlso tree)
 
--- one of them asks for the link
+-- one of them calls for the link
 pub record IsAskedFor (tree : ReadTree) (asked : List ℕ) (link : LinkAt) : Type 0 where
   pub unit : List ℕ
   pub taken : IsTaken tree asked unit
   pub among : Contains (links_of (load tree unit)) link
 
--- the other tree is this one with the links that are asked for, and no other change
+-- the other tree is this one with the links that are called for, and no other change
 pub record IsEnabled (tree : ReadTree) (asked : List ℕ) (enabled : Tree) : Type 0 where
   pub linked : (path target : List ℕ) → IsAskedFor tree asked (link_at path target) → map.get enabled path ≡ Some (Link target)
   pub kept : (path : List ℕ) → ¬ ((target : List ℕ) × IsAskedFor tree asked (link_at path target))
@@ -85,11 +85,11 @@ pub record IsEnabled (tree : ReadTree) (asked : List ℕ) (enabled : Tree) : Typ
 
 -- Why a unit isn't enabled.
 
--- a link that is asked for has no served path, or may not stand there
+-- a link that is called for has no served path, or may not stand there
 abbrev pub IsUnfit : ReadTree → List ℕ → List ℕ → Type 0
 IsUnfit tree asked path = (target : List ℕ) × IsAskedFor tree asked (link_at path target) × (is_fit_target (path_parts path) target ≡ false)
 
--- at its path something else stands, or another link is asked for
+-- at its path something else stands, or another link is called for
 pub data IsOccupied (tree : ReadTree) (asked path : List ℕ) : Type 0 where
   stands : {target : List ℕ} → IsAskedFor tree asked (link_at path target) → is_other_than_link (map.get tree.entries path) target ≡ true
       → IsOccupied tree asked path
@@ -113,7 +113,7 @@ pub record IsBarred (tree : ReadTree) (asked unit : List ℕ) : Type 0 where
   pub refusal : Refused
   pub cause : CannotEnable unit (load tree unit) refusal
 
--- why its links aren't made, in the order in which it is looked at; E12 and E11 tell of the least path of which they hold
+-- why its links aren't made, in the order of the checks; E12 and E11 name the least path for which they hold
 abbrev pub CausesOfLinks : ReadTree → List ℕ → Refused → Type 0
 CausesOfLinks tree asked =
     FirstCause (NamesLeast (IsUnfit tree asked) (λ path r. r ≡ bad_path path))
@@ -153,7 +153,7 @@ unmasked tree unit = if is_masking (map.get tree (unit_path Etc unit)) then map.
 
 -- ---- all four
 
--- what the verb makes of the tree, where it isn't refused
+-- the tree that results from the verb, if it isn't refused
 pub data Installs (tree : ReadTree) : InstallVerb → List ℕ → Tree → Type 0 where
   enables : {unit : List ℕ} {enabled : Tree} → IsEnabled tree unit enabled → Installs tree verbs.Enable unit enabled
   disables : {unit : List ℕ} {disabled : Tree} → IsDisabled tree unit disabled → Installs tree verbs.Disable unit disabled

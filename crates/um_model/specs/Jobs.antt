@@ -1,6 +1,6 @@
 -- Pending jobs: what a demand makes of those of its unit, and which job is ready to begin.
 -- Follows systemctl(1), "start" and "stop", and systemd.unit(5), "Before=".
--- The machine stands on this file.
+-- The machine depends on this file.
 use Rattle.std.specs.Prelude.{◌≡◌, ◌≢◌, ℕ, Bool, true, false, ◌||◌, if◌then◌else◌, List, [], ◌∷◌, ◌++◌, flat_map, Option, Some, None, is_some, unwrap_or, codes}
 use Rattle.std.specs.FinMap as map
 use Rattle.std.specs.Option.{option_map_or}
@@ -136,7 +136,7 @@ pub record IsReady (IsBefore : List ℕ → List ℕ → Type 0) (units : ByUnit
   pub free : (other : Job) → ¬ ComesBefore IsBefore pending other job
   pub still : job.kind ≡ Start → active_state_of (state_of_unit units job.unit).sub ≢ Deactivating
 
--- one job is told before another: by the names of their units, and of one unit the stop job first
+-- one job is named before another: by the names of their units, and of one unit the stop job first
 pub data IsToldBefore : Job → Job → Type 0 where
   by_name : {job other : Job} → IsNamedBefore job.unit other.unit → IsToldBefore job other
   stop_first : {unit : List ℕ} → IsToldBefore (stop_job unit) (start_job unit)
@@ -153,7 +153,7 @@ abbrev pub job_state_text : JobState → List ℕ
 job_state_text Waiting = codes "waiting"
 job_state_text Running = codes "running"
 
--- a pending job as it is told: its unit, what it does, and how far it is
+-- a pending job as it is shown: its unit, what it does, and how far it is
 pub record JobShown : Type 0 where
   pub unit : List ℕ
   pub kind : JobKind
@@ -185,6 +185,6 @@ abbrev pub start_left : StartJob → Option JobState → Option JobState
 start_left Stays job = job
 start_left other job = unless_running job
 
--- the running start job is over where it ended or failed, the running stop job where it ended
+-- the running start job is over if it ended or failed, the running stop job if it ended
 abbrev pub jobs_left : StartJob → Bool → UnitJobs → UnitJobs
 jobs_left start stop_ends j = jobs (if stop_ends then unless_running j.stop else j.stop) (start_left start j.start)

@@ -1,6 +1,6 @@
 -- The sections and keys of unit files, and what kind of value each key takes.
 -- Follows systemd.unit(5), "[Unit] Section Options" and "[Install] Section Options", and systemd.service(5), "Options".
--- Settings and warnings stand on this file.
+-- Settings and warnings depend on this file.
 use Rattle.std.specs.Prelude.{ℕ, Bool, not, ◌&&◌, ◌||◌, if◌then◌else◌, nat_eq, List, [], ◌∷◌, Option, Some, codes}
 use Rattle.std.specs.Map.{lookup}
 use Rattle.std.specs.List.{list_any, starts_with}

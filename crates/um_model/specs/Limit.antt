@@ -1,6 +1,6 @@
 -- The start limit: which starts of a unit are let through, and the window of time in which they are counted.
 -- Follows systemd.unit(5), "StartLimitIntervalSec=, StartLimitBurst=".
--- Service transitions and the state of a unit stand on this file.
+-- Service transitions and the state of a unit depend on this file.
 use Rattle.std.specs.Prelude.{ℕ, ◌+◌, ◌==◌, ◌||◌, nat_lt, Bool, true, false, Option, Some, None, if◌then◌else◌}
 use Rattle.um_model.specs.declared.limit.Counted.{Counted}
 

@@ -1,6 +1,6 @@
 -- What a transaction makes of the pending jobs, and why it is refused.
 -- Follows systemctl(1), "start", "stop", "restart" and "--job-mode=".
--- The machine stands on this file.
+-- The machine depends on this file.
 use Rattle.std.specs.Prelude.{◌≡◌, ◌⊎◌, ℕ, ⊤, List, [], ◌∷◌, map as each, All, Option, Some, None}
 use Rattle.um_model.specs.Least.{NamesLeast, IsNamedBefore}
 use Rattle.um_model.specs.Refusals.{Refused, FirstCause, clash, job_conflict, ordering_cycle}
@@ -17,8 +17,8 @@ use Rattle.um_model.specs.declared.jobs.UnitJobs.{UnitJobs}
 use Rattle.um_model.specs.declared.service.ActiveState.{ActiveState}
 use Rattle.um_model.specs.declared.service.ActiveState.TheVariants.{Active}
 
--- what a transaction is made from: what depends on what, what is before what, which units can be loaded, why a unit can't be started,
--- how active each unit is, and the pending jobs
+-- the inputs of a transaction: the dependencies, the order, which units can be loaded, why a unit can't be started, the active state of
+-- each unit, and the pending jobs
 pub record Scene : Type 1 where
   pub Depends : DependencyKind → List ℕ → List ℕ → Type 0
   pub IsBefore : List ℕ → List ℕ → Type 0
@@ -30,7 +30,7 @@ pub record Scene : Type 1 where
 abbrev pub IsActive : Scene → List ℕ → Type 0
 IsActive scene unit = scene.activity unit ≡ Active
 
--- what is demanded by the demand on the one unit
+-- the demands that follow from the one demand on the one unit
 abbrev pub Demands : Scene → Demand × List ℕ → Demand × List ℕ → Type 0
 Demands scene = IsDemanded scene.Depends (IsActive scene) scene.IsLoadable
 

@@ -1,6 +1,6 @@
 -- What the value of a setting means under a unit's name: its words with their specifiers expanded, or why it can't be read.
 -- Follows systemd.syntax(7), "Quoting", systemd.unit(5), "Specifiers", and systemd.service(5), "Command lines".
--- Settings and warnings stand on this file.
+-- Settings and warnings depend on this file.
 use Rattle.std.specs.Prelude.{ℕ, Bool, ◌&&◌, ◌==◌, if◌then◌else◌, nat_lt, List, [], ◌∷◌, length, map, Option, Some, None, Result, Ok, Err}
 use Rattle.std.specs.Option.{ok_or, option_map_or}
 use Rattle.std.specs.List.{list_all, before_first, after_first, position_or_len}
@@ -31,7 +31,7 @@ text_reading unit text = ok_or (expanded_of unit text) UnreadableSpecifier
 
 -- ---- commands and environments: one word that can't be read spoils the value
 
--- the words of a command; the first one, its signs cut off already, is what is run
+-- the words of a command; the first one, with its signs already cut off, is the program to run
 abbrev pub words_reading : List ℕ → List (List ℕ) → Result (List (List ℕ)) WarningKind
 words_reading unit [] = Ok []
 words_reading unit (first ∷ others) = all_read ((text_reading unit first and_then read_if is_executable_word) ∷ map (text_reading unit) others)

@@ -1,11 +1,11 @@
--- What a refusal tells: its number, its name and its details; and which of two causes is told.
+-- A refusal: its number, its name and its details; and which of two causes it names.
 -- No manual page has this: it is the project's own protocol (docs/FORMATS.md, "Refusals").
--- Every definition of a call that can refuse stands on this file.
+-- Every definition of a call that can refuse depends on this file.
 use Rattle.std.specs.Prelude.{ℕ, List, [], ◌∷◌, Option, Some, None, Result, Ok, Err, codes, decimal}
 use Rattle.um_model.specs.declared.refusals.Limit.{Limit}
 use Rattle.um_model.specs.declared.refusals.Limit.TheVariants.{Frame, Text, Entries, Units, Reply}
 
--- a refusal as its reply tells it
+-- a refusal as its reply gives it
 pub record Refused : Type 0 where
   pub number : ℕ
   pub name : List ℕ

@@ -1,6 +1,6 @@
 -- Where a unit's name leads in a tree: by the layers, templates, masks and other names to its file, and to its drop-ins.
 -- Follows systemd.unit(5), "Unit File Load Path" and "Description" (aliases, templates, masks, drop-ins).
--- Settings, `cat` and enabling stand on this file.
+-- Settings, `cat` and enabling depend on this file.
 use Rattle.std.specs.Prelude.{ℕ, zero, suc, Bool, true, false, if◌then◌else◌, List, [], ◌∷◌, ◌++◌, map as each, Option, Some, None}
 use Rattle.std.specs.Prelude.{option_map, option_and_then, codes}
 use Rattle.std.specs.Option.{option_or, option_map_or, option_and_then}
@@ -22,7 +22,7 @@ use Rattle.um_model.specs.declared.tree.Layer.TheVariants.{Etc, Run, Lib}
 abbrev pub unit_path : Layer → List ℕ → List ℕ
 unit_path layer unit = layer_text layer ++ unit
 
--- what stands there, with the path
+-- the entry there, with the path
 abbrev pub held_in : Layer → Tree → List ℕ → Option (List ℕ × Entry)
 held_in layer tree unit = option_map (λ e. (unit_path layer unit, e)) (map.get tree (unit_path layer unit))
 
@@ -89,7 +89,7 @@ resolution_at unit (Some (path, File [])) follow = AtMask unit
 resolution_at unit (Some (path, File (b ∷ bs))) follow = AtFile unit path (b ∷ bs)
 resolution_at unit (Some (path, Link target)) follow = if is_mask target then AtMask unit else option_map_or follow (next_name unit target) Nowhere
 
--- where a name leads by so many hops at most
+-- where a name leads by at most this many hops
 abbrev pub resolved : ℕ → Tree → List ℕ → Resolution
 resolved zero tree unit = resolution_at unit (held tree unit) (λ other. Nowhere)
 resolved (suc hops) tree unit = resolution_at unit (held tree unit) (resolved hops tree)

@@ -1,6 +1,6 @@
--- What the state holds of a unit: its sub state, result, process numbers and deadline.
+-- The state of one unit: its sub state, result, process numbers and deadline.
 -- Follows systemctl(1) and systemd.service(5) in the names of states and results.
--- The machine, replies and canonical bytes stand on this file.
+-- The machine, replies and canonical bytes depend on this file.
 use Rattle.std.specs.Prelude.{◌≢◌, ℕ, Bool, true, false, ◌==◌, if◌then◌else◌, List, Option, Some, None, unwrap_or, codes}
 use Rattle.std.specs.FinMap as map
 use Rattle.std.specs.Cmp.Lexicographic.{slice_cmp}
@@ -90,7 +90,7 @@ is_number number o = option_map_or (λ n. n == number) o false
 abbrev pub ByUnit : Type 0 → Type 0
 ByUnit A = map.FinMap (slice_cmp nat_cmp) A
 
--- how a unit stands: one of which nothing is held is dead
+-- the state of a unit: one of which nothing is held is dead
 abbrev pub state_of_unit : ByUnit UnitState → List ℕ → UnitState
 state_of_unit units unit = unwrap_or (map.get units unit) dead_unit
 
@@ -102,7 +102,7 @@ with_unit units unit u = if holds_nothing u then map.remove units unit else map.
 abbrev pub AreTidyUnits : ByUnit UnitState → Type 0
 AreTidyUnits units = (unit : List ℕ) → map.get units unit ≢ Some dead_unit
 
--- what is asked of the children: to start a process under this number, with its words and environment; or to signal one
+-- an action for the children: start a process under this number, with its words and environment; or signal one
 pub data Action : Type 0 where
   SpawnProcess : (number : ℕ) (words environment : List (List ℕ)) → Action
   SendSignal : (number : ℕ) (signal : Signal) → Action

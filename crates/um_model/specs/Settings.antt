@@ -1,6 +1,6 @@
 -- What the service table takes of a unit's settings: its commands by their places, its environment, and what it acts on.
 -- Follows systemd.service(5) and, for the start limit, systemd.unit(5).
--- Units, clean ends, the service table and the machine stand on this file.
+-- Units, clean ends, the service table and the machine depend on this file.
 use Rattle.std.specs.Prelude.{ℕ, ◌^◌, ◌&&◌, Bool, false, List, [], ◌∷◌, ◌++◌, length, map, nat_lt, slice_get}
 use Rattle.std.specs.Option.{option_map_or}
 use Rattle.um_model.specs.Commands.{Command}

@@ -1,6 +1,6 @@
 -- Specifiers: what a `%` and a letter stand for in the files of a unit.
 -- Follows systemd.unit(5), "Specifiers".
--- Settings and enabling stand on this file.
+-- Settings and enabling depend on this file.
 use Rattle.std.specs.Prelude.{ℕ, List, [], ◌∷◌, Option, Some, None, option_and_then, unwrap_or, if◌then◌else◌, ◌==◌}
 use Rattle.std.specs.Map.{lookup}
 use Rattle.std.specs.Option.{option_map_or}

@@ -1,6 +1,6 @@
 -- What an image of a store stands for: the state that its newest body spells, and from there a step for each record that counts beside it.
 -- No manual page has it: it is the project's own format (docs/FORMATS.md, "The store on its disk").
--- The lives of a store and the keeper stand on this file.
+-- The lives of a store and the keeper depend on this file.
 use Rattle.std.specs.Prelude.{◌≡◌, ℕ, ◌+◌, List, [], ◌∷◌, Option, Some}
 use Rattle.um_model.specs.Bytes.{◌>>=◌, nothing_left}
 use Rattle.um_model.specs.Disk.{Image}

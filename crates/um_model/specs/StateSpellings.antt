@@ -1,6 +1,6 @@
 -- Canonical bytes of the state of the manager: its trees, its units and its pending jobs.
 -- No manual page has this: it is the project's own format (docs/FORMATS.md, "Canonical bytes").
--- The code that reads and writes states, and the slots of the store stand on this file.
+-- The code that reads and writes states, and the slots of the store depend on this file.
 use Rattle.std.specs.Prelude.{◌≡◌, ℕ, nat_lt, nat_le, Bool, true, not, ◌&&◌, ◌==◌, List, [], ◌∷◌, ◌++◌, length, flat_map}
 use Rattle.std.specs.List.{list_all}
 use Rattle.std.specs.Ordering.{is_lt, nat_cmp, ordering_then}
@@ -35,7 +35,7 @@ abbrev pub entry_tag : Entry → ℕ
 entry_tag (File text) = 0
 entry_tag (Link target) = 1
 
--- the tag, and what stands behind it
+-- the tag, and the text or target after it
 abbrev pub entry_spelling : Spelling Entry
 entry_spelling e = entry_tag e ∷ text_spelling (text_of_entry e)
 
@@ -43,7 +43,7 @@ entry_spelling e = entry_tag e ∷ text_spelling (text_of_entry e)
 abbrev pub entry_arms : List (Decoder Entry)
 entry_arms = as_at File text_at ∷ as_at Link text_at ∷ []
 
--- a tag, and what stands behind it
+-- a tag, and the text or target after it
 abbrev pub entry_at : Decoder Entry
 entry_at = choice_at (arm_in entry_arms)
 

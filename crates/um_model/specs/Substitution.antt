@@ -1,6 +1,6 @@
 -- Variables in the words of a command, as the command starts.
 -- Follows systemd.service(5), "Command lines".
--- The start of a service's process stands on this file.
+-- The start of a service's process depends on this file.
 use Rattle.std.specs.Prelude.{◌≡◌, ℕ, ◌+◌, Bool, false, ◌&&◌, ◌||◌, ◌==◌, if◌then◌else◌, List, [], ◌∷◌, ◌++◌, length, drop, reverse, find}
 use Rattle.std.specs.Prelude.{take_while, Option, Some, None, bytes_eq}
 use Rattle.std.specs.Option.{option_map_or}

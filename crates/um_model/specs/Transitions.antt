@@ -1,6 +1,6 @@
 -- The service table: what follows for a unit from what happens to it, by its sub state, a clause a row; the first row that fits.
 -- Follows systemd.service(5), "Type=", "ExecStartPre=", "ExecStart=", "ExecStop=", "TimeoutStartSec=", "TimeoutStopSec=", "RestartSec=".
--- The machine stands on this file.
+-- The machine depends on this file.
 use Rattle.std.specs.Prelude.{◌≡◌, ℕ, ◌+◌, ◌&&◌, ◌||◌, ◌⊎◌, Bool, true, false, not, if◌then◌else◌, List, [], ◌∷◌, ◌++◌, map, slice_get, nat_lt, Option, Some, None, is_some}
 use Rattle.std.specs.Option.{option_to_list, option_map}
 use Rattle.um_model.specs.Moments.{process_limit}
@@ -47,7 +47,7 @@ abbrev pub is_live : UnitState → Bool
 is_live u = is_some u.main || is_some u.control
 
 -- a unit that starts or runs has a main process, one that its ExecStartPre= commands prepare or its ExecStop= commands stop a control
--- process, and one that is told to end one of them
+-- process, and one whose processes got a signal to end still has one of them
 abbrev pub has_its_process : SubState → UnitState → Bool
 has_its_process StartPre u = is_some u.control
 has_its_process Start u = is_some u.main
@@ -68,7 +68,7 @@ HasItsProcess u = has_its_process u.sub u ≡ true
 abbrev pub just : UnitState → Change
 just u = record { unit = u; order = Nothing; start = Stays; stop_ends = false }
 
--- with what is asked of its processes
+-- with an order for its processes
 abbrev pub asking : Order → Change → Change
 asking o c = record c { order = o }
 
@@ -84,7 +84,7 @@ start_fails c = record c { start = Fails }
 abbrev pub stop_ends : Change → Change
 stop_ends c = record c { stop_ends = true }
 
--- the unit comes to rest for good: dead where all went well, else failed
+-- the unit rests for good: dead if all went well, else failed
 abbrev pub rests_for_good : UnitState → Change
 rests_for_good u = stop_ends (just (record u { sub = if is_success u.result then Dead else Failed; main = None; control = None; deadline = None }))
 
@@ -93,27 +93,27 @@ abbrev pub waits_to_restart : ServiceSettings → Around → UnitState → Chang
 waits_to_restart s c u =
     stop_ends (just (record u { sub = AutoRestart; main = None; control = None; deadline = deadline_after c.moment s.restart_delay }))
 
--- the unit comes to rest; one that nobody asked to stop may wait for a restart instead
+-- the unit rests; if no stop was requested it may wait for a restart instead
 abbrev pub rests : ServiceSettings → Around → UnitState → Change
 rests s c u = if not u.stop_asked && not c.stop_waits && is_restart_wanted s u then waits_to_restart s c u else rests_for_good u
 
--- its live processes are told to end; without one it comes to rest
+-- its live processes get SIGTERM; without one it rests
 abbrev pub terminates : ServiceSettings → Around → UnitState → Change
 terminates s c u =
     if is_live u then asking (Signal Term) (just (record u { sub = StopSigterm; deadline = deadline_after c.moment s.timeout_stop })) else rests s c u
 
--- the ExecStop= command at this place is started; without a number for it the unit's processes are told to end
+-- the ExecStop= command at this place is started; without a number for it the unit is terminated
 abbrev pub stop_command : ServiceSettings → Around → UnitState → ℕ → Change
 stop_command s c u i =
     if has_number c
     then asking (Spawn OfStop i) (just (record u { sub = Stop; control = Some c.next; index = i; deadline = deadline_after c.moment s.timeout_stop }))
     else terminates s c (record u { result = result.Resources; index = i })
 
--- the unit goes down by its ExecStop= commands from this place on; where there is none its processes are told to end
+-- the unit goes down by its ExecStop= commands from this place on; if there is none it is terminated
 abbrev pub winds_down : ServiceSettings → Around → UnitState → ℕ → Change
 winds_down s c u i = if has_place s.stop i then stop_command s c u i else terminates s c u
 
--- the unit starts so, where there is a number for the process; else the start fails
+-- the unit starts in this way if there is a number for the process; else the start fails
 abbrev pub starts_so : Around → UnitState → Change → Change
 starts_so c u change = if has_number c then change else start_fails (rests_for_good (record u { result = result.Resources }))
 
@@ -170,7 +170,7 @@ abbrev pub start_goes_on : UnitKind → ServiceSettings → Around → UnitState
 start_goes_on Oneshot s c u = if has_place s.start (u.index + 1) then next_command c u (u.index + 1) else start_ends (exits s c u)
 start_goes_on other s c u = start_ends (exits s c u)
 
--- the unit comes to rest, once no process of it is live
+-- the unit rests once no process of it is live
 abbrev pub rests_unless_live : ServiceSettings → Around → UnitState → Change
 rests_unless_live s c u = if is_live u then just u else rests s c u
 
@@ -186,11 +186,11 @@ without_main s u e = noted (record u { main = None; last = Some e }) e (is_clean
 abbrev pub without_control : ServiceSettings → UnitState → End → UnitState
 without_control s u e = noted (record u { control = None }) e (is_clean s u Control e)
 
--- nobody waits any longer: the result tells so, where it was success
+-- a deadline has passed: the result becomes `timeout`, if it was success
 abbrev pub timed_out : UnitState → UnitState
 timed_out u = record u { result = or_later u.result result.Timeout }
 
--- a stop was asked for
+-- a stop was requested
 abbrev pub told_to_stop : UnitState → UnitState
 told_to_stop u = record u { stop_asked = true }
 
@@ -198,7 +198,7 @@ told_to_stop u = record u { stop_asked = true }
 abbrev pub dies : UnitState → Change
 dies u = stop_ends (just (record u { sub = Dead; deadline = None }))
 
--- that it failed is forgotten, and how often it was started
+-- its failure is forgotten, and how often it was started
 abbrev pub forgiven : UnitState → UnitState
 forgiven u = record u { sub = if is_failed u.sub then Dead else u.sub; result = result.Success; window = None }
 
@@ -208,7 +208,7 @@ forgiven u = record u { sub = if is_failed u.sub then Dead else u.sub; result = 
 abbrev pub is_control_done : ServiceSettings → CommandList → UnitState → End → Bool
 is_control_done s which u e = is_clean s u Control e || is_told e && has_dash s which u.index
 
--- the start doesn't come to its end in time
+-- the start doesn't end in time
 abbrev pub start_times_out : ServiceSettings → Around → UnitState → Change
 start_times_out s c u = start_fails (terminates s c (record u { result = result.Timeout }))
 
@@ -265,7 +265,7 @@ transition s c u BoundStop =
     if is_going (active_state_of u.sub) then fails_start u.sub (row s c u (active_state_of u.sub) u.sub StopBegins) else just u
 transition s c u event = row s c u (active_state_of u.sub) u.sub event
 
--- ---- what is asked, as actions
+-- ---- orders as actions
 
 -- the live process numbers of a unit, ascending: the main process is the elder
 abbrev pub live_numbers : UnitState → List ℕ
@@ -294,7 +294,7 @@ spawned other = 0
 abbrev pub HasNumber : UnitState → ℕ → Type 0
 HasNumber u n = (u.main ≡ Some n) ⊎ (u.control ≡ Some n)
 
--- a unit came to rest, as it is tested: it is dead or failed, and wasn't the same before
+-- a unit came to rest, as a test: it is dead or failed, and wasn't in that sub state before
 abbrev pub comes_to_rest : (before after : SubState) → Bool
 comes_to_rest before Dead = not (is_dead before)
 comes_to_rest before Failed = not (is_failed before)

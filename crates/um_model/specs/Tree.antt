@@ -1,6 +1,6 @@
 -- The manager's own tree: a finite map from served paths to files and links.
 -- Follows systemd.unit(5), "Unit File Load Path".
--- Resolution, drop-ins, dependencies by links, enabling and the state stand on this file.
+-- Resolution, drop-ins, dependencies by links, enabling and the state depend on this file.
 use Rattle.std.specs.Prelude.{◌≡◌, ℕ, ◌-◌, ◌≤◌, nat_le, nat_lt, nat_eq, Bool, true, false, not, ◌&&◌, ◌||◌, ◌==◌, List, [], ◌++◌}
 use Rattle.std.specs.Prelude.{length, take, drop, Option, Some, None, is_none, is_some, option_map, Result, if◌then◌else◌, codes}
 use Rattle.std.specs.Option.{option_or, option_map_or}
@@ -32,7 +32,7 @@ pub data Place : Type 0 where
   Wants : List ℕ → Place
   Requires : List ℕ → Place
 
--- the text behind the unit's name
+-- the text after the unit's name
 abbrev pub place_text : Place → List ℕ
 place_text Unit = []
 place_text (DropIn name) = codes ".d/" ++ (name ++ codes ".conf")
@@ -45,7 +45,7 @@ pub record PathParts : Type 0 where
   pub unit : List ℕ
   pub place : Place
 
--- the parts one behind the other
+-- the parts one after the other
 abbrev pub path_text : PathParts → List ℕ
 path_text p = layer_text p.layer ++ (p.unit ++ place_text p.place)
 
@@ -53,11 +53,11 @@ path_text p = layer_text p.layer ++ (p.unit ++ place_text p.place)
 abbrev pub is_drop_in_byte : ℕ → Bool
 is_drop_in_byte b = is_letter b || is_digit b || b == 58 || b == 45 || b == 95 || b == 46
 
--- the name of a drop-in has at most so many bytes before its `.conf`
+-- the longest name of a drop-in, in bytes, without its `.conf`
 abbrev pub drop_in_limit : ℕ
 drop_in_limit = 200
 
--- what stands before `.conf` in the name of a drop-in isn't empty and has its bytes alone
+-- the name of a drop-in before `.conf`: it isn't empty, isn't too long, and has only such bytes
 abbrev pub is_drop_in_name : List ℕ → Bool
 is_drop_in_name name = nat_le 1 (length name) && nat_le (length name) drop_in_limit && list_all is_drop_in_byte name
 
@@ -77,21 +77,21 @@ pub record IsPathOf (text : List ℕ) (p : PathParts) : Type 0 where
   pub fit : is_fit_place p.unit p.place ≡ true
   pub spelled : text ≡ path_text p
 
--- ---- the parts as a function, for definitions that branch on them; the laws in proofs/TreeLaws say that it tells the parts above
+-- ---- the parts as a function, for definitions that branch on them; proofs/TreeLaws proves that it returns the parts above
 
 -- a `/`
 abbrev pub is_slash : ℕ → Bool
 is_slash b = b == 47
 
--- what follows the front, of a text that begins so
+-- the rest of a text after this front, if it begins so
 abbrev pub behind : List ℕ → List ℕ → Option (List ℕ)
 behind front text = if starts_with nat_eq text front then Some (drop (length front) text) else None
 
--- what stands before the end, of a text that ends so
+-- the part of a text before this end, if it ends so
 abbrev pub before : List ℕ → List ℕ → Option (List ℕ)
 before end text = if ends_with nat_eq text end then Some (take (length text - length end) text) else None
 
--- what stands before and behind the first `/`, where there is one
+-- the parts of a text before and after its first `/`, if there is one
 abbrev pub around_slash : List ℕ → Option (List ℕ × List ℕ)
 around_slash text =
     if nat_lt (position_or_len is_slash text) (length text) then Some (before_first is_slash text, after_first is_slash text) else None
@@ -131,15 +131,15 @@ pub data Entry : Type 0 where
 abbrev pub Tree : Type 0
 Tree = map.FinMap (slice_cmp nat_cmp) Entry
 
--- the text of a file has at most so many bytes
+-- the longest text of a file, in bytes
 abbrev pub text_limit : ℕ
 text_limit = 65536
 
--- a tree has at most so many entries
+-- the most entries that a tree may have
 abbrev pub entry_limit : ℕ
 entry_limit = 4096
 
--- the target of a link has at most so many bytes
+-- the longest target of a link, in bytes
 abbrev pub target_limit : ℕ
 target_limit = 512
 

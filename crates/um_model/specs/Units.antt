@@ -1,6 +1,6 @@
 -- What a unit's files set and warn of, by one list of assignments, and whether the unit can be loaded.
 -- Follows systemd.unit(5) and systemd.service(5).
--- The machine stands on this file: what `show` tells, and what a start does.
+-- The machine depends on this file: its reply to `show`, and its starts.
 use Rattle.std.specs.Prelude.{ℕ, ◌*◌, Bool, true, false, not, ◌&&◌, ◌||◌, ◌==◌, List, [], ◌∷◌, ◌++◌, length, filter, find, fold, filter_map, map as each, is_some}
 use Rattle.std.specs.Prelude.{Option, Some, None, Result, option_map, if◌then◌else◌, codes}
 use Rattle.std.specs.Option.{ok_or, option_or, option_map_or, option_and_then}
@@ -53,7 +53,7 @@ pub record Source : Type 0 where
 abbrev pub source_of : UnitFile → Source
 source_of file = record { path = file.path; reading = reading_of file.text }
 
--- of what stands in a section that isn't known, its head alone is heard
+-- of a section that isn't known, the head alone is heard
 abbrev pub is_heard : Option Suffix → Option (List ℕ) → Item → Bool
 is_heard type section (Section name line) = true
 is_heard type section other = option_map_or (is_known_section type) section true
@@ -83,7 +83,7 @@ Key = List ℕ × List ℕ
 abbrev pub values_of : List Key → List Assigned → List (List ℕ)
 values_of keys assigned = flat_map (λ a. if list_any (λ key. bytes_eq a.section key.0 && bytes_eq a.key key.1) keys then a.value ∷ [] else []) assigned
 
--- the values of a list that an empty value clears: those behind the last empty one
+-- the values of a list that an empty value clears: those after the last empty one
 abbrev pub since_empty : Key → List Assigned → List (List ℕ)
 since_empty key assigned = after_last is_empty (values_of (key ∷ []) assigned)
 
@@ -210,7 +210,7 @@ kind_by Unsaid start = if is_empty start then Oneshot else Simple
 kind_by (Served kind) start = kind
 kind_by Unserved start = Simple
 
--- all that the values of a setting of [Service] say, behind the last empty one
+-- all that the values of a setting of [Service] say, after the last empty one
 abbrev pub service_said : List ℕ → (k : ValueKind) → List ℕ → List Assigned → List (Said k)
 service_said unit k key assigned = all_said unit k (since_empty (codes "Service", key) assigned)
 
@@ -240,15 +240,15 @@ pub record ServiceSettings : Type 0 where
   pub prevents_restart : End → Bool  -- RestartPreventExitStatus=
   pub forces_restart : End → Bool  -- RestartForceExitStatus=
 
--- where nothing is set, a restart waits so long
+-- how long a restart waits by default
 abbrev pub default_restart_delay : ℕ
 default_restart_delay = 100 * millisecond
 
--- a start and a stop may take so long
+-- how long a start or a stop may take by default
 abbrev pub default_timeout : ℕ
 default_timeout = 90 * second
 
--- and so many starts are allowed in so long
+-- the start limit by default: its interval, and the number of starts in it
 abbrev pub default_limit_interval : ℕ
 default_limit_interval = 10 * second
 
@@ -414,7 +414,7 @@ loading_at tree Nowhere = NotFound
 unfoldable pub load : ReadTree → List ℕ → Loading
 load tree unit = loading_at tree (resolution_of tree.entries unit)
 
--- the name that counts for the one that was asked for, by where that leads: the last one, or where it leads nowhere the name itself
+-- the name that counts for the given one, by where that leads: the last name, or the given name itself if it leads nowhere
 abbrev pub named_at : List ℕ → Resolution → List ℕ
 named_at asked (AtFile unit path text) = unit
 named_at asked (AtNoFile unit) = unit
@@ -425,7 +425,7 @@ named_at asked Nowhere = asked
 abbrev pub unit_named : Tree → List ℕ → List ℕ
 unit_named tree asked = named_at asked (resolution_of tree asked)
 
--- the same by what was found
+-- the same by the result of loading
 abbrev pub name_in : List ℕ → Loading → List ℕ
 name_in asked (Found u) = u.name
 name_in asked (Masked unit) = unit

@@ -1,3 +1,5 @@
+//! The commands for a unit, and their job modes.
+
 /// What a command for a unit does (systemctl(1)).
 #[derive(Clone, Copy, Debug, PartialEq, Eq)]
 pub enum UnitVerb {

@@ -1,3 +1,5 @@
+//! The kinds of dependencies, and the demands of a transaction.
+
 /// How one unit depends on another (systemd.unit(5)).
 #[derive(Clone, Copy, Debug, PartialEq, Eq)]
 pub enum DependencyKind {

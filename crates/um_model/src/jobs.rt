@@ -1,3 +1,5 @@
+//! The pending jobs of one unit.
+
 ghost use Rattle.std.specs.Prelude.{◌≡◌};
 ghost use Rattle.um_model.specs.Jobs.{has_job, job_kind_text, job_state_text, with_job};
 

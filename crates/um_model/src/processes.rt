@@ -84,7 +84,7 @@ impl NextNumber {
         self.number
     }
 
-    /// The process that it is for; none where no number is left.
+    /// The process that it is for; none if no number is left.
     pub fn process(self) -> Option<ProcessNumber>
         ensures { MatchOption result (process_limit ≤ self) (λ p. (p ≡ self) × (self < process_limit)) }
     {
@@ -96,7 +96,7 @@ impl NextNumber {
         })
     }
 
-    /// The number behind that of a process.
+    /// The number that follows that of a process.
     pub fn behind(process: ProcessNumber) -> NextNumber
         ensures { result ≡ process + 1 }
     {

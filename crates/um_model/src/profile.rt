@@ -1,3 +1,5 @@
+//! The profiles by which the files of units are read.
+
 ghost use Rattle.std.specs.Prelude.{◌≡◌};
 ghost use Rattle.um_model.specs.Profiles.{current, later, serves_start_pre};
 
@@ -10,7 +12,7 @@ pub enum Profile {
 }
 
 impl Profile {
-    /// The one by which what is submitted now is read, and the tree in hand where it is asked about.
+    /// The profile by which submitted files are read now, and the tree in hand for a query about it.
     pub fn current() -> Profile
         ensures { result ≡ current }
     {

@@ -1,3 +1,5 @@
+//! The events of the service table, and the changes that follow from them.
+
 use crate::processes::NextNumber;
 use crate::service::{End, Signal, UnitState};
 use crate::time::Moment;
@@ -60,7 +62,7 @@ pub struct Around {
     pub stop_waits: bool,
 }
 
-/// What is asked of the unit's processes: nothing, that one is started, or a signal to each live one.
+/// An order for the unit's processes: nothing, to start one, or a signal to each live one.
 #[derive(Clone, Copy, Debug, PartialEq, Eq)]
 pub enum Order {
     Nothing,

@@ -1,7 +1,9 @@
+//! The load states of units, and the kinds of values in their files.
+
 ghost use Rattle.std.specs.Prelude.{◌≡◌};
 ghost use Rattle.um_model.specs.Units.{load_state_text};
 
-/// What became of the look for a unit's file (systemctl(1), `LoadState`).
+/// The result of the search for a unit's file (systemctl(1), `LoadState`).
 #[derive(Clone, Copy, Debug, PartialEq, Eq)]
 pub enum LoadState {
     Loaded,
