@@ -1,4 +1,4 @@
--- Demands in two situations that correspond, unit for unit: what is demanded in the one is what is demanded in the other.
+-- Demands in two situations that correspond, unit for unit: the same is demanded in both.
 use Rattle.std.proofs.Common.{◌≡◌, ◌↔◌, refl, sym, ap, subst}
 use Rattle.um_model.specs.Reached.{Reached, first, next}
 use Rattle.um_model.specs.Demands.{LeansOn, requires, binds, is_part, Brings, required, bound, conflicting, conflicted, stopped, restarted}
@@ -92,7 +92,7 @@ module _ {U V : Type 0} (name : U → V) (Inside : U → Type 0) (Depends : Depe
       let j = (leans_forth b.0 i b.2).0 in
       ((Restart, b.0), ap (λ v. (Restart, v)) b.1, restarted b.2 ((active b.0 j).1 (subst IsActive' (sym b.1) a)))
 
-  -- of the demand on this name the demand on its unit
+  -- a demand on this name is one on its unit
   at_name : (T : Demand × U → Type 0) (d : Demand) (y : V) → (q : Demand × U) × (named q ≡ (d, y)) × Inside q.1 × T q → (j : U) × (name j ≡ y) × Inside j × T (d, j)
   at_name T d y b = (b.0.1, ap (λ p. p.1) b.1, b.2, subst (λ e. T (e, b.0.1)) (ap (λ p. p.0) b.1) b.3)
 

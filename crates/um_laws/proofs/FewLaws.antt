@@ -83,7 +83,7 @@ pub none_there : {A : Type 0} (o : Option A) → ¬ (o ≢ None) → o ≡ None
 none_there None h = refl
 none_there (Some a) h = absurd (h (λ none. none-some a (sym none)))
 
--- a tidy map holds nothing where it tells of nothing
+-- a tidy map holds no entry for a name whose value is the empty one
 none_told : {A : Type 0} (nothing : A) (o : Option A) → o ≢ Some nothing → unwrap_or o nothing ≡ nothing → o ≡ None
 none_told nothing None tidy told = refl
 none_told nothing (Some a) tidy told = absurd (tidy (ap Some told))
@@ -129,7 +129,7 @@ stays_dead settings c (ControlEnds e) isnt = refl
 stays_dead settings c DeadlinePasses isnt = refl
 stays_dead settings c Reset isnt = refl
 
--- what follows for a unit that is held
+-- the changes of a unit that is held
 changed_no_more : (s : State) (unit : List ℕ) (c : Change) → IsHeld s unit → HoldsNoMore s (changed s unit c)
 changed_no_more s unit c is = record { loaded = refl; held = by_unit }
   where
@@ -143,7 +143,7 @@ changed_no_more s unit c is = record { loaded = refl; held = by_unit }
       | inr apart ↦ of_other x apart h
     ]
 
--- or that stays dead
+-- or of one that stays dead
 changed_dead : (s : State) (unit : List ℕ) (c : Change) → map.get s.pending unit ≡ None → c.unit ≡ dead_unit → HoldsNoMore s (changed s unit c)
 changed_dead s unit c no_job dead = record { loaded = refl; held = by_unit }
   where
@@ -211,7 +211,7 @@ becomes_no_more : (s : State) (unit : List ℕ) (c : Change) (v : State) → Hol
 becomes_no_more s unit c v less (Becomes.alone isnt) = less
 becomes_no_more s unit c v less (Becomes.along fails a) = no_more_trans s (changed s unit c) v less (along_no_more (changed s unit c) unit v a)
 
--- what happens to a unit that is held, or is anything but that its start begins
+-- the unit is held, or the event isn't the beginning of its start
 abbrev MayHappen : State → List ℕ → UnitEvent → Type 0
 MayHappen s unit event = IsHeld s unit ⊎ (event ≢ StartBegins)
 
@@ -306,7 +306,7 @@ cancel_no_more s unit = record { loaded = refl; held = still }
 
 -- ---- no more units are known than may be
 
--- where no more is held, no more is known
+-- if no more is held, no more is known
 pub no_more_few : (s u : State) → HoldsNoMore s u → IsFew s → IsFew u
 no_more_few s u less few r crowded = few r (fewer (subst (λ tree. IsCrowded tree (IsHeld u) r) less.loaded crowded))
   where
@@ -341,7 +341,7 @@ pub booted_none : (boot : List ℕ) (s : State) (x : List ℕ) → ¬ IsHeld (bo
 booted_none boot s x (inl h) = h (map.get-empty (slice_cmp nat_cmp) x)
 booted_none boot s x (inr h) = h (map.get-empty (slice_cmp nat_cmp) x)
 
--- and no more is known by what stands not under `run/`
+-- and no more is known by the entries that aren't under `run/`
 pub booted_few : (boot : List ℕ) (s : State) → IsFew s → IsFew (booted boot s)
 booted_few boot s few r crowded = few r (record { many = inr (by_tree crowded.many); refusal = crowded.refusal })
   where
@@ -387,7 +387,7 @@ run_few size s t (i ∷ inputs) (Run.goes {t = v} reply actions step run) few = 
 
 -- ---- a state in which nothing is held
 
--- in an empty tree nothing is known where nothing is held
+-- in an empty tree nothing is known if nothing is held
 module _ (tree : ReadTree) (empty : tree.entries ≡ map.empty) (Extra : List ℕ → Type 0) (none : (x : List ℕ) → ¬ Extra x) where
   nothing_at : (path : List ℕ) → map.get tree.entries path ≡ None
   nothing_at path = ap (λ entries. map.get entries path) empty ∙ map.get-empty (slice_cmp nat_cmp) path

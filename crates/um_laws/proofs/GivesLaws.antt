@@ -220,7 +220,7 @@ shutdown_is_name = refl
 
 -- ---- what a name gives and declares
 
--- of two names what holds of the same ones
+-- a relation between two names holds of the same two names
 pub of_same : (R : List ℕ → List ℕ → Type 0) {u v x y : List ℕ} → x ≡ u → y ≡ v → R u v → R x y
 of_same R {u = u} {v = v} {x = x} {y = y} first second h = subst (λ z. R z y) (sym first) (subst (R u) (sym second) h)
 
@@ -312,7 +312,7 @@ module _ (tree : ReadTree) (a : List ℕ) where
       (either_decided (loadable_or_not (IsBefore x y) (λ l. both_decided (same_name x l.name) (leads_or_not l.settings.dependencies.before y)))
       (loadable_or_not (IsAfter x y) (λ l. both_decided (same_name y l.name) (leads_or_not l.settings.dependencies.after x))))
 
-  -- ---- what is mentioned
+  -- ---- mentioned names
 
   -- the unit of the name, or a unit name
   abbrev pub OwnOrName : List ℕ → Type 0
@@ -333,7 +333,7 @@ module _ (tree : ReadTree) (a : List ℕ) where
   names_declared _ _ (model.follows {y = name} {l = l} loadable names) =
       (inr (named_by_name tree.entries name ((names_of_loadable tree a l loadable).after name (among_contained l.settings.dependencies.after name names))), own_name l loadable)
 
-  -- what is known along with a name is its unit or has a unit name
+  -- a name that is known along with a name is its unit or a unit name
   pub names_mentioned : (b : List ℕ) → Mentions tree a b → OwnOrName b
   names_mentioned b (model.owner {y = y} {kind = kind} gives) = (names_given kind b y gives).0
   names_mentioned b (model.other {x = x} {kind = kind} gives) = (names_given kind x b gives).1
