@@ -24,7 +24,7 @@ fn command(alloc: Global, program: &str, number: &str) -> Result<Command, AllocE
     Ok(command)
 }
 
-/// The life of this number, played by this program with little memory; what it finds wrong it tells itself.
+/// The life of this number, played by this program with little memory; that process reports itself what it finds wrong.
 pub fn play<R: Processes>(rt: &R, alloc: Global, program: &str, number: &str) -> Result<(), Wrong> {
     let mut command = command(alloc, program, number)?;
     match command.status(rt) {
