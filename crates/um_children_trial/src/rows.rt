@@ -359,7 +359,7 @@ fn odd_file(
     Ok(())
 }
 
-/// What stands there as a status and is no file.
+/// Statuses that are no files: a directory, and a link.
 fn no_files(rt: &HostRuntime, children: &mut Dir<'_>) -> anyhow::Result<()> {
     fs::create_dir(rt, "processes/27.status")?;
     let fate = children.fate(number(27)?, true)?;

@@ -12,7 +12,7 @@ const LARGE: usize = 20;
 /// The smallest of those that halve; below them there is one of each size that the C library hands out.
 const SMALL: usize = 11;
 
-/// More blocks than these aren't held: so the program ends where its memory has no limit.
+/// The most blocks that are held, so that the program ends if its memory has no limit.
 const MOST: usize = 16_384;
 
 /// All memory of the program but some grains.

@@ -111,7 +111,7 @@ pub fn state_on(alloc: Global, disk: MemDisk) -> Result<Option<Vec<u8>>, Wrong> 
     }
 }
 
-/// A store of layout 1 that holds what this one of layout 2 does, whose newest snapshot is of generation 4 in slot A, and whose records are all
+/// A store of layout 1 with the contents of this one of layout 2, whose newest snapshot is of generation 4 in slot A, and whose records are all
 /// of that generation: it is of this generation, and has no other snapshot.
 pub fn made_old(disk: MemDisk, generation: u8) -> Result<MemDisk, Wrong> {
     let mut disk = disk;

@@ -12,7 +12,7 @@ use Rattle.um_model.proofs.TimersLaws.{same_name, names_one_way}
 abbrev pub OneOrNone : (Refused → Type 0) → Type 0
 OneOrNone Causes = ((r : Refused) × Causes r) ⊎ ((r : Refused) → ¬ (Causes r))
 
--- the second cause counts only where the first doesn't hold
+-- the second cause counts only if the first doesn't hold
 pub first_or_then : (A B : Refused → Type 0) → OneOrNone A → (((r : Refused) → ¬ (A r)) → OneOrNone B) → OneOrNone (FirstCause A B)
 first_or_then A B (inl found) other = inl (found.0, at_first found.1)
 first_or_then A B (inr none) other = by_other (other none)

@@ -151,7 +151,7 @@ pub beside : (layout : Layout) (newest j : ℕ) → log_start layout newest ≤ 
 beside layout newest j low high = ⊎_elim {C = (j < log_start layout (newest + 1)) ⊎ (log_end layout (newest + 1) ≤ j)}
     (λ one. inl (omega (arith, one.0, one.1, high))) (λ two. inr (omega (arith, two.0, two.1, low))) (areas layout newest)
 
--- what changes in the log's place alone leaves those before
+-- a change in the log's place alone leaves those before
 pub front_same : (layout : Layout) (newest generation : ℕ) (a b : Image) (counts : Counts current newest generation)
     → ((j : ℕ) → first_log_sector layout ≤ j → (j < log_start layout generation) ⊎ (log_end layout generation ≤ j) → b j ≡ a j)
     → front layout newest generation counts b ≡ front layout newest generation counts a

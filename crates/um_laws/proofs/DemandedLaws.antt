@@ -56,7 +56,7 @@ module _ {U : Type 0} (Depends : DependencyKind → U → U → Type 0) (IsActiv
       by_parts (inr isnt) other = inr (λ e. isnt (ap (λ x. x.0) e))
       by_parts (inl is) (inr isnt) = inr (λ e. isnt (ap (λ x. x.1) e))
 
-  -- ---- what a demand brings
+  -- ---- the demands that a demand brings
 
   leans_or_not : (y x : U) → IsDecided (LeansOn Depends y x)
   leans_or_not y x = decided_as there back (either_decided (depends Requires y x) (either_decided (depends BindsTo y x) (depends PartOf y x)))
@@ -166,7 +166,7 @@ module _ {U : Type 0} (Depends : DependencyKind → U → U → Type 0) (IsActiv
       reached_or_not (λ q. q ≡ root) (Brings Depends IsActive) (demands_on (root.1 ∷ units))
       (λ q r. among_demands q.0 (root.1 ∷ units) q.1 (required_within root q r)) (λ q. same_pair q root) brings_or_not p
 
-  -- the unit's start would start one that can't be loaded, or stop what it starts
+  -- the unit's start would start one that can't be loaded, or stop one that it starts
   abbrev Spoils : U → U → Type 0
   Spoils w y = Required (Start, w) (Start, y) × ((¬ (IsLoadable y)) ⊎ Required (Start, w) (Stop, y))
 

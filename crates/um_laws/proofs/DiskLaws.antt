@@ -79,7 +79,7 @@ pub images_wrote : (past : Past) (k : ℕ) (v kept : Sector) (P Q : Image → Ty
 images_wrote past k v kept P Q all stay change image is =
     ⊎_elim (λ old. stay image (all image old)) (λ new. subst Q (sym new.2) (change new.0 (all new.0 new.1))) (written_image past k v kept image is)
 
--- a sync leaves what a read gives
+-- a sync leaves the image that reads give
 pub image_synced : (past : Past) (image : Image) → IsImage (after synced past) image → image ≡ seen past
 image_synced past image is = same_image _ _ (λ k. one_only (seen past k) (image k) (is k))
 
@@ -146,7 +146,7 @@ during_write (Err e) past k v new P Q (inl same) all stay change = subst (λ n. 
 during_write (Err e) past k v new P Q (inr maybe) all stay change =
     subst (λ n. During past n Q) (sym maybe.is) (during_call past (wrote k v maybe.kept) Q (λ image at_image. stay image (all image at_image)) (images_wrote past k v maybe.kept P Q all stay change))
 
--- A sync, whatever it answers: all is seen before it, and just what a read gives after it.
+-- A sync, whatever it answers: all images may be seen before it, and just the one that reads give after it.
 pub during_sync : {T E : Type 0} (result : Result T E) (past new : Past) (P : Image → Type 0) → Synced result past new → P (seen past) → Images past P → During past new P
 during_sync (Ok x) past new P is here all =
     subst (λ n. During past n P) (sym is) (during_call past synced P all (λ image at_image. subst P (sym (image_synced past image at_image)) here))

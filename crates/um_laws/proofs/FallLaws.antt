@@ -5,7 +5,7 @@ use Rattle.um_model.specs.Service.{Action}
 use Rattle.um_model.specs.declared.transition.UnitEvent.{UnitEvent}
 use Rattle.um_model.specs.declared.transition.UnitEvent.TheVariants.{BoundStop, Reset}
 
--- P: what holds from one state to another over these actions; it holds over none, over both of two, and over what happens to one unit
+-- P: a property from one state to another over these actions; it holds over none, over both of two, and over an event of one unit
 module _ (t : ℕ) (P : State → List Action → State → Type 0) (none : (s : State) → P s [] s)
     (both : (s u v : State) (first more : List Action) → P s first u → P u more v → P s (first ++ more) v)
     (one : (unit : List ℕ) (event : UnitEvent) (s : State) (actions : List Action) (v : State) → Carries t unit event s actions v → P s actions v) where

@@ -35,7 +35,7 @@ use Rattle.um_model.specs.Transitions.{comes_to_rest}
 abbrev pub HasOutcome : (List Action → State → Type 0) → Type 0
 HasOutcome Is = (actions : List Action) × (v : State) × Is actions v
 
--- ---- what happens to a unit by itself
+-- ---- an event of a unit by itself
 
 fails_or_not : (start : StartJob) (job : Option JobState) → IsDecided ((start ≡ Fails) × (job ≡ Some states.Running))
 fails_or_not Fails (Some states.Running) = inl (refl, refl)
@@ -52,7 +52,7 @@ a_becoming s unit c = by_test (fails_or_not c.start (jobs_of_unit s.pending unit
         let taken = an_along (changed s unit c) unit in
         (taken.0, along fails taken.1)
 
--- what happens to a unit is carried out
+-- an event of a unit is carried out
 pub a_carrying : (t : ℕ) (unit : List ℕ) (event : UnitEvent) (s : State) → HasOutcome (Carries t unit event s)
 a_carrying t unit event s =
     let c = change_of t s unit event in
@@ -318,7 +318,7 @@ told_within (suc n) t names units s have few =
 pub a_fall : (t : ℕ) (units : List (List ℕ)) (s : State) → HasOutcome (FallDown t units s)
 a_fall t units s = told_within (going (map.keys s.units) s.units) t (map.keys s.units) units s (goes_held s.units) (omega arith)
 
--- what happens to a unit is carried out, with all that fall with it
+-- an event of a unit is carried out, with all units that fall with it
 pub a_happening : (t : ℕ) (unit : List ℕ) (event : UnitEvent) (s : State) → HasOutcome (Happens t unit event s)
 a_happening t unit event s =
     let now = a_carrying t unit event s in

@@ -1,4 +1,4 @@
--- No more units are known than may be: a plan or another tree makes more known, and both are refused where these would be too many.
+-- No more units are known than may be: a plan or another tree makes more known, and both are refused if these would be too many.
 use Rattle.std.proofs.Common.{ℕ, ◌≡◌, ◌≢◌, ◌⊎◌, ◌∙◌, Bool, true, false, true≢false, cond, is_some, List, [], ◌∷◌, ◌++◌, length, Option, Some, None, unwrap_or, refl, sym, ap, subst, inl, inr, arith}
 use Rattle.std.proofs.lemmas.Option.{none-some}
 use Rattle.std.specs.Cmp.Lexicographic.{slice_cmp, nat_list_cmp_total}
@@ -45,7 +45,7 @@ use Rattle.um_model.proofs.UnitLaws.{jobs_here, unlike}
 use Rattle.um_model.proofs.Forms.{with_running}
 use Rattle.um_model.specs.Live.{HoldsNoMore}
 
--- ---- what maps hold of a unit
+-- ---- the values that maps hold of a unit
 
 none_left : {A : Type 0} (b : Bool) (o : Option A) → o ≡ None → cond b None o ≡ None
 none_left true o none = refl
@@ -101,7 +101,7 @@ waiting_held s j waits = inr (there (map.get s.pending j.unit) (held s.pending j
 deadline_held : (s : State) (unit : List ℕ) (deadline : ℕ) → (state_of_unit s.units unit).deadline ≡ Some deadline → IsHeld s unit
 deadline_held s unit deadline is = inl (λ none. none-some deadline (sym (ap (λ o. (unwrap_or o dead_unit).deadline) none) ∙ is))
 
--- ---- what happens to units makes the state hold nothing new
+-- ---- events of units make the state hold nothing new
 
 pub same_no_more : (s : State) → HoldsNoMore s s
 same_no_more s = record { loaded = refl; held = λ unit is. is }
@@ -257,7 +257,7 @@ settles_no_more t s actions v (Settles.begins_next {u = u} {first = x} {more = y
     (no_more_trans s (begun s j) u (begun_no_more s j (waiting_held s j n.has.waits)) (happens_no_more t j.unit (begins j.kind) (begun s j) x u (inl (begun_held s j)) h))
     (settles_no_more t u y v k)
 
--- what happens to a unit, and the jobs that begin by that
+-- an event of a unit, and the jobs that begin by it
 pub happened_no_more : (t : ℕ) (unit : List ℕ) (event : UnitEvent) (s : State) (early late : List Action) (u v : State) → MayHappen s unit event
     → Happens t unit event s early u → Settles t u late v → HoldsNoMore s v
 happened_no_more t unit event s early late u v may h k = no_more_trans s u v (happens_no_more t unit event s early u may h) (settles_no_more t u late v k)
@@ -353,7 +353,7 @@ booted_few boot s few r crowded = few r (record { many = inr (by_tree crowded.ma
     by_tree (inl k) = fewer (lasting_tree s.loaded) k
     by_tree (inr k) = fewer (lasting_tree s.loaded) (subst (λ entries. KnowsTooMany (read_by s.loaded.profile entries) (IsHeld (booted boot s))) (without_run_twice s.loaded.entries) k)
 
--- what happens makes the state hold nothing new, or it is a boot
+-- a happening makes the state hold nothing new, or it is a boot
 pub follows_no_more : (t : ℕ) (s : State) (happening : Happening) (actions : List Action) (v : State) → Follows t s happening actions v
     → HoldsNoMore s v ⊎ ((boot : List ℕ) × (v ≡ booted boot s))
 follows_no_more t s happening actions v (Follows.ends {number = number} {end = end} {first = x} {more = y} {u = u} unit is h k) =

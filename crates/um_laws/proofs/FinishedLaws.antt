@@ -157,7 +157,7 @@ module _ (x : List ℕ) where
   abbrev AtRest : State → Type 0
   AtRest s = IsAtRest s x
 
-  -- what happens to the unit isn't that its start begins
+  -- the event isn't the beginning of the unit's start
   abbrev IsOther : List ℕ → UnitEvent → Type 0
   IsOther unit event = x ≡ unit → event ≢ StartBegins
 

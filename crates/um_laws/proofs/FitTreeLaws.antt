@@ -45,7 +45,7 @@ use Rattle.um_model.proofs.TimersLaws.{among_keys}
 use Rattle.um_model.proofs.TreeLaws.{put_keeps, link_keeps, remove_keeps, without_run_keeps, empty_is}
 use Rattle.um_model.proofs.WeightLaws.{entry_light}
 
--- ---- what holds of each entry
+-- ---- properties of each entry
 
 module _ {X : Type 0} (P : List ℕ × X → Type 0) where
   each_found : (es : List (List ℕ × X)) → T (map.is_sorted (slice_cmp nat_cmp) es) → ((k : List ℕ) (v : X) → find (slice_cmp nat_cmp) k es ≡ Some v → P (k, v)) → AllByRecursion P es
@@ -105,7 +105,7 @@ fit_of_texts tree h = record { texts = ((omega (arith, h.is.few, map.len-entries
         let light = entry_light path entry (sym (ap (is_fit_at path) at) ∙ h.is.fit path) in
         ((omega (arith, light), path_utf8 tree h.is path entry at), fit_entry entry (omega (arith, light)) (subst IsTextAt at (h.texts path)))
 
--- ---- what a command puts and removes
+-- ---- puts and removals by a command
 
 put_text : (b : Bool) (o : Option Entry) (entry : Entry) → is_utf8 (text_of_entry entry) ≡ true → IsTextAt o → IsTextAt (cond b (Some entry) o)
 put_text true o entry utf8 text = utf8

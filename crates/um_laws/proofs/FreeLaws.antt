@@ -165,7 +165,7 @@ settles_less t s actions v (Settles.begins_next {u = u} {first = x} {more = y} j
     less_trans s (begun s j) v (begun_less s j n.has.waits)
     (less_trans (begun s j) u v (happens_less t j.unit (begins j.kind) (begun s j) x u h) (settles_less t u y v k))
 
--- what happens to a unit, and the jobs that begin by that
+-- an event of a unit, and the jobs that begin by it
 happened_less : (t : ℕ) (unit : List ℕ) (event : UnitEvent) (s : State) (early late : List Action) (u v : State) → Happens t unit event s early u → Settles t u late v → HasLess s v
 happened_less t unit event s early late u v h k = less_trans s u v (happens_less t unit event s early u h) (settles_less t u late v k)
 

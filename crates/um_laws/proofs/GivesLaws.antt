@@ -1,4 +1,4 @@
--- What a name gives, declares and mentions is decided; but for the unit's own name, only unit names are in it.
+-- It is decided what a name gives, declares and mentions; but for the unit's own name, only unit names are in it.
 use Rattle.std.proofs.Common.{◌≡◌, ◌≢◌, ◌⊎◌, ◌∙◌, ◌&&◌, ℕ, Bool, true, false, cond, List, [], ◌∷◌, map as each, filter_map, Option, Some, None, is_some, Ok, Err, refl, sym, ap, subst, inl, inr}
 use Rattle.std.specs.FinMap as map
 use Rattle.std.proofs.lemmas.Bool.{and_parts}
@@ -56,7 +56,7 @@ among_kinds kinds.Conflicts = inr (inr (inr (inr (inl refl))))
 
 -- ---- links
 
--- what a path says by itself: a link in the directory of the unit x for what it wants or requires is named y
+-- a path by itself names a link y in the directory of the unit x for the units that it wants or requires
 pub data Says : PathParts → DependencyKind → List ℕ → List ℕ → Type 0 where
   wants : (p : PathParts) (other : List ℕ) → p.place ≡ Wants other → Says p kinds.Wants p.unit other
   requires : (p : PathParts) (other : List ℕ) → p.place ≡ Requires other → Says p kinds.Requires p.unit other
@@ -218,7 +218,7 @@ shutdown_is_name : is_unit_name shutdown_target ≡ true
 unfolding is_unit_name suffix_of stem_of
 shutdown_is_name = refl
 
--- ---- what a name gives and declares
+-- ---- dependencies and order by a name
 
 -- a relation between two names holds of the same two names
 pub of_same : (R : List ℕ → List ℕ → Type 0) {u v x y : List ℕ} → x ≡ u → y ≡ v → R u v → R x y

@@ -65,7 +65,7 @@ same_list {format} {layout} {generation} {image} number at (x ∷ xs) (y ∷ ys)
     let tail = same_list (suc number) (at + part_count (length x)) xs ys rest (subst (λ (b : List ℕ). AreRecords format layout generation image (suc number) (at + part_count (length b)) ys) (sym same) behind_it) in
     λ i. same i ∷ tail i
 
--- ---- what the reading of the records doesn't look at
+-- ---- sectors that the reading of the records doesn't look at
 
 -- a record's sector is one of its parts
 is_part : {format : Format} {layout : Layout} {generation number at : ℕ} {image : Image} {bytes : List ℕ} → IsRecord format layout generation image number at bytes → (part : ℕ) → part < part_count (length bytes)

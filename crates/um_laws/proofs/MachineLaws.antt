@@ -46,7 +46,7 @@ use Rattle.um_model.proofs.TimersLaws.{one_due_first, same_name, names_one_way}
 abbrev AreOneBut : (Refused → Type 0) → Type 0
 AreOneBut Cause = (r q : Refused) → Cause r → Cause q → (r ≡ q) ⊎ (NamesACycle r × NamesACycle q)
 
--- so they are for the first of two causes, where they are for each
+-- so they are for the first of two causes, if they are for each
 first_but : (A B : Refused → Type 0) → AreOneBut A → AreOneBut B → AreOneBut (FirstCause A B)
 first_but A B one other r q (at_first h) (at_first k) = one r q h k
 first_but A B one other r q (at_first h) (at_second none k) = absurd (none r h)

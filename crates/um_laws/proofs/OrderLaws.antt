@@ -50,7 +50,7 @@ pub no_cycle : (f : ℕ → ℕ) (P : ℕ → ℕ → Type 0) → ((x y : ℕ) �
 no_cycle f P up [] h = h
 no_cycle f P up (x ∷ xs) h = omega (arith, leads_up f P up x xs x h)
 
--- ---- what leads to what
+-- ---- ways from node to node
 
 module _ {U : Type 0} (P : U → U → Type 0) where
   -- a way leads from the one to the other
@@ -75,7 +75,7 @@ module _ {U : Type 0} (P : U → U → Type 0) where
   leads_further : (x y z : U) → LeadsOn x y → LeadsOn y z → LeadsOn x z
   leads_further x y z r s = let way = way_of y z s in goes_on x y z way.0 r way.1
 
-  -- what leads on comes before something
+  -- a node from which a way leads comes before some node
   pub sets_out : (x y : U) → LeadsOn x y → (z : U) × P x z
   sets_out x y (first h) = (y, h)
   sets_out x y (next {a = z} r h) = sets_out x z r
@@ -94,7 +94,7 @@ module _ {U : Type 0} (P : U → U → Type 0) where
     pub free : (x : U) → ¬ (P x b)
     pub leads : (b ≡ a) ⊎ LeadsOn b a
 
-  -- where a list has all that comes before another or after one
+  -- if a list has all nodes that come before another or after one
   module _ (nodes : List U) (covers : (x y : U) → P x y → Among nodes x × Among nodes y) (decided : (x y : U) → IsDecided (P x y)) where
     leads_within : (x y : U) → LeadsOn x y → Among nodes x × Among nodes y
     leads_within x y (first h) = covers x y h

@@ -100,7 +100,7 @@ same_newest {layout} {image} {s} {t} {g} {h} {x} {y} one two =
     let both = same_header (subst (λ (k : Slot). IsHeader layout (image (slot_start layout k)) g one.size) slot one.header) two.header in
     (slot, both.0, one.body_is ∙ (λ i. body_at layout image (slot i) (both.1 i)) ∙ sym two.body_is)
 
--- and none where there is no header
+-- and none if there is no header
 pub no_newest : {layout : Layout} {image : Image} {s : Slot} {g : ℕ} {x : List ℕ} → IsNewest layout image s g x → HasNoHeader layout image → ⊥
 no_newest {s} {g} one none = none s g one.size one.header
 
@@ -126,7 +126,7 @@ pub take-filled : (front rest : List ℕ) → take (length front) (filled front 
 unfolding filled
 take-filled front rest = ap (take (length front)) (append_assoc front (replicate (512 - length front) 0) rest) ∙ take-append_seam front (replicate (512 - length front) 0 ++ rest)
 
--- ---- what the reading of the newest body doesn't look at
+-- ---- sectors that the reading of the newest body doesn't look at
 
 module _ (layout : Layout) (a b : Image) (same : (j : ℕ) → IsSlotRead layout a j → b j ≡ a j) where
   -- Images that agree in all sectors that the reading looks at have the same newest body.

@@ -303,7 +303,7 @@ each_may : (p : Profile) (sub : SubState) → is_sub_state_in One sub ≡ true �
 each_may p StartPre may = absurd (true≢false (sym may))
 each_may p _ may = refl
 
--- so a later one has what an earlier one has
+-- so a later profile has the sub states of an earlier one
 later_may : (earlier p : Profile) (sub : SubState) → is_sub_state_in earlier sub ≡ true → is_sub_state_in (later earlier p) sub ≡ true
 later_may One p sub may = each_may p sub may
 later_may Two p sub may = may

@@ -156,7 +156,7 @@ module _ {A B : Type 0} {fits_a : A → Type 0} {spelling_a : Spelling A} {readi
 -- ---- another form, a test, a mark, a choice, an option, a list
 
 module _ {A B : Type 0} {fits_a : A → Type 0} {fits_b : B → Type 0} {spelling : Spelling A} {reading : Decoder A} where
-  -- another form, in which a value is given back only where it fits, on either side
+  -- another form, in which a value is given back only if it fits, on either side
   pub canonical_form : (to : A → B) (from : B → A) → ((a : A) → fits_a a → fits_b (to a) × (from (to a) ≡ a)) → ((b : B) → fits_b b → fits_a (from b) × (to (from b) ≡ b))
       → IsCanonical fits_a spelling reading → IsCanonical fits_b (λ b. spelling (from b)) (as_at to reading)
   canonical_form to from back forth law = record { takes = form_takes; again = form_again } where
@@ -195,7 +195,7 @@ module _ {A B : Type 0} {fits : A → Type 0} {spelling : Spelling A} {reading :
     as_again : (v : B) (rest : List ℕ) → fits (from v) → as_at to reading (spelling (from v) ++ rest) ≡ Some (v, rest)
     as_again v rest h = rw (law.again (from v) rest h) (ap (λ (b : B). some (b, rest)) (forth v))
 
-  -- the same where each value has the other form
+  -- the same if each value has the other form
   pub canonical_as : (to : A → B) (from : B → A) → ((a : A) → from (to a) ≡ a) → ((b : B) → to (from b) ≡ b) → IsCanonical fits spelling reading
       → IsCanonical (λ b. fits (from b)) (λ b. spelling (from b)) (as_at to reading)
   canonical_as to from back forth law = canonical_where to from (λ a h. back a) forth law
@@ -488,11 +488,11 @@ module _ {V : Type 0} {fits : V → Type 0} {spelling : Spelling V} {reading : D
       let both = some_is (v, r) (w, s) (sym (law.again v r fv) ∙ ap reading e ∙ law.again w s fw) in
       (ap (λ (x : V × List ℕ). x.0) both, ap (λ (x : V × List ℕ). x.1) both)
 
-  -- there is no reading only where no front of the bytes spells a value
+  -- there is no reading only if no front of the bytes spells a value
   pub none_spelled : IsCanonical fits spelling reading → (bytes : List ℕ) → reading bytes ≡ None → (v : V) (rest : List ℕ) → fits v → bytes ≡ spelling v ++ rest → ⊥
   none_spelled law bytes absent v rest fv e = none_some (v, rest) (sym absent ∙ ap reading e ∙ law.again v rest fv)
 
-  -- the whole of the bytes is read exactly where they are a spelling
+  -- the whole of the bytes is read exactly if they are a spelling
   pub whole_spelled : IsCanonical fits spelling reading → (bytes : List ℕ) (v : V) → IsBytes bytes → (nothing_left (reading bytes) ≡ Some v) ↔ ((bytes ≡ spelling v) × fits v)
   whole_spelled law bytes v h = (to, from) where
     to : nothing_left (reading bytes) ≡ Some v → (bytes ≡ spelling v) × fits v

@@ -1,4 +1,4 @@
--- What code finds by a function, and what it finds by the relation.
+-- Searches by a function, and searches by the relation.
 use Rattle.std.proofs.Common.{◌≡◌, Option, Some, None, IfSome, IfNone, option_map, refl, sym, ◌∙◌}
 use Rattle.std.proofs.lemmas.Option.{same_Some}
 use Rattle.um_model.specs.Results.{Finds}

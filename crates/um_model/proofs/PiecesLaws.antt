@@ -83,7 +83,7 @@ pub BeginsWith-begun : {A : Type 0} (front : ℕ → List ℕ → Front A) (text
     → BeginsWith front text found left
 BeginsWith-begun front text found left e = BeginsWith-sized front (length text) text found left (omega arith) e
 
--- what the function finds is how a text begins
+-- the function finds exactly the beginnings of a text
 pub begun_is : {A : Type 0} (front : ℕ → List ℕ → Front A) (text : List ℕ) (found : List A) (left : List ℕ) → (begun front text ≡ Some (found, left)) ↔ BeginsWith front text found left
 begun_is front text found left = (BeginsWith-begun front text found left, begun-BeginsWith front text found left)
 
@@ -101,14 +101,14 @@ nothing_left None found e = absurd (none-some found e)
 nothing_left (Some (f, [])) found e = ap (λ w. Some (w, [])) (same_Some f found e)
 nothing_left (Some (f, b ∷ left)) found e = absurd (none-some found e)
 
--- what the function finds is a reading
+-- each value that the function finds is a reading
 pub StandsForText-reading : {A : Type 0} (front : ℕ → List ℕ → Front A) (text : List ℕ) (bytes : List A) → reading front text ≡ Some bytes → StandsForText front text bytes
 StandsForText-reading front text bytes e = BeginsWith-begun front text bytes [] (nothing_left (begun front text) bytes e)
 
 pub reading_is : {A : Type 0} (front : ℕ → List ℕ → Front A) (text : List ℕ) (found : List A) → (reading front text ≡ Some found) ↔ StandsForText front text found
 reading_is front text found = (StandsForText-reading front text found, reading-StandsForText front text found)
 
--- where it finds none there is none
+-- if it finds none there is none
 pub no_reading : {A : Type 0} (front : ℕ → List ℕ → Front A) (text : List ℕ) (bytes : List A) → reading front text ≡ None → ¬ (StandsForText front text bytes)
 no_reading front text bytes e stands = none-some bytes (sym e ∙ reading-StandsForText front text bytes stands)
 
@@ -163,7 +163,7 @@ has_reading_sized front reads (suc size) (b ∷ bs) small =
     let later = has_reading_sized front reads size (drop (here.1 - 1) bs) (omega (arith, length-drop (here.1 - 1) bs)) in
     (here.0 ++ later.0, piece b here.1 bs here.0 later.0 [] here.2 later.1)
 
--- where each front can be read, each text can
+-- if each front can be read, each text can
 pub has_reading : {A : Type 0} (front : ℕ → List ℕ → Front A) → ((b : ℕ) (bs : List ℕ) → IsRead (front b bs)) → (text : List ℕ) → (bytes : List A) × StandsForText front text bytes
 has_reading front reads text = has_reading_sized front reads (length text) text (omega arith)
 

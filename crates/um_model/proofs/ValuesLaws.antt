@@ -86,7 +86,7 @@ part_follows (suc n) m b bs some =
 past_follows : (b : ℕ) (bs : List ℕ) → 0 < length (digits_of (b ∷ bs)) → Follows bs (past_part (b ∷ bs))
 past_follows b bs some = part_follows (length (digits_of (b ∷ bs))) (length (unit_of (b ∷ bs))) b bs some
 
--- what the times of a text add up to
+-- the sum of the times of a text
 abbrev sum_in : List ℕ → Option ℕ
 sum_in text = option_map sum (reading time_front text)
 

@@ -231,7 +231,7 @@ rest_follows_first rules b bs word rest apart (stands q c meaning n more w r e i
 rest_follows_first rules b bs word rest apart (keeps q c n more w r e inside) =
     follows_more more r (n - 1) (rest_follows rules q (drop (n - 1) more) w r inside)
 
--- a text that begins with whitespace is as many words as what follows
+-- a text that begins with whitespace reads as the same words as the rest after that
 pub space_read : (rules : WordRules) (b : ℕ) (bs : List ℕ) → is_space b ≡ true → reading (piece_of_words rules) (b ∷ bs) ≡ reading (piece_of_words rules) bs
 space_read rules b bs white = reading_first (piece_of_words rules) b 1 bs [] (cond-true _ _ _ white) ∙ prefixed-nil (reading (piece_of_words rules) bs)
 
@@ -256,13 +256,13 @@ word_read rules text rest later b value e apart found =
     ∙ first_read rules b later value rest apart (ap (read rules 0 None) (sym e) ∙ found)
     ∙ ap (λ t. option_map (λ words. first_word t rest value ∷ words) (reading (piece_of_words rules) rest)) (sym e)
 
--- where no word is read there are none
+-- if no word is read there are none
 pub none_read : (rules : WordRules) (text later : List ℕ) (b : ℕ) → text ≡ b ∷ later → is_space b ≡ false → read rules 0 None text ≡ None → reading (piece_of_words rules) text ≡ None
 none_read rules text later b e apart nothing =
     ap (reading (piece_of_words rules)) e
     ∙ reading_unreadable (piece_of_words rules) b later (cond-false _ _ _ apart ∙ ap (λ o. option_map_or (word_front (b ∷ later)) o Unreadable) (begun-read rules (b ∷ later) ∙ ap (read rules 0 None) (sym e) ∙ nothing))
 
--- the same of what the words stand for
+-- the same of the texts that the words stand for
 pub words_of-AreWords : (rules : WordRules) (text : List ℕ) (words : List (List ℕ)) → AreWords rules text words → words_of rules text ≡ Some words
 unfolding words_of
 words_of-AreWords rules text words are = ap (option_map word_values) (reading-StandsForText (piece_of_words rules) text are.0 are.1) ∙ ap Some are.2
@@ -300,13 +300,13 @@ same_words rules text = one_found (words_of rules text) (AreWords rules text) (f
 pub same_commands : (text : List ℕ) (a b : List Command) → AreCommands text a → AreCommands text b → a ≡ b
 same_commands text = one_found (commands_read text) (AreCommands text) (finds_commands text)
 
--- the commands of words, where these values stand before the first separator already
+-- the commands of words, if these values stand before the first separator already
 abbrev pub commands_after : List (List ℕ) → List Word → List Command
 commands_after part [] = command_of part
 commands_after part (word ∷ words) =
     cond (is_separator word) (command_of part ++ commands_after [] words) (commands_after (part ++ value_in_command word ∷ []) words)
 
--- the commands of parts, where these values stand before the first part
+-- the commands of parts, if these values stand before the first part
 abbrev parts_after : List (List ℕ) → List (List Word) → List Command
 parts_after part [] = command_of part
 parts_after part (first ∷ others) = command_of (part ++ map value_in_command first) ++ flat_map (λ p. command_of (map value_in_command p)) others

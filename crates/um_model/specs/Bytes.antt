@@ -133,7 +133,7 @@ abbrev pub truth_tag : Bool → ℕ
 truth_tag false = 0
 truth_tag true = 1
 
--- by their tags
+-- the truth values by their tags
 abbrev pub truths : List Bool
 truths = false ∷ true ∷ []
 
@@ -195,7 +195,7 @@ abbrev pub all_ascend : {A : Type 0} → (A → A → Bool) → List A → Bool
 all_ascend is_below [] = true
 all_ascend is_below (a ∷ others) = option_map_or (is_below a) (slice_get others 0) true && all_ascend is_below others
 
--- so by their keys
+-- entries ascend by their keys
 abbrev pub ascends : {A : Type 0} → List (List ℕ × A) → Bool
 ascends entries = all_ascend (λ e next. is_lt (slice_cmp nat_cmp e.0 next.0)) entries
 

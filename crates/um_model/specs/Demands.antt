@@ -13,7 +13,7 @@ pub data IsStarting : Demand → Type 0 where
   starts : IsStarting Start
   restarts : IsStarting Restart
 
--- by what depends on what, y leans on x: it requires x, binds itself to x or is part of x
+-- by these dependencies, y leans on x: it requires x, binds itself to x or is part of x
 pub data LeansOn {U : Type 0} (Depends : DependencyKind → U → U → Type 0) (y x : U) : Type 0 where
   requires : Depends Requires y x → LeansOn Depends y x
   binds : Depends BindsTo y x → LeansOn Depends y x

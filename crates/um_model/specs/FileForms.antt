@@ -31,7 +31,7 @@ trim_end text = reverse (trim_start (reverse text))
 abbrev pub with_front : {A : Type 0} → List A → Option (List A × List ℕ) → Option (List A × List ℕ)
 with_front found later = option_map (λ r. (found ++ r.0, r.1)) later
 
--- what a backslash and this byte mean
+-- the meaning of a backslash and this byte
 abbrev pub meaning_of : ℕ → Option ℕ
 meaning_of b = lookup (λ c. b == c) meanings
 
@@ -39,7 +39,7 @@ meaning_of b = lookup (λ c. b == c) meanings
 abbrev pub hex_value : List ℕ → ℕ
 hex_value bs = 16 * digit_value (slice_index bs 0) + digit_value (slice_index bs 1)
 
--- what words stand for
+-- the texts that words stand for
 abbrev pub word_values : List Word → List (List ℕ)
 word_values words = map (λ w. w.value) words
 
@@ -51,7 +51,7 @@ commands_among words = flat_map (λ part. command_of (map value_in_command part)
 abbrev pub place_limit : ℕ
 place_limit = 2 ^ 32
 
--- what a value means, or the warning that it gives
+-- the meaning of a value, or the warning that it gives
 abbrev pub Meaning : Type 0 → Type 0
 Meaning A = Result A WarningKind
 
@@ -95,7 +95,7 @@ last_or default values = fold (λ earlier value. value) default values
 abbrev pub physical_line : ℕ → List ℕ → Line
 physical_line n text = record { number = n; text = text; whole = true }
 
--- a line that goes on, with a space for its last backslash, and the text of what follows
+-- a line that goes on, with a space for its last backslash, and the text of the line that follows
 abbrev pub joined_line : Line → List ℕ → Line
 joined_line l after = record { number = l.number; text = without_last l.text ++ 32 ∷ after; whole = false }
 

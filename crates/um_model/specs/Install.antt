@@ -1,4 +1,4 @@
--- What enabling a unit makes, what disabling and unmasking remove, and how a unit is enabled.
+-- The links that enabling a unit makes, those that disabling and unmasking remove, and how a unit is enabled.
 -- Follows systemctl(1), "enable", "disable", "mask", "unmask" and "is-enabled", and systemd.unit(5), "[INSTALL] SECTION OPTIONS".
 -- The machine depends on this file.
 use Rattle.std.specs.Prelude.{◌≡◌, ◌≢◌, ◌⊎◌, ℕ, ◌<◌, Bool, true, false, not, if◌then◌else◌, List, [], ◌∷◌, ◌++◌, map as each, Contains}
@@ -38,7 +38,7 @@ abbrev pub install_of : Loading → InstallSettings
 install_of (Found l) = l.settings.install
 install_of other = nothing_installed
 
--- the name under which a unit is linked: its own, or that of a template with its default instance, where the whole is a unit name
+-- the name under which a unit is linked: its own, or that of a template with its default instance, if the whole is a unit name
 abbrev pub linked_name : LoadedUnit → Option (List ℕ)
 linked_name l =
     if is_template l.name then option_and_then (λ instance. named (with_instance l.name instance)) l.settings.install.default_instance
@@ -107,7 +107,7 @@ pub data CannotEnable (unit : List ℕ) : Loading → Refused → Type 0 where
   has_bad_setting : {other reason : List ℕ} → CannotEnable unit (BadSetting other reason) (bad_setting other reason)
   lacks_instance : {l : LoadedUnit} → linked_name l ≡ None → CannotEnable unit (Found l) (bad_setting l.name (codes "default-instance"))
 
--- it is taken, and can't be enabled
+-- the unit is taken, and can't be enabled
 pub record IsBarred (tree : ReadTree) (asked unit : List ℕ) : Type 0 where
   pub taken : IsTaken tree asked unit
   pub refusal : Refused
@@ -147,7 +147,7 @@ abbrev pub is_masking : Option Entry → Bool
 is_masking (Some (Link target)) = is_mask target
 is_masking other = false
 
--- the tree without the link that masks the unit, where there is one
+-- the tree without the link that masks the unit, if there is one
 abbrev pub unmasked : Tree → List ℕ → Tree
 unmasked tree unit = if is_masking (map.get tree (unit_path Etc unit)) then map.remove tree (unit_path Etc unit) else tree
 
@@ -167,7 +167,7 @@ pub data RefusesLinks (tree : ReadTree) : InstallVerb → List ℕ → Refused �
   masks_none : {unit : List ℕ} {r : Refused} → put_link tree.entries (unit_path Etc unit) (codes "/dev/null") ≡ Err r
       → RefusesLinks tree verbs.Mask unit r
 
--- and for the units that it takes: the least that can't be enabled refuses
+-- why the verb is refused for the units that it takes: for the least that can't be enabled
 pub data RefusesUnits (tree : ReadTree) : InstallVerb → List ℕ → Refused → Type 0 where
   takes_none : {unit : List ℕ} {r : Refused} → NamesLeast (IsBarred tree unit) (λ other r. CannotEnable other (load tree other) r) r
       → RefusesUnits tree verbs.Enable unit r
@@ -192,13 +192,13 @@ enabling_text enabling.Disabled = codes "disabled"
 enabling_text enabling.Indirect = codes "indirect"
 enabling_text enabling.Static = codes "static"
 
--- by the [Install] section, where no link is there
+-- how a unit is enabled by its [Install] section, if no link is there
 abbrev pub enabling_by : List (List ℕ) → List (List ℕ) → Enabling
 enabling_by (link ∷ links) others = enabling.Disabled
 enabling_by [] (name ∷ names) = enabling.Indirect
 enabling_by [] [] = enabling.Static
 
--- of a name that leads to that unit: another name; or by whether there is a link that disabling removes
+-- how a name that leads to that unit is enabled: as another name of it, or by whether there is a link that disabling removes
 abbrev pub enabling_at : List ℕ → List ℕ → Bool → InstallSettings → Enabling
 enabling_at asked unit linked install =
     if not (bytes_eq unit asked) then enabling.Alias

@@ -1,5 +1,5 @@
 -- The least of several things in an order of theirs.
--- Follows no manual page: where several would serve, the rules of this project take the least.
+-- Follows no manual page: if several would serve, the rules of this project take the least.
 -- Timers, jobs, refusals and the machine depend on this file.
 use Rattle.std.specs.Prelude.{◌≡◌, ◌≢◌, ℕ, List}
 use Rattle.std.specs.declared.cmp.Ordering.TheVariants.{Less}

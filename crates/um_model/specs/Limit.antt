@@ -14,7 +14,7 @@ abbrev pub is_over : Option ℕ → ℕ → ℕ → Bool
 is_over None t began = false
 is_over (Some interval) t began = nat_lt (began + interval) t
 
--- where there is a limit: a start begins a window where there is none or it is over, else is counted where it has room, else is refused
+-- under a limit: a start begins a window if there is none or it is over, else it is counted if the window has room, else it is refused
 abbrev pub limited : Option ℕ → ℕ → ℕ → Option Counted → Bool × Option Counted
 limited interval burst t None = (true, Some (record { began = t; count = 1 }))
 limited interval burst t (Some w) =

@@ -8,7 +8,7 @@ use Rattle.um_model.specs.Machine.{State, IsHeld}
 use Rattle.um_model.specs.Service.{state_of_unit}
 use Rattle.um_model.specs.Transitions.{HasNumber}
 
--- a pending job whose unit is in start-pre, start or a stop state, where this is the number of a live process
+-- a pending job whose unit is in start-pre, start or a stop state, in which this is the number of a live process
 pub record WaitsFor (s : State) (job : Job) (number : ℕ) : Type 0 where
   pub pending : IsPending s.pending job
   pub busy : (is_starting (state_of_unit s.units job.unit).sub || is_stopping (state_of_unit s.units job.unit).sub) ≡ true

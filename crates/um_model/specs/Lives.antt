@@ -11,7 +11,7 @@ use Rattle.um_model.specs.declared.layout.Layout.{Layout}
 
 -- The outcome of an input that was offered to a store.
 pub data Outcome : Type 0 where
-  -- it was answered, as its step is: done or refused
+  -- it was answered with this reply, that of its step: done or refused
   answered : Reply → Outcome
   -- it found no memory, a store that is to be opened again, or the last generation: it is no step
   turned_away : Outcome

@@ -88,7 +88,7 @@ pub data Command : Type 0 where
   PutFile : (path text : List ℕ) → Command
   -- put a link to the target into the tree at the path
   PutLink : (path target : List ℕ) → Command
-  -- remove what stands in the tree at the path
+  -- remove the entry of the tree at the path
   Remove : (path : List ℕ) → Command
   -- load the tree in hand
   DaemonReload : Command
@@ -201,7 +201,7 @@ IsHeld s unit = (map.get s.units unit ≢ None) ⊎ (map.get s.pending unit ≢ 
 abbrev pub IsHeldOr : State → List ℕ → List ℕ → Type 0
 IsHeldOr s named unit = IsHeld s unit ⊎ (unit ≡ named)
 
--- these are the units of that kind, by name
+-- the list has just the units with the property, in the order of their names
 pub record AreByName (Is : List ℕ → Type 0) (names : List (List ℕ)) : Type 0 where
   pub each : (unit : List ℕ) → Contains names unit ↔ Is unit
   pub sorted : AllPairs IsNamedBefore names
@@ -219,9 +219,9 @@ pub data IsReplyTo (s : State) : Query → Reply → Type 0 where
   lists_units : {names : List (List ℕ)} → AreByName (IsKnown s.loaded (IsHeld s)) names → IsReplyTo s ListUnits (Listed (each (unit_listed s) names))
   lists_jobs : IsReplyTo s ListJobs (Jobs (jobs_shown s.pending))
 
--- ---- one unit and what happens to it
+-- ---- the events of one unit
 
--- the settings that a unit acts by: its own where it can be loaded, else those of a simple service where nothing is set
+-- the settings that a unit acts by: its own if it can be loaded, else those of a simple service without any setting
 abbrev pub settings_in : ReadTree → List ℕ → ServiceSettings
 settings_in tree unit = option_map_or (λ l. l.settings.service) (loadable_in tree unit) (default_settings Simple)
 
@@ -229,16 +229,16 @@ abbrev pub is_waiting : Option JobState → Bool
 is_waiting (Some Waiting) = true
 is_waiting other = false
 
--- what stands around the unit at the moment t
+-- the surroundings of the unit at the moment t
 abbrev pub around : ℕ → State → List ℕ → Around
 around t s unit =
     record { moment = t; next = s.next; loadable = is_some (loadable_in s.loaded unit); stop_waits = is_waiting (jobs_of_unit s.pending unit).stop }
 
--- what follows for the unit
+-- the change of the unit by an event at the moment t
 abbrev pub change_of : ℕ → State → List ℕ → UnitEvent → Change
 change_of t s unit event = transition (settings_in s.loaded unit) (around t s unit) (state_of_unit s.units unit) event
 
--- the state with what follows for the unit
+-- the state after this change of the unit
 abbrev pub changed : State → List ℕ → Change → State
 changed s unit c = record s {
   units = with_unit s.units unit c.unit;
@@ -277,7 +277,7 @@ pub data Becomes (s : State) (unit : List ℕ) (c : Change) : State → Type 0 w
   alone : ¬ ((c.start ≡ Fails) × ((jobs_of_unit s.pending unit).start ≡ Some Running)) → Becomes s unit c (changed s unit c)
   along : {s' : State} → (c.start ≡ Fails) × ((jobs_of_unit s.pending unit).start ≡ Some Running) → TakesAlong (changed s unit c) unit s' → Becomes s unit c s'
 
--- what happens to a unit at the moment t is carried out, for that unit by itself
+-- an event of a unit at the moment t is carried out, for that unit by itself
 pub record Carries (t : ℕ) (unit : List ℕ) (event : UnitEvent) (s : State) (actions : List Action) (s' : State) : Type 0 where
   pub state : Becomes s unit (change_of t s unit event) s'
   pub asked : AreActions (settings_in s.loaded unit) (around t s unit) (change_of t s unit event).unit (change_of t s unit event).order actions
@@ -297,7 +297,7 @@ pub data FallDown (t : ℕ) : List (List ℕ) → State → List Action → Stat
   told_next : {unit : List ℕ} {units falling : List (List ℕ)} {s u v : State} {first more : List Action} → Carries t unit BoundStop s first u
       → AreByName (FallsWith s u unit) falling → FallDown t (falling ++ units) u more v → FallDown t (unit ∷ units) s (first ++ more) v
 
--- what happens to a unit at the moment t is carried out, with all units that fall with it
+-- an event of a unit at the moment t is carried out, with all units that fall with it
 pub data Happens (t : ℕ) (unit : List ℕ) (event : UnitEvent) (s : State) : List Action → State → Type 0 where
   happens : {falling : List (List ℕ)} {u v : State} {first more : List Action} → Carries t unit event s first u → AreByName (FallsWith s u unit) falling
       → FallDown t falling u more v → Happens t unit event s (first ++ more) v
@@ -323,7 +323,7 @@ pub data Settles (t : ℕ) : State → List Action → State → Type 0 where
   begins_next : {s u v : State} {first more : List Action} (j : Job) → BeginsNext (IsBefore s.loaded) s.units s.pending j
       → Happens t j.unit (begins j.kind) (begun s j) first u → Settles t u more v → Settles t s (first ++ more) v
 
--- ---- what a command does
+-- ---- the effect of a command
 
 -- why a unit can't be started, by the result of its loading
 pub data CannotStart (asked : List ℕ) : Loading → Refused → Type 0 where
@@ -335,7 +335,7 @@ pub data CannotStart (asked : List ℕ) : Loading → Refused → Type 0 where
 abbrev pub active_asked : State → List ℕ → ActiveState
 active_asked s asked = active_state_of (state_asked s asked).sub
 
--- what a command demands of its unit: a try-restart nothing where that isn't active
+-- the demand of a command on its unit: a try-restart demands nothing if that isn't active
 abbrev pub demand_of : UnitVerb → ActiveState → Option Demand
 demand_of verbs.Start a = Some demands.Start
 demand_of verbs.Stop a = Some demands.Stop
@@ -345,7 +345,7 @@ demand_of verbs.TryRestart a = if is_active a then Some demands.Restart else Non
 abbrev pub jobs_asked : State → List ℕ → UnitJobs
 jobs_asked s asked = jobs_of_unit s.pending (unit_asked s asked)
 
--- what the plan for a unit is made from
+-- the scene from which the plan for a unit is made
 abbrev pub scene_at : State → List ℕ → Scene
 scene_at s named = record {
   Depends = Depends s.loaded (IsHeldOr s named);
@@ -364,7 +364,7 @@ pub record IsMissing (s : State) (asked : List ℕ) (r : Refused) : Type 0 where
   pub isnt_held : map.get s.units asked ≡ None
   pub refusal : r ≡ not_loaded asked
 
--- a stop or a try-restart is for a unit that is there already, and it is missing
+-- a stop or a try-restart needs a unit that is there already, and the unit is missing
 pub data IsNotThere (s : State) : UnitVerb → List ℕ → Refused → Type 0 where
   to_stop : {asked : List ℕ} {r : Refused} → IsMissing s asked r → IsNotThere s verbs.Stop asked r
   to_try_restart : {asked : List ℕ} {r : Refused} → IsMissing s asked r → IsNotThere s verbs.TryRestart asked r
@@ -401,7 +401,7 @@ pub record HasNoneWaiting (s : State) (asked : List ℕ) (r : Refused) : Type 0 
 abbrev pub CausesOfLoad : State → ReadTree → Refused → Type 0
 CausesOfLoad s tree = FirstCause (IsCrowded tree (IsHeld s)) (NamesCycle (IsBefore tree) s.pending)
 
--- the tree as it is read once it is loaded for an input of this profile: by that, or by the loaded profile where that is later
+-- the tree as it is read once it is loaded for an input of this profile: by that profile, or by the loaded one if that is later
 abbrev pub as_loaded : Profile → State → Tree → ReadTree
 as_loaded profile s tree = read_by (later s.loaded.profile profile) tree
 
@@ -461,7 +461,7 @@ pub data Does (profile : Profile) (t : ℕ) (s : State) : Command → List Actio
   resets : {asked : Option (List ℕ)} {actions : List Action} {u : State} → AreReset t (units_reset s asked) s actions u
       → Does profile t s (ResetFailed asked) actions u
 
--- ---- what follows from what happens
+-- ---- the effect of a happening
 
 -- the unit of the live process with the number: of several that with the least name
 abbrev pub IsProcessOf : ByUnit UnitState → ℕ → List ℕ → Type 0
@@ -513,7 +513,7 @@ pub record AwaitsReport (s : State) (number : ℕ) (unit : List ℕ) : Type 0 wh
   pub kind : has_one_command (settings_in s.loaded unit).kind ≡ true
   pub main : (state_of_unit s.units unit).main ≡ Some number
 
--- the state after a boot with this id: nothing is held of any unit, and what stood under `run/` is gone; process numbers go on
+-- the state after a boot with this id: nothing is held of any unit, and the entries under `run/` are gone; process numbers go on
 abbrev pub booted : List ℕ → State → State
 booted boot s = record s { tree = without_run s.tree; loaded = lasting_tree s.loaded; boot = boot; units = map.empty; pending = map.empty }
 
@@ -526,14 +526,14 @@ pub data Follows (t : ℕ) (s : State) : Happening → List Action → State →
   ticks : {actions : List Action} {v : State} (timers : Timers) → AreDeadlines s.units timers → Fires t timers s actions v → Follows t s Tick actions v
   boots : {boot : List ℕ} → Follows t s (Booted boot) [] (booted boot s)
 
--- without effect: the end of a process that isn't live, a report for which no unit waits, a tick that changes nothing, the boot that is known
+-- a happening without effect: the end of a process that isn't live, a report for which no unit waits, a tick that changes nothing, the known boot
 pub data HasNoEffect (t : ℕ) (s : State) : Happening → Type 0 where
   is_over : {number : ℕ} {end : End} → IsOver s.units number → HasNoEffect t s (ProcessEnded number end)
   isnt_awaited : {number : ℕ} → ((unit : List ℕ) → IsProcessOf s.units number unit → ¬ AwaitsReport s number unit) → HasNoEffect t s (ProcessExecuted number)
   is_idle : Follows t s Tick [] s → HasNoEffect t s Tick
   is_known : {boot : List ℕ} → boot ≡ s.boot → HasNoEffect t s (Booted boot)
 
--- the moment of a step: the input's, or the clock's where that is later
+-- the moment of a step: the input's, or the clock's if that is later
 abbrev pub moment_of : State → ℕ → ℕ
 moment_of s moment = max s.clock moment
 

@@ -103,15 +103,15 @@ is_unit_name text = nat_le (length text) name_limit && is_some (suffix_of text) 
 abbrev pub is_template : List ℕ → Bool
 is_template name = option_map_or (λ instance. length instance == 0) (instance_of name) false
 
--- the text of a suffix, where there is one
+-- the text of a suffix, if there is one
 abbrev pub suffix_text_of : Option Suffix → List ℕ
 suffix_text_of suffix = option_map_or suffix_text suffix []
 
--- the name with this instance, in place of its own where it has one
+-- the name with this instance, in place of its own if it has one
 abbrev pub with_instance : List ℕ → List ℕ → List ℕ
 with_instance name instance = prefix_of name ++ (64 ∷ instance ++ suffix_text_of (suffix_of name))
 
--- the text, where it is a unit name
+-- the text, if it is a unit name
 abbrev pub named : List ℕ → Option (List ℕ)
 named text = if is_unit_name text then Some text else None
 
@@ -163,6 +163,6 @@ is_target_type other = false
 abbrev pub is_target : List ℕ → Bool
 is_target unit = is_target_type (suffix_of unit)
 
--- the instance of a name; empty where it has none
+-- the instance of a name; empty if it has none
 abbrev pub instance_or_empty : List ℕ → List ℕ
 instance_or_empty name = unwrap_or (instance_of name) []

@@ -26,7 +26,7 @@ begun_in (suc pieces) front (b ∷ bs) = by_front (front b bs) (b ∷ bs) (λ n.
 abbrev pub begun : {A : Type 0} → (ℕ → List ℕ → Front A) → List ℕ → Option (List A × List ℕ)
 begun front text = begun_in (length text) front text
 
--- what a text stands for
+-- the things that a whole text stands for
 abbrev pub reading : {A : Type 0} → (ℕ → List ℕ → Front A) → List ℕ → Option (List A)
 reading front text = nothing_left (begun front text)
 

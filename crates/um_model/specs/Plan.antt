@@ -1,4 +1,4 @@
--- What a transaction makes of the pending jobs, and why it is refused.
+-- The pending jobs after a transaction, and why it is refused.
 -- Follows systemctl(1), "start", "stop", "restart" and "--job-mode=".
 -- The machine depends on this file.
 use Rattle.std.specs.Prelude.{◌≡◌, ◌⊎◌, ℕ, ⊤, List, [], ◌∷◌, map as each, All, Option, Some, None}
@@ -36,7 +36,7 @@ Demands scene = IsDemanded scene.Depends (IsActive scene) scene.IsLoadable
 
 -- ---- the pending jobs after the transaction
 
--- which demand counts for a unit: where it is restarted and started too, it is restarted
+-- the demand that counts for a unit: a restart before a start, and a start before a stop
 pub data Counts (scene : Scene) (root : Demand × List ℕ) (unit : List ℕ) : Option Demand → Type 0 where
   restarted : Demands scene root (Restart, unit) → Counts scene root unit (Some Restart)
   started : ¬ Demands scene root (Restart, unit) → Demands scene root (Start, unit) → Counts scene root unit (Some Start)
@@ -55,13 +55,13 @@ pub record IsPlan (scene : Scene) (root : Demand × List ℕ) (after : ByUnit Un
 abbrev pub IsStarted : Scene → Demand × List ℕ → List ℕ → Type 0
 IsStarted scene root unit = Demands scene root (Start, unit) ⊎ Demands scene root (Restart, unit)
 
--- it is started, and can't be
+-- the unit is started, and can't be
 pub record IsBarred (scene : Scene) (root : Demand × List ℕ) (unit : List ℕ) : Type 0 where
   pub started : IsStarted scene root unit
   pub refusal : Refused
   pub cause : scene.CannotStart unit refusal
 
--- it is started and stopped
+-- the unit is both started and stopped
 pub record Clashes (scene : Scene) (root : Demand × List ℕ) (unit : List ℕ) : Type 0 where
   pub started : IsStarted scene root unit
   pub stopped : Demands scene root (Stop, unit)

@@ -38,11 +38,11 @@ bad_name text = refused 3 (codes "BadName") (text ∷ [])
 abbrev pub not_found : List ℕ → Refused
 not_found unit = refused 4 (codes "NotFound") (unit ∷ [])
 
--- it is masked
+-- the unit is masked
 abbrev pub masked : List ℕ → Refused
 masked unit = refused 5 (codes "Masked") (unit ∷ [])
 
--- it has a refused setting, or is a template
+-- the unit has a refused setting, or is a template
 abbrev pub bad_setting : List ℕ → List ℕ → Refused
 bad_setting unit reason = refused 6 (codes "BadSetting") (unit ∷ reason ∷ [])
 
@@ -110,7 +110,7 @@ no_such_job unit = refused 21 (codes "NoSuchJob") (unit ∷ [])
 abbrev pub other_layout : Refused
 other_layout = refused 22 (codes "OtherLayout") []
 
--- of two causes in their order the first that holds refuses
+-- the refusal of the first of two causes that holds
 pub data FirstCause (First Second : Refused → Type 0) (r : Refused) : Type 0 where
   at_first : First r → FirstCause First Second r
   at_second : ((other : Refused) → ¬ First other) → Second r → FirstCause First Second r

@@ -75,7 +75,7 @@ end_by code signal lost = None
 unfoldable pub end_told : Data → Option End
 end_told d = end_by (get (codes "code") d) (get (codes "signal") d) (get (codes "lost") d)
 
--- what becomes of pending jobs in a command's way, by its word
+-- the mode for pending jobs in a command's way, by its word
 abbrev pub job_mode_of : List ℕ → Option JobMode
 job_mode_of text = if bytes_eq text (codes "replace") then Some Replace else if bytes_eq text (codes "fail") then Some Fail else None
 
@@ -85,7 +85,7 @@ job_mode_told d = option_map_or (λ mode. option_and_then job_mode_of (as_str mo
 
 -- ---- the requests that they make
 
--- what the fields of an object request: nothing if one is missing or ill-typed; a text that names no unit is refused
+-- the request that an object's fields make: nothing if one is missing or ill-typed; a text that names no unit is refused
 abbrev pub Asking : Type 0
 Asking = Data → Option (Result Asked Refused)
 
@@ -105,7 +105,7 @@ happened h = OfEvent (Happened h)
 abbrev pub with_text : List ℕ → (List ℕ → Asking) → Asking
 with_text name asking d = option_and_then (λ text. asking text d) (text_told name d)
 
--- this of the unit that the text of its field names
+-- this with the unit that the text of its field names
 unfoldable pub of_unit : (List ℕ → Asked) → Asking
 of_unit ask d = option_map (λ text. result_map ask (name_asked text)) (text_told (codes "unit") d)
 
@@ -121,7 +121,7 @@ install verb = of_unit (λ unit. command (Install verb unit))
 abbrev pub about_unit : (List ℕ → Query) → Asking
 about_unit query = of_unit (λ unit. OfQuery (query unit))
 
--- this of the process with the number in its field
+-- this with the process number in its field
 unfoldable pub of_process : (ℕ → Asking) → Asking
 of_process asking d = option_and_then (λ number. asking number d) (option_and_then (number_in last_of_64_bits) (get (codes "number") d))
 
@@ -132,7 +132,7 @@ pub record Row : Type 0 where
   pub text : List ℕ  -- the verb, as it is written
   pub required : List (List ℕ)  -- the fields that it must have
   pub optional : List (List ℕ)  -- those that it may have
-  pub asks : Asking  -- what it requests with them
+  pub asks : Asking  -- the request that they make
 
 -- a row by its columns
 abbrev pub columns : List ℕ → (required optional : List (List ℕ)) → Asking → Row
@@ -204,7 +204,7 @@ is_among text texts = list_any (bytes_eq text) texts
 abbrev pub may_have : Mode → Row → List ℕ → Bool
 may_have mode r key = bytes_eq key (codes "verb") || in_memory mode && bytes_eq key (codes "at") || is_among key r.required || is_among key r.optional
 
--- it has each required field, and no other than these, the optional ones, the verb and the moment
+-- the object has each required field, and no other than these, the optional ones, the verb and the moment
 unfoldable pub has_its_fields : Mode → Row → Data → Bool
 has_its_fields mode r d = list_all (may_have mode r) (keys_at d) && list_all (λ name. is_some (get name d)) r.required
 

@@ -34,7 +34,7 @@ first_held tree unit = option_or (held_in Etc tree unit) (option_or (held_in Run
 abbrev pub unit_in_target : List ℕ → List ℕ
 unit_in_target target = after_last is_slash target
 
--- a link to the unit's own template stands for what the template is
+-- the entry is a link to the unit's own template, and stands for the entry of that
 abbrev pub leads_to_template : Option (List ℕ) → Entry → Bool
 leads_to_template (Some template) (Link target) = bytes_eq (unit_in_target target) template
 leads_to_template template entry = false
@@ -61,7 +61,7 @@ is_served_type (Some Service) = true
 is_served_type (Some Target) = true
 is_served_type other = false
 
--- this unit is found even where nothing holds it
+-- this unit is found even if nothing holds it
 abbrev pub shutdown_target : List ℕ
 shutdown_target = codes "shutdown.target"
 
@@ -73,7 +73,7 @@ is_mask target = bytes_eq target (codes "/dev/null")
 abbrev pub is_of_same_type : List ℕ → List ℕ → Bool
 is_of_same_type unit other = bytes_eq (suffix_text_of (suffix_of unit)) (suffix_text_of (suffix_of other))
 
--- a template takes the instance of the name that leads to it, where there is one
+-- a template takes the instance of the name that leads to it, if there is one
 abbrev pub with_instance_of : Option (List ℕ) → List ℕ → List ℕ
 with_instance_of instance other = option_map_or (λ i. if is_template other then with_instance other i else other) instance other
 
@@ -116,7 +116,7 @@ folders_of unit = each (λ layer. layer_text layer ++ (unit ++ codes ".d/")) (Et
 abbrev pub drop_in_folders : List ℕ → List (List ℕ)
 drop_in_folders unit = folders_of unit ++ option_map_or folders_of (template_of unit) []
 
--- the drop-in that an entry of the tree is, with its name in the folder, where it is a file there
+-- the drop-in that an entry of the tree is, with its name in the folder, if it is a file there
 abbrev pub drop_in_at : List ℕ → List ℕ × Entry → List (List ℕ × UnitFile)
 drop_in_at folder (path, File text) = option_map_or (λ name. (name, record { path = path; text = text }) ∷ []) (behind folder path) []
 drop_in_at folder (path, Link target) = []

@@ -82,7 +82,7 @@ is_success other = false
 abbrev pub holds_nothing : UnitState → Bool
 holds_nothing u = (unit_state.ghosts).eq u dead_unit
 
--- it is that number
+-- there is a number, and it is this one
 abbrev pub is_number : ℕ → Option ℕ → Bool
 is_number number o = option_map_or (λ n. n == number) o false
 
@@ -94,11 +94,11 @@ ByUnit A = map.FinMap (slice_cmp nat_cmp) A
 abbrev pub state_of_unit : ByUnit UnitState → List ℕ → UnitState
 state_of_unit units unit = unwrap_or (map.get units unit) dead_unit
 
--- with this state of a unit; a dead one isn't held
+-- the units, with this state of one; a dead one isn't held
 abbrev pub with_unit : ByUnit UnitState → List ℕ → UnitState → ByUnit UnitState
 with_unit units unit u = if holds_nothing u then map.remove units unit else map.insert units unit u
 
--- no unit is held of which nothing is known
+-- no unit is held that equals the dead one
 abbrev pub AreTidyUnits : ByUnit UnitState → Type 0
 AreTidyUnits units = (unit : List ℕ) → map.get units unit ≢ Some dead_unit
 

@@ -63,12 +63,12 @@ results =
     result.Success ∷ result.ExitCode ∷ result.Signal ∷ result.Timeout ∷ result.Lost ∷ result.StartLimitHit ∷ result.Dependency ∷ result.NotLoaded
     ∷ result.Resources ∷ []
 
--- the tag of what a job does
+-- the tag of a job's kind
 abbrev pub kind_tag : JobKind → ℕ
 kind_tag kind.Stop = 0
 kind_tag kind.Start = 1
 
--- what jobs do, by their tags
+-- the kinds of jobs by their tags
 abbrev pub kinds : List JobKind
 kinds = kind.Stop ∷ kind.Start ∷ []
 
@@ -212,7 +212,7 @@ unit_at =
     as_at unit_of (pair_at (table_at sub_states) (pair_at (table_at results) (pair_at (option_at process_at) (pair_at (option_at process_at)
     (pair_at (number_at 4) (pair_at (option_at deadline_at) (pair_at (option_at counted_at) (pair_at (table_at truths) (option_at end_at)))))))))
 
--- a unit that has bytes: what stands in its fields has some
+-- a unit that has bytes: each of its fields has some
 pub record FitUnit (u : UnitState) : Type 0 where
   pub main : IfSome u.main FitProcess
   pub control : IfSome u.control FitProcess

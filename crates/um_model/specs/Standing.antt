@@ -10,7 +10,7 @@ pub record Table (A : Type 0) : Type 0 where
   pub names : List (List ℕ)
   pub held : ByUnit A
 
--- a state, whether its units and pending jobs have common numbers, and the names that have one; none has where they have none in common
+-- a state, whether its units and pending jobs have common numbers, and the names that have one; none has one if they have none in common
 pub record Standing : Type 0 where
   pub state : State
   pub common : Bool

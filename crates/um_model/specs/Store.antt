@@ -131,7 +131,7 @@ abbrev pub is_header : Layout → Sector → ℕ → ℕ → Bool
 is_header layout sector generation size =
     nat_le 1 generation && (nat_lt generation (2 ^ 64) && (nat_le size (body_limit layout) && bytes_eq sector (header_sector generation size)))
 
--- a header's generation and length, where the sector is a well-formed one
+-- a header's generation and length, if the sector is a well-formed one
 abbrev pub header_of : Layout → Sector → Option (ℕ × ℕ)
 header_of layout sector =
     let generation = big_number 8 (drop 8 sector) in
@@ -148,14 +148,14 @@ pub record Newest : Type 0 where
 abbrev pub held_by : Layout → Image → Slot → ℕ × ℕ → Newest
 held_by layout image slot header = record { slot = slot; generation = header.0; body = body_at layout image slot header.1 }
 
--- of the headers of slots A and B the newer, of equal generations slot A's
+-- the slot with the newer of two headers, and of equal generations slot A
 abbrev pub newer_held : Layout → Image → Option (ℕ × ℕ) → Option (ℕ × ℕ) → Option Newest
 newer_held layout image None None = None
 newer_held layout image (Some a) None = Some (held_by layout image A a)
 newer_held layout image None (Some b) = Some (held_by layout image B b)
 newer_held layout image (Some a) (Some b) = if nat_le b.0 a.0 then Some (held_by layout image A a) else Some (held_by layout image B b)
 
--- What the newest slot of an image holds, None where neither has a well-formed header.
+-- The newest slot of an image with its generation and its body, None if neither slot has a well-formed header.
 unfoldable pub newest_of : Layout → Image → Option Newest
 newest_of layout image = newer_held layout image (header_of layout (image (slot_start layout A))) (header_of layout (image (slot_start layout B)))
 
@@ -172,7 +172,7 @@ abbrev pub longest : Format → ℕ
 longest One = 131072
 longest Two = 122880
 
--- that of a generation in the format in which stores are written
+-- the longest record of a generation, in the format in which stores are written
 abbrev pub record_limit : Layout → ℕ → ℕ
 record_limit layout generation = longest current
 
@@ -318,7 +318,7 @@ abbrev pub all_records : Format → Layout → ℕ → Image → List (List ℕ)
 all_records One layout newest image = records_of One layout newest image
 all_records Two layout newest image = records_of Two layout newest image ++ records_of Two layout (newest + 1) image
 
--- What an image of a store holds: the newest header with its body, the records that count beside it, and none later in the log.
+-- An image of a store: the newest header with its body, the records that count beside it, and none later in the log.
 pub record IsStore (format : Format) (layout : Layout) (image : Image) (slot : Slot) (generation : ℕ) (body : List ℕ) (records : List (List ℕ))
     : Type 0 where
   pub first : image 0 ≡ superblock format layout

@@ -1,6 +1,6 @@
--- What a unit file says: its lines, joined where they go on, and of these the heads, assignments and warnings.
+-- The reading of a unit file: its lines, joined where they go on, and of these the heads, assignments and warnings.
 -- Follows systemd.syntax(7).
--- The reader of unit files, and what units are by their assignments, depend on this file.
+-- The reader of unit files, and the units by their assignments, depend on this file.
 use Rattle.std.specs.Prelude.{ℕ, ◌+◌, ◌-◌, ◌%◌, Bool, true, false, ◌||◌, List, [], ◌∷◌, ◌++◌, length, drop, reverse, take_while}
 use Rattle.std.specs.Prelude.{Option, Some, None, slice_index, nat_lt, ◌==◌, if◌then◌else◌}
 use Rattle.std.specs.Option.{option_map_or}
@@ -61,7 +61,7 @@ joined (l ∷ ls) =
 abbrev pub joined_lines : List ℕ → List Line
 joined_lines text = joined (physical 1 (lines text))
 
--- What a line says
+-- The statement of a line
 
 -- a line is blank, a section's head with its name, a key and a value, or has no `=`
 pub data Statement : Type 0 where
@@ -83,7 +83,7 @@ statement_of text =
     option_map_or Head (in_brackets (trim text)) (if is_blank text then Blank else (if nat_lt (position_or_len is_equals text) (length text)
     then Pair (trim (before_first is_equals text)) (trim (after_first is_equals text)) else Stray))
 
--- What a text says
+-- The reading of a text
 
 -- a section's head with its name, a key and a value, or a warning, each with the number of its line; the value stands in the
 -- text as it is, if the line is whole
@@ -121,6 +121,6 @@ abbrev pub placed_in : Option (List ℕ) → List Line → List Placed
 placed_in section [] = []
 placed_in section (l ∷ ls) = placed_of (statement_of l.text) section l ++ placed_in (section_after (statement_of l.text) section) ls
 
--- what a text says
+-- the reading of a text
 abbrev pub reading_of : List ℕ → List Placed
 reading_of text = placed_in None (joined_lines text)

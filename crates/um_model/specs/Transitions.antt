@@ -1,4 +1,4 @@
--- The service table: what follows for a unit from what happens to it, by its sub state, a clause a row; the first row that fits.
+-- The service table: the change of a unit by an event, by its sub state, a clause for each row; the first row that fits counts.
 -- Follows systemd.service(5), "Type=", "ExecStartPre=", "ExecStart=", "ExecStop=", "TimeoutStartSec=", "TimeoutStopSec=", "RestartSec=".
 -- The machine depends on this file.
 use Rattle.std.specs.Prelude.{◌≡◌, ℕ, ◌+◌, ◌&&◌, ◌||◌, ◌⊎◌, Bool, true, false, not, if◌then◌else◌, List, [], ◌∷◌, ◌++◌, map, slice_get, nat_lt, Option, Some, None, is_some}
@@ -34,7 +34,7 @@ use Rattle.um_model.specs.declared.transition.UnitEvent.TheVariants.{StartBegins
 use Rattle.um_model.specs.declared.transition.UnitKind.{UnitKind}
 use Rattle.um_model.specs.declared.transition.UnitKind.TheVariants.{Simple, Exec, Oneshot, Target}
 
--- the deadline a span after the moment; none where the span never ends
+-- the deadline a span after the moment; none if the span never ends
 abbrev pub deadline_after : ℕ → Option ℕ → Option ℕ
 deadline_after t span = option_map (λ s. t + s) span
 
@@ -68,19 +68,19 @@ HasItsProcess u = has_its_process u.sub u ≡ true
 abbrev pub just : UnitState → Change
 just u = record { unit = u; order = Nothing; start = Stays; stop_ends = false }
 
--- with an order for its processes
+-- the change, with an order for the unit's processes
 abbrev pub asking : Order → Change → Change
 asking o c = record c { order = o }
 
--- its running start job ends
+-- the change, and the running start job of the unit ends
 abbrev pub start_ends : Change → Change
 start_ends c = record c { start = Ends }
 
--- its running start job fails
+-- the change, and the running start job of the unit fails
 abbrev pub start_fails : Change → Change
 start_fails c = record c { start = Fails }
 
--- its running stop job ends
+-- the change, and the running stop job of the unit ends
 abbrev pub stop_ends : Change → Change
 stop_ends c = record c { stop_ends = true }
 
@@ -134,7 +134,7 @@ abbrev pub pre_command : Around → UnitState → ℕ → Change
 pre_command c u i =
     starts_so c (record u { index = i }) (asking (Spawn OfStartPre i) (just (record u { sub = StartPre; control = Some c.next; index = i })))
 
--- a start by its first ExecStartPre= command, or where the unit has none by its kind
+-- a start by its first ExecStartPre= command, or by the kind of the unit if it has none
 abbrev pub prepares : ServiceSettings → Around → UnitState → Change
 prepares s c u =
     if has_place s.start_pre 0 then pre_command c (record u { deadline = deadline_after c.moment s.timeout_start }) 0 else start_of s.kind s c u
@@ -148,7 +148,7 @@ starts_if true window s c u = prepares s c (record u { result = result.Success; 
 abbrev pub starts : ServiceSettings → Around → UnitState → Change
 starts s c u = let answer = counted s.limit_interval s.limit_burst c.moment u.window in starts_if answer.0 answer.1 s c u
 
--- all ExecStartPre= commands are done: the unit starts by its kind, where it can be loaded by then; else the start fails
+-- all ExecStartPre= commands are done: the unit starts by its kind, if it can be loaded by then; else the start fails
 abbrev pub starts_prepared : ServiceSettings → Around → UnitState → Change
 starts_prepared s c u =
     if c.loadable then start_of s.kind s c (record u { index = 0 }) else start_fails (rests s c (record u { result = result.NotLoaded }))
@@ -178,11 +178,11 @@ rests_unless_live s c u = if is_live u then just u else rests s c u
 abbrev pub noted : UnitState → End → Bool → UnitState
 noted u e clean = if clean then u else record u { result = or_later u.result (unclean_result e) }
 
--- the unit without its main process, which ended so
+-- the unit without its main process, which ended in this way
 abbrev pub without_main : ServiceSettings → UnitState → End → UnitState
 without_main s u e = noted (record u { main = None; last = Some e }) e (is_clean s u Main e)
 
--- the unit without its control process, which ended so
+-- the unit without its control process, which ended in this way
 abbrev pub without_control : ServiceSettings → UnitState → End → UnitState
 without_control s u e = noted (record u { control = None }) e (is_clean s u Control e)
 
@@ -194,7 +194,7 @@ timed_out u = record u { result = or_later u.result result.Timeout }
 abbrev pub told_to_stop : UnitState → UnitState
 told_to_stop u = record u { stop_asked = true }
 
--- it is dead at once
+-- the unit is dead at once
 abbrev pub dies : UnitState → Change
 dies u = stop_ends (just (record u { sub = Dead; deadline = None }))
 
@@ -212,7 +212,7 @@ is_control_done s which u e = is_clean s u Control e || is_told e && has_dash s 
 abbrev pub start_times_out : ServiceSettings → Around → UnitState → Change
 start_times_out s c u = start_fails (terminates s c (record u { result = result.Timeout }))
 
--- the rows: what follows in this sub state, by its active state, from this event; by the last one the unit stays as it is
+-- the rows: the change in this active state and sub state by this event; by the last row the unit stays as it is
 abbrev pub row : ServiceSettings → Around → UnitState → ActiveState → SubState → UnitEvent → Change
 row s c u _ sub Reset = just (forgiven u)
 row s c u IsActive sub StartBegins = start_ends (just u)
@@ -256,8 +256,8 @@ is_going other = false
 abbrev pub fails_start : SubState → Change → Change
 fails_start sub c = record c { start = if is_starting sub then Fails else c.start }
 
--- the table: a unit that can't be loaded isn't started; a bound stop is as a stop job that begins, where the unit is active or activating,
--- but that a start that has begun fails by it
+-- the table: a unit that can't be loaded isn't started; a bound stop of a unit that is active or activating is as a stop job that begins,
+-- except that a start that has begun fails by it
 abbrev pub transition : ServiceSettings → Around → UnitState → UnitEvent → Change
 transition s c u StartBegins =
     if c.loadable then row s c u (active_state_of u.sub) u.sub StartBegins else start_fails (just (record u { result = result.NotLoaded }))

@@ -25,7 +25,7 @@ layer_text Etc = codes "etc/"
 layer_text Run = codes "run/"
 layer_text Lib = codes "lib/"
 
--- what a path names, beside its unit: the unit's own file or link, a drop-in by what stands before `.conf`, or the unit that is wanted or required
+-- the place that a path names beside its unit: the unit's own entry, a drop-in by its name before `.conf`, or the unit that is wanted or required
 pub data Place : Type 0 where
   Unit : Place
   DropIn : List ℕ → Place
@@ -96,7 +96,7 @@ abbrev pub around_slash : List ℕ → Option (List ℕ × List ℕ)
 around_slash text =
     if nat_lt (position_or_len is_slash text) (length text) then Some (before_first is_slash text, after_first is_slash text) else None
 
--- the layer, where the path begins with its text, and what follows
+-- the layer and the rest, if the path begins with the layer's text
 abbrev pub in_layer : List ℕ → Layer → Option (Layer × List ℕ)
 in_layer path layer = option_map (λ rest. (layer, rest)) (behind (layer_text layer) path)
 
@@ -110,7 +110,7 @@ place_in directory file =
     (option_or (option_map (λ unit. (unit, Wants file)) (before (codes ".wants") directory))
     (option_map (λ unit. (unit, Requires file)) (before (codes ".requires") directory)))
 
--- the unit and the place: the whole of what follows the layer, or a file in a directory
+-- the unit and the place: by the whole path after the layer, or by a file in a directory
 abbrev pub unit_and_place : List ℕ → Option (List ℕ × Place)
 unit_and_place rest = option_map_or (λ parts. place_in parts.0 parts.1) (around_slash rest) (Some (rest, Unit))
 
@@ -122,7 +122,7 @@ path_parts path =
 
 -- ---- the tree
 
--- what stands at a path: a file with its text, or a link with its target
+-- an entry of a tree: a file with its text, or a link with its target
 pub data Entry : Type 0 where
   File : List ℕ → Entry
   Link : List ℕ → Entry
@@ -163,7 +163,7 @@ abbrev pub is_fit_target : Option PathParts → List ℕ → Bool
 is_fit_target None target = false
 is_fit_target (Some p) target = nat_le 1 (length target) && nat_le (length target) target_limit && may_lead_to p.unit p.place target
 
--- what may stand at a path: at a served one a file with no more than the limit's text, or a link to a fit target
+-- the entry may stand at the path: at a served one a file with no more text than the limit, or a link to a fit target
 abbrev pub is_fit_entry : List ℕ → Entry → Bool
 is_fit_entry path (File text) = is_served path && nat_le (length text) text_limit
 is_fit_entry path (Link target) = is_fit_target (path_parts path) target
@@ -207,7 +207,7 @@ link_cause tree path target =
     else (if is_other_than_link (map.get tree path) target then Some (exists_at path)
     else (if is_full_for tree path then Some (too_large Entries) else None))
 
--- the tree with the link put at the path, where nothing stands or the same link
+-- the tree with the link put at the path, at which nothing stands or the same link
 unfoldable pub put_link : Tree → List ℕ → List ℕ → Result Tree Refused
 put_link tree path target = unless_refused (link_cause tree path target) (map.insert tree path (Link target))
 
@@ -215,7 +215,7 @@ put_link tree path target = unless_refused (link_cause tree path target) (map.in
 abbrev pub remove_cause : Tree → List ℕ → Option Refused
 remove_cause tree path = if is_none (map.get tree path) then Some (bad_path path) else None
 
--- the tree without what stands at the path
+-- the tree without the entry at the path
 unfoldable pub remove_at : Tree → List ℕ → Result Tree Refused
 remove_at tree path = unless_refused (remove_cause tree path) (map.remove tree path)
 

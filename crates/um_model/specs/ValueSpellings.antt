@@ -1,4 +1,4 @@
--- What the texts of values spell, as relations that have one meaning at most.
+-- The meanings of the texts of values, as relations that give one meaning at most.
 -- Follows systemd.syntax(7), systemd.time(7) and systemd.service(5), "SuccessExitStatus=".
 -- The laws of um_value, and its contracts on time spans, depend on this file.
 use Rattle.std.specs.Prelude.{nat_le, ℕ, Option, Some, None, Bool, List, is_some, ◌≡◌, true, ◌≤◌, sum, false, codes, ◌<◌, ◌*◌, length, if◌then◌else◌}

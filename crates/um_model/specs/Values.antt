@@ -1,4 +1,4 @@
--- What the values of settings mean: truth values, numbers, time spans, sets of exits, and when a service is started again.
+-- The meanings of settings' values: truth values, numbers, time spans, sets of exits, and when a service is started again.
 -- Follows systemd.syntax(7) in truth values, systemd.time(7), "Parsing Time Spans", and systemd.service(5) in `Restart=` and `SuccessExitStatus=`.
 -- Settings and the service table depend on this file.
 use Rattle.std.specs.Prelude.{ℕ, ◌+◌, ◌-◌, ◌*◌, Bool, true, false, not, ◌&&◌, ◌==◌, nat_le, nat_lt}

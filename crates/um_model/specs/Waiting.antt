@@ -1,6 +1,6 @@
 -- How many jobs of a unit wait, and that no more wait than before.
 -- Follows systemctl(1), "list-jobs".
--- The cancelling of jobs, and what falls with a unit, depend on this file.
+-- The cancelling of jobs, and the units that fall with one, depend on this file.
 use Rattle.std.specs.Prelude.{ℕ, Option, Some, ◌+◌, Bool, ◌||◌, ◌≤◌, List}
 use Rattle.um_model.specs.declared.jobs.JobState.{JobState}
 use Rattle.um_model.specs.declared.jobs.JobState.TheVariants.{Waiting}

@@ -65,7 +65,7 @@ quote_front rules text (Some (found, quote ∷ left)) = Gives found (length text
 
 -- ---- words
 
--- a piece of a word: an escape, what quotes hold, or a byte; whitespace ends the word
+-- a piece of a word: an escape, the text in quotes, or a byte; whitespace ends the word
 abbrev pub piece_of_word : WordRules → ℕ → List ℕ → Front ℕ
 piece_of_word rules b bs =
     if begins_escape rules b then backslash_front bs
@@ -86,6 +86,6 @@ word_front text found =
 abbrev pub piece_of_words : WordRules → ℕ → List ℕ → Front Word
 piece_of_words rules b bs = if is_space b then Gives [] 1 else option_map_or (word_front (b ∷ bs)) (begun (piece_of_word rules) (b ∷ bs)) Unreadable
 
--- the words that the text reads as, where it can be read
+-- the words that the text reads as, if it can be read
 unfoldable pub words_of : WordRules → List ℕ → Option (List (List ℕ))
 words_of rules text = option_map (map (λ w. w.value)) (reading (piece_of_words rules) text)

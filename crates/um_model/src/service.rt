@@ -34,7 +34,7 @@ pub enum ActiveState {
     Failed,
 }
 
-/// What became of a unit: why it isn't as its start would have it.
+/// The result of a unit: why it isn't as its start would have it.
 #[derive(Clone, Copy, Debug, PartialEq, Eq)]
 pub enum UnitResult {
     Success,
@@ -76,7 +76,7 @@ fn is_number(number: u64, process: Option<ProcessNumber>) -> bool
     }
 }
 
-/// What the state holds of one unit.
+/// The state of one unit.
 #[derive(Clone, Copy, Debug, PartialEq, Eq)]
 pub struct UnitState {
     pub sub: SubState,

@@ -38,7 +38,7 @@ impl Moment {
         Some(Moment { micros })
     }
 
-    /// Its microseconds.
+    /// The number of its microseconds.
     pub fn micros(self) -> u64
         ensures value { result ≡ self }
         ensures small { self ≤ moment_limit }
@@ -103,7 +103,7 @@ impl Span {
         Some(Span { micros })
     }
 
-    /// Its microseconds.
+    /// The number of its microseconds.
     pub fn micros(self) -> u64
         ensures value { result ≡ self }
         ensures small { self ≤ span_limit }
@@ -139,7 +139,7 @@ impl Deadline {
         Some(Deadline { micros })
     }
 
-    /// Its microseconds.
+    /// The number of its microseconds.
     pub fn micros(self) -> u64
         ensures value { result ≡ self }
         ensures small { self ≤ deadline_limit }

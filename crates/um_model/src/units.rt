@@ -26,7 +26,7 @@ impl LoadState {
     }
 }
 
-/// What kind of value a key of a unit file takes.
+/// The kind of value that a key of a unit file takes.
 #[derive(Clone, Copy, Debug, PartialEq, Eq)]
 pub enum ValueKind {
     /// A text with specifiers.
@@ -37,7 +37,7 @@ pub enum ValueKind {
     Units,
     /// Other names of the unit.
     Aliases,
-    /// What an instance may be.
+    /// An instance.
     Instance,
     /// A truth value.
     Truth,
