@@ -54,7 +54,7 @@ fn load<D: Disk>(
     Ok(())
 }
 
-/// Starts a service.
+/// Starts a service, and returns the order for its process, if any.
 fn start<D: Disk>(
     alloc: Global,
     keeper: &mut Keeper<D>,

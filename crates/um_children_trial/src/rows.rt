@@ -408,7 +408,7 @@ fn in_folder(rt: &HostRuntime, orders: &mut Orders, children: &mut Dir<'_>) -> a
     odd_files(rt, children)
 }
 
-/// All rows.
+/// Plays all rows; each prints what it found.
 pub fn rows(rt: &HostRuntime, alloc: Global) -> anyhow::Result<()> {
     let mut children = open(rt, FOLDER)?;
     let mut orders = Orders::new(alloc)?;

@@ -99,7 +99,7 @@ pub const ONESHOT: Life = Life {
     ],
 };
 
-/// Opens a manager.
+/// Opens a manager over these, for the boot of all runs.
 fn open(alloc: Global, disk: MemDisk, children: FaultyChildren) -> Result<Box<Running>, Wrong> {
     managers::opened(alloc, disk, children, boot_of(alloc, BOOT)?)
 }

@@ -25,7 +25,7 @@ pub struct FaultyChildren {
 }
 
 impl FaultyChildren {
-    /// The `fails`-th call fails.
+    /// Children whose `fails`-th call fails, a start after it was made if `makes` is set; with 0 none.
     pub fn new(inner: FakeChildren, fails: u64, makes: bool) -> FaultyChildren {
         FaultyChildren {
             inner,

@@ -16,7 +16,7 @@ pub struct FaultyGate {
 }
 
 impl FaultyGate {
-    /// The `fails`-th call fails.
+    /// A gate whose `fails`-th call fails; with 0 none.
     pub fn new(inner: FakeGate, fails: u64) -> FaultyGate {
         FaultyGate {
             inner,

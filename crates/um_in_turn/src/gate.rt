@@ -180,7 +180,7 @@ fn buffered(alloc: Global, clients: Clients, fails: u64) -> Result<Buffered<Faul
     Ok(Buffered::new(alloc, gate_of(alloc, clients, fails)?)?)
 }
 
-/// Serves the rounds.
+/// Serves `ROUNDS` rounds.
 fn served(
     alloc: Global,
     manager: &mut Serving,

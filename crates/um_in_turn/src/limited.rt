@@ -7,7 +7,6 @@ use std::process::{Command, Processes, Stdio};
 /// Becomes its words, with 64 MiB of memory at most.
 const LIMITED: &str = "ulimit -v 65536 && exec \"$@\"";
 
-/// Adds these words.
 fn add_words(command: &mut Command, words: &[&str]) -> Result<(), AllocError> {
     for word in words {
         command.arg(*word)?;

@@ -104,7 +104,7 @@ impl Taker {
         }
     }
 
-    /// Submits the input.
+    /// Submits the input; the wrong program refuses each with E15.
     pub fn submit(&mut self, input: Input) -> Result<Receipt, Refusal> {
         if self.always_wanting {
             return Err(Refusal::NoMemory);

@@ -11,7 +11,7 @@ use um_serve::Buffered;
 use um_state::BootId;
 use um_wire::Refusal;
 
-/// Opens a manager.
+/// Opens a manager; else the refusal, with the disk and the children.
 pub fn open<D: Disk, C: Children>(
     alloc: Global,
     disk: D,

@@ -6,7 +6,7 @@ use um_model::{End, InstallVerb, JobMode, Moment, UnitVerb};
 use um_name::UnitName;
 use um_state::{BootId, Command, Event, Happening, Input};
 
-/// An event.
+/// An event of a script.
 #[derive(Clone, Copy)]
 pub enum Coming {
     /// A file of this text at the path.

@@ -62,7 +62,7 @@ pub fn opened<D: Disk + Drop>(alloc: Global, disk: D) -> Result<Box<Keeper<D>>, 
     }
 }
 
-/// Submits an input.
+/// Submits an input: its receipt, or the refusal.
 pub fn submit<D: Disk>(keeper: &mut Keeper<D>, input: Input) -> Result<Receipt, Refusal> {
     keeper.submit(input)
 }

@@ -59,7 +59,7 @@ has_one_command Simple = true
 has_one_command Exec = true
 has_one_command other = false
 
--- clean whatever is set: code 0; of a service that runs one command, a signal to end; in a stop state, a signal of unknown number
+-- clean whatever is set: code 0; of a service that runs one command, a signal that requests its end; in a stop state, a signal of unknown number
 abbrev pub is_clean_alone : UnitKind → SubState → End → Bool
 is_clean_alone kind sub (Code code) = code == 0
 is_clean_alone kind sub (Signal n) = has_one_command kind && asks_to_end n || n == 0 && is_stopping sub

@@ -1,4 +1,4 @@
--- The pending jobs after a transaction, and why it is refused.
+-- The pending jobs after a transaction, and why a transaction is refused.
 -- Follows systemctl(1), "start", "stop", "restart" and "--job-mode=".
 -- The machine depends on this file.
 use Rattle.std.specs.Prelude.{◌≡◌, ◌⊎◌, ℕ, ⊤, List, [], ◌∷◌, map as each, All, Option, Some, None}

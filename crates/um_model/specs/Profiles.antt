@@ -16,7 +16,7 @@ abbrev pub serves_start_pre : Profile → Bool
 serves_start_pre One = false
 serves_start_pre Two = true
 
--- the profile by which submitted files are read, and the tree in hand for a query about it
+-- the profile of inputs that are submitted now, by which queries read the tree in hand too
 abbrev pub current : Profile
 current = Two
 

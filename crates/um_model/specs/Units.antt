@@ -317,7 +317,7 @@ settings_of profile unit assigned = record {
 
 -- ---- settings that are refused
 
--- `setting` and the first key with a value that no unit may have, if there is one
+-- `setting` and the first key that no unit may have and that is given a value, if there is one
 abbrev pub refused_setting : Profile → List Assigned → Option (List ℕ)
 refused_setting profile assigned = option_map (λ a. codes "setting " ++ a.key) (find (λ a. is_refused_key profile a.key && not (is_empty a.value)) assigned)
 

@@ -34,7 +34,7 @@ pub enum Enabling {
 }
 
 impl Enabling {
-    /// The word for it.
+    /// The word for it in the reply to `is-enabled`.
     pub fn text(self) -> &'static str
         ensures { result.now ≡ enabling_text self }
     {

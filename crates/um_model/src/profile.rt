@@ -12,7 +12,7 @@ pub enum Profile {
 }
 
 impl Profile {
-    /// The profile by which submitted files are read now, and the tree in hand for a query about it.
+    /// The profile of inputs that are submitted now, by which queries read the tree in hand too.
     pub fn current() -> Profile
         ensures { result ≡ current }
     {
@@ -29,7 +29,7 @@ impl Profile {
         }
     }
 
-    /// The later of both.
+    /// The later of the two profiles.
     pub fn later(self, other: Profile) -> Profile
         ensures { result ≡ later self other }
     {
