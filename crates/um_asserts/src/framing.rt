@@ -1,3 +1,5 @@
+//! Frames of texts.
+
 ghost use Rattle.std.specs.Prelude.{◌≡◌, ◌++◌, IfOk};
 ghost use Rattle.std.specs.List.{flat_map};
 ghost use Rattle.um_model.specs.Frames.{frame_of};
@@ -5,7 +7,7 @@ ghost use Rattle.um_model.specs.Frames.{frame_of};
 use std::alloc::{AllocError, Global};
 
 /// Adds the frame of a text: its length in four bytes, the highest first, and the text. A text of 2^32 bytes or more has none, which is
-/// told as want of memory.
+/// reported as want of memory.
 #[tactic(auto, unfolding(um_model::specs::Frames::frame_of))]
 pub fn push_frame(bytes: &mut Vec<u8>, text: &str) -> Result<(), AllocError>
     ensures { IfOk result (λ _. bytes.new.items ≡ bytes.old.items ++ frame_of text.now) }

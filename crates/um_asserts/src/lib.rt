@@ -1,4 +1,4 @@
-//! What rows assert: the comparisons as functions, and the words in which a test says them as macros. No function of a library may end
+//! The assertions of rows: the comparisons as functions, and the words in which a test says them as macros. No function of a library may end
 //! the process; a macro's text is a part of the test that it stands in, and so may.
 #![tactic(auto)]
 

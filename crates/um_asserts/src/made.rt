@@ -1,4 +1,6 @@
-/// A text of its own.
+//! Texts and unit names for tests.
+
+/// A `String` with this text; without memory the test fails.
 #[macro_export]
 macro_rules! text {
     ($rt:expr, $text:expr $(,)?) => {
@@ -6,7 +8,7 @@ macro_rules! text {
     };
 }
 
-/// The unit of this name.
+/// The unit name of this text; if it is none, or without memory, the test fails.
 #[macro_export]
 macro_rules! unit {
     ($rt:expr, $text:expr $(,)?) => {

@@ -1,3 +1,5 @@
+//! Places among the temporary files.
+
 use std::env::Env;
 use std::path::PathBuf;
 use std::process::Process;

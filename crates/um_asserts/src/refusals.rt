@@ -1,9 +1,11 @@
+//! Assertions about refusals.
+
 ghost use Rattle.std.specs.Prelude.{◌↔◌, IfOk, IsSome, IsErr};
 
 use std::alloc::{AllocError, Global};
 use um_wire::Refusal;
 
-/// The text that the refusal prints as: its number, name and details. None where the answer is no refusal.
+/// The text that the refusal prints as: its number, name and details. None if the answer is no refusal.
 pub fn printed<T: Drop>(
     alloc: Global,
     answer: Result<T, Refusal>,

@@ -1,3 +1,5 @@
+//! Assertions that a value is the wanted one.
+
 ghost use Rattle.std.specs.Prelude.{◌≡◌, IfOk, IfErr, true, false};
 
 use std::fmt::Debug;
@@ -17,7 +19,7 @@ pub struct MismatchAt<T, R> {
     pub row: R,
 }
 
-/// Nothing where the value is the wanted one, and else both.
+/// Ok if the value is the wanted one, else both values.
 pub fn compared<T: PartialEq + Debug + Drop>(got: T, wanted: T) -> Result<(), Mismatch<T>>
     ensures ok { IfOk result (λ _. T.eq got wanted ≡ true) }
     ensures err { IfErr result (λ e. (T.eq got wanted ≡ false) × (e.got ≡ got) × (e.wanted ≡ wanted)) }
@@ -29,7 +31,7 @@ pub fn compared<T: PartialEq + Debug + Drop>(got: T, wanted: T) -> Result<(), Mi
     }
 }
 
-/// Nothing where the value is the wanted one, and else both with the row.
+/// Ok if the value is the wanted one, else both values with the row.
 pub fn compared_at<T: PartialEq + Debug + Drop, R: Debug + Drop>(
     got: T,
     wanted: T,

@@ -1,6 +1,6 @@
-//! What the words of the command line ask for.
+//! The task that the words of the command line give.
 
-/// What is measured.
+/// The operation that is measured.
 #[derive(Drop)]
 pub enum Task {
     Write,
@@ -16,7 +16,7 @@ pub struct Line {
     pub times: u32,
 }
 
-/// The line that the words behind the program's name are, if they are one.
+/// The line in the words after the program's name; None if they are no such line.
 pub fn read_line(words: &[String]) -> Option<Line> {
     let [_, task, files, units, times] = words else {
         return None;

@@ -8,7 +8,7 @@ use um_wire::Refusal;
 /// The text of each file.
 const SERVICE: &str = "[Service]\nExecStart=/bin/sleep 9\n";
 
-/// Puts so many files, and loads them.
+/// Puts `count` files, and loads them.
 fn put_files(alloc: Global, state: &mut State, count: u32) -> Result<(), Refusal> {
     for number in 0..count {
         let path = format!(in alloc; "lib/u{number:04}.service")?;
@@ -18,7 +18,7 @@ fn put_files(alloc: Global, state: &mut State, count: u32) -> Result<(), Refusal
     Ok(())
 }
 
-/// Has so many units run, the last of whose processes ended by a signal, with both jobs pending.
+/// Sets `count` units that are being stopped, each with a live main process, an earlier end by a signal, and both jobs pending.
 fn set_units(alloc: Global, state: &mut State, count: u32) -> Result<(), Refusal> {
     let jobs = UnitJobs {
         stop: Some(JobState::Running),
@@ -39,7 +39,7 @@ fn set_units(alloc: Global, state: &mut State, count: u32) -> Result<(), Refusal
     Ok(())
 }
 
-/// A state with so many files in each tree and so many units.
+/// A state with `files` files in each tree and `units` units.
 pub fn state_with(alloc: Global, files: u32, units: u32) -> Result<State, Refusal> {
     let mut state = State::empty(alloc);
     put_files(alloc, &mut state, files)?;

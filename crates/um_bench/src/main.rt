@@ -1,7 +1,7 @@
-//! The program that `bench/bytes` measures: it makes a state, and writes it or reads it so many times.
+//! The program that `bench/bytes` measures: it makes a state, and writes it or reads it a number of times.
 //!
-//! Its words: `write` or `read`, how many files stand in each tree, how many units are known, how many times. It prints how many
-//! bytes were written or read in all. The exit status is 2 for other words, and 1 where memory or the output fails.
+//! Its words: `write` or `read`, the number of files in each tree, the number of known units, the number of times. It prints how many
+//! bytes were written or read in all. The exit status is 2 for other words, and 1 if memory or the output fails.
 #![tactic(auto)]
 
 mod line;
@@ -16,7 +16,7 @@ use std::process::ExitCode;
 use um_state::State;
 use um_wire::{Canon, spell};
 
-/// Writes the state so many times, and gives the bytes of all times.
+/// Writes the state `times` times, and returns the count of all bytes written.
 fn write_times(alloc: Global, state: &State, times: u32) -> Result<u64, AllocError> {
     let mut count: u64 = 0;
     for _ in 0..times {
@@ -26,7 +26,7 @@ fn write_times(alloc: Global, state: &State, times: u32) -> Result<u64, AllocErr
     Ok(count)
 }
 
-/// Reads the state so many times, and gives the bytes of all times.
+/// Reads the state `times` times, and returns the count of all bytes read.
 fn read_times(alloc: Global, bytes: &[u8], times: u32) -> Result<u64, AllocError> {
     let mut count: u64 = 0;
     for _ in 0..times {
@@ -37,7 +37,7 @@ fn read_times(alloc: Global, bytes: &[u8], times: u32) -> Result<u64, AllocError
     Ok(count)
 }
 
-/// Does what the line asks for, and gives the count of bytes; None where the state can't be made.
+/// Does the task of the line, and returns the count of bytes; None if the state can't be made, or without memory.
 fn measured(alloc: Global, line: &Line) -> Option<u64> {
     let state = state_with(alloc, line.files, line.units).ok()?;
     match line.task {
@@ -49,7 +49,7 @@ fn measured(alloc: Global, line: &Line) -> Option<u64> {
     }
 }
 
-/// The line that the words of the command line are, if they are one.
+/// The line in the words of the command line; None if they are no such line.
 fn line_of<R: AllocGlobal + Env>(rt: &R) -> Option<Line> {
     let words: Vec<String> = env::args(rt).ok()?.collect(rt.alloc()).ok()?;
     read_line(words.as_slice())

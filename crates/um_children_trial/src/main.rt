@@ -1,4 +1,4 @@
-//! A trial over real processes: each is started by the order of a keeper's receipt, with this program as its runner, and its fate is asked
+//! A trial over real processes: each is started by the order of a keeper's receipt, with this program as its runner, and its fate is read
 //! through a folder.
 #![tactic(auto)]
 
@@ -10,12 +10,12 @@ use std::env;
 use std::process::ExitCode;
 use um_runner::{FolderFault, RunnerLine};
 
-/// A runner.
+/// Runs as the runner of this line.
 fn run(rt: &HostRuntime, line: &RunnerLine<'_>) -> Result<(), FolderFault> {
     um_runner::run_line(rt, rt.alloc(), line)
 }
 
-/// The runner that these words ask for.
+/// Runs as the runner that these words describe; fails if they describe none.
 fn run_words(rt: &HostRuntime, words: &[String]) -> anyhow::Result<()> {
     match RunnerLine::of(words) {
         Some(line) => Ok(run(rt, &line)?),
@@ -23,7 +23,7 @@ fn run_words(rt: &HostRuntime, words: &[String]) -> anyhow::Result<()> {
     }
 }
 
-/// The rows, or, behind the word `run`, a runner.
+/// The rows, or, after the word `run`, a runner.
 fn trial(rt: &HostRuntime) -> anyhow::Result<()> {
     let words: Vec<String> = env::args(rt)?.collect(rt.alloc())?;
     match words.as_slice() {

@@ -14,7 +14,7 @@ use um_wire::Refusal;
 pub struct Orders {
     alloc: Global,
     keeper: Box<Keeper<MemDisk>>,
-    /// So many orders were given.
+    /// The number of orders given so far.
     count: u64,
 }
 
@@ -31,7 +31,7 @@ fn order_in(receipt: Receipt) -> Option<SpawnOrder> {
     order
 }
 
-/// What came of a command: its order, if any.
+/// Submits a command, and returns its order, if any.
 fn order_of<D: Disk>(
     keeper: &mut Keeper<D>,
     command: Command,
@@ -54,7 +54,7 @@ fn load<D: Disk>(
     Ok(())
 }
 
-/// Starts a service.
+/// Starts a service, and returns the order for its process, if any.
 fn start<D: Disk>(
     alloc: Global,
     keeper: &mut Keeper<D>,

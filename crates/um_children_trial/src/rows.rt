@@ -1,4 +1,4 @@
-//! What the trial does, a row a function. Each prints what it found.
+//! The rows of the trial, a function each. Each prints what it found.
 
 use crate::orders::Orders;
 use anyhow::Context;
@@ -10,10 +10,10 @@ use um_children::{
 };
 use um_keeper::SpawnOrder;
 
-/// Fates are asked so many times, every 10 ms.
+/// How often a fate is queried, every 10 ms.
 const POLLS: u32 = 500;
 
-/// So many times it is looked whether a process starts that must not.
+/// How often the trial looks whether a process starts that must not.
 const FEW_POLLS: u32 = 50;
 
 /// The folder of the runners' files.
@@ -25,7 +25,7 @@ const TWICE: &str = "twice";
 /// A third one, for a start without a runner.
 const ALONE: &str = "alone";
 
-/// A fourth one, for a process of which nothing but its files tell.
+/// A fourth one, for a process that only its files report.
 const SEEN: &str = "seen";
 
 type Dir<'a> = RunnerDir<'a, HostRuntime>;
@@ -41,7 +41,7 @@ fn open<'a>(rt: &'a HostRuntime, folder: &str) -> anyhow::Result<Box<Dir<'a>>> {
     Box::new(rt.alloc(), children).ok().context("no memory")
 }
 
-/// The fate of the number, once it has ended, or, where that is enough, once it runs; else the last one.
+/// The fate of the number once it has ended, or, if that is enough, once it runs; else the last fate queried.
 fn fate_of(
     rt: &HostRuntime,
     children: &mut Dir<'_>,
@@ -92,7 +92,7 @@ fn spawn(
     Ok(())
 }
 
-/// Runs a service with these lines to its end, and tells it under the name.
+/// Runs a service with these lines to its end, and prints that under the name.
 fn row(
     rt: &HostRuntime,
     orders: &mut Orders,
@@ -112,7 +112,7 @@ fn is_there(rt: &HostRuntime, path: &str) -> bool {
     fs::symlink_metadata(rt, path).is_ok()
 }
 
-/// Whether something stands at the path, or comes there.
+/// Whether something stands at the path, or appears there.
 fn comes(rt: &HostRuntime, path: &str) -> bool {
     for _ in 0..FEW_POLLS {
         if is_there(rt, path) {
@@ -172,7 +172,7 @@ fn each(
     Ok(())
 }
 
-/// Processes 1 to 5 end and tell: the fourth is signalled while it runs, the fifth before it is started.
+/// Processes 1 to 5 end, and their fates say so: the fourth is signalled while it runs, the fifth before it is started.
 fn ends(rt: &HostRuntime, orders: &mut Orders, children: &mut Dir<'_>) -> anyhow::Result<()> {
     each(rt, orders, children, FIRST)?;
     let pid = is_there(rt, "processes/2.pid");
@@ -180,7 +180,7 @@ fn ends(rt: &HostRuntime, orders: &mut Orders, children: &mut Dir<'_>) -> anyhow
     each(rt, orders, children, OTHERS)
 }
 
-/// Waits until there is news, or, where the fate of a number is asked each time, until there is none, and tells whether there is any.
+/// Waits until there is news, or, if the fate of a number is queried each time, until there is none; returns whether there is any.
 fn wait_for_news(
     rt: &HostRuntime,
     children: &mut Dir<'_>,
@@ -198,7 +198,7 @@ fn wait_for_news(
     Ok(asked.is_some())
 }
 
-/// What is told of a process, of which nothing but its files tell, from its start to its end.
+/// The news of a process that only its files report, from its start to its end.
 fn is_news(rt: &HostRuntime, children: &mut Dir<'_>, number: ProcessNumber) -> anyhow::Result<()> {
     let starting = children.has_news();
     fate_of(rt, children, number, false)?;
@@ -220,7 +220,7 @@ fn news(rt: &HostRuntime, alloc: Global) -> anyhow::Result<()> {
     is_news(rt, children.as_mut(), number)
 }
 
-/// Whether something stands at the path `late`, or comes there, behind the start of this order.
+/// Whether something stands at the path `late`, or appears there, after the start of this order.
 fn starts_late(
     rt: &HostRuntime,
     children: &mut Dir<'_>,
@@ -232,7 +232,7 @@ fn starts_late(
 
 const LATE: &str = "ExecStart=/bin/sh -c 'echo x >>late'";
 
-/// A number that the manager has claimed: a runner that comes to it starts nothing, nor does one that comes once it was forgotten.
+/// A number that the manager has claimed: a runner that finds it starts nothing, nor does one that comes once it was forgotten.
 fn claimed(
     rt: &HostRuntime,
     orders: &mut Orders,
@@ -289,7 +289,7 @@ fn claimed_of(
     Ok(())
 }
 
-/// Who claims a number first has it, where two stores give the number: a runner that comes to a claim of the manager starts nothing,
+/// Who claims a number first has it, if two stores give the number: a runner that finds a claim of the manager starts nothing,
 /// also one that comes after the number was forgotten; two runners start one child.
 fn claims(rt: &HostRuntime, alloc: Global) -> anyhow::Result<()> {
     let mut children = open(rt, TWICE)?;
@@ -298,7 +298,7 @@ fn claims(rt: &HostRuntime, alloc: Global) -> anyhow::Result<()> {
     claimed_of(rt, &mut orders, &mut others, children.as_mut())
 }
 
-/// What comes of a start through a runner that isn't there.
+/// Prints the result of a start through a runner that isn't there.
 fn starts_none(
     rt: &HostRuntime,
     children: &mut Dir<'_>,
@@ -359,7 +359,7 @@ fn odd_file(
     Ok(())
 }
 
-/// What stands there as a status and is no file.
+/// Statuses that are no files: a directory, and a link.
 fn no_files(rt: &HostRuntime, children: &mut Dir<'_>) -> anyhow::Result<()> {
     fs::create_dir(rt, "processes/27.status")?;
     let fate = children.fate(number(27)?, true)?;
@@ -382,7 +382,7 @@ fn odd_files(rt: &HostRuntime, children: &mut Dir<'_>) -> anyhow::Result<()> {
     Ok(())
 }
 
-/// What children in memory tell of a process that was never started.
+/// The fates that children in memory report of a process that was never started.
 fn told_in_memory(rt: &HostRuntime, children: &mut FakeChildren) -> anyhow::Result<()> {
     children.ends(number(2)?, End::Code(3))?;
     let starting = children.fate(number(2)?, false)?;
@@ -408,7 +408,7 @@ fn in_folder(rt: &HostRuntime, orders: &mut Orders, children: &mut Dir<'_>) -> a
     odd_files(rt, children)
 }
 
-/// All rows.
+/// Plays all rows; each prints what it found.
 pub fn rows(rt: &HostRuntime, alloc: Global) -> anyhow::Result<()> {
     let mut children = open(rt, FOLDER)?;
     let mut orders = Orders::new(alloc)?;

@@ -1,4 +1,4 @@
-//! The engine alone, with no keeper, disk or children: what a list of inputs comes to.
+//! The engine alone, with no keeper, disk or children: the states and answers that a list of inputs leads to.
 
 use crate::rows::{Row, input_of};
 use crate::stores::layout;
@@ -11,14 +11,14 @@ use um_proto::write_reply;
 use um_state::{Action, Input, Reply, State};
 use um_wire::{Refusal, spell};
 
-/// What is asked of a process: its start, or a signal.
+/// An order for a process: its start, or a signal.
 #[derive(Clone, Copy, Debug, PartialEq, Eq)]
 pub struct Order {
     pub number: ProcessNumber,
     pub signal: Option<Signal>,
 }
 
-/// What is answered to an input, as the text of its reply, and what is asked of processes.
+/// The answer to an input: the text of its reply, and the orders for processes.
 #[derive(Drop)]
 pub struct Answer {
     pub reply: Vec<u8>,
@@ -26,14 +26,14 @@ pub struct Answer {
 }
 
 impl Answer {
-    /// Whether it is the other one.
+    /// Whether both answers have the same reply and the same orders.
     pub fn is(&self, other: &Answer) -> bool {
         self.reply.as_slice() == other.reply.as_slice()
             && self.orders.as_slice() == other.orders.as_slice()
     }
 }
 
-/// The text of a reply, which is let go.
+/// The text of a reply, which is dropped.
 fn text_of(alloc: Global, reply: Reply) -> Result<Vec<u8>, Wrong> {
     let written = write_reply(alloc, &reply);
     drop(reply);
@@ -48,7 +48,7 @@ pub fn refused(alloc: Global, refusal: Refusal) -> Result<Answer, Wrong> {
     })
 }
 
-/// What a receipt answers, which is spent.
+/// The answer of a receipt, which is spent.
 pub fn spent(alloc: Global, mut receipt: Receipt) -> Result<Answer, Wrong> {
     let mut orders = Vec::new(alloc);
     let mut is_short = false;
@@ -98,7 +98,7 @@ pub struct Alone {
 }
 
 impl Alone {
-    /// In the empty state.
+    /// An engine in the empty state.
     pub fn new(alloc: Global) -> Result<Alone, Wrong> {
         let size = layout()?.body_limit() as u64;
         match Engine::of(alloc, State::empty(alloc), size)? {
@@ -135,12 +135,12 @@ impl Alone {
     }
 }
 
-/// What a list of rows comes to: the state behind each of its beginnings, and each answer.
+/// The course of a list of rows: the state after each of its beginnings, and each answer.
 #[derive(Drop)]
 pub struct Course {
     pub states: Vec<Vec<u8>>,
     pub answers: Vec<Answer>,
-    /// The state where this beginning is followed by the row that a run goes on with.
+    /// The state after each beginning and the row that a run goes on with.
     pub onward: Vec<Vec<u8>>,
 }
 
@@ -156,7 +156,7 @@ fn onward(alloc: Global, rows: &[Row]) -> Result<Vec<u8>, Wrong> {
     alone.bytes()
 }
 
-/// What rows come to by the engine alone.
+/// The course of rows by the engine alone.
 pub fn course_of(alloc: Global, rows: &[Row]) -> Result<Course, Wrong> {
     let mut alone = Alone::new(alloc)?;
     let mut states = vec![in alloc; alone.bytes()?]?;
@@ -172,7 +172,7 @@ pub fn course_of(alloc: Global, rows: &[Row]) -> Result<Course, Wrong> {
     })
 }
 
-/// The same, with where each beginning leads by one more row.
+/// The same, with the state after each beginning and one more row.
 pub fn course_onward(alloc: Global, rows: &[Row]) -> Result<Course, Wrong> {
     let mut course = course_of(alloc, rows)?;
     for count in 0..=rows.len() {
@@ -183,7 +183,7 @@ pub fn course_onward(alloc: Global, rows: &[Row]) -> Result<Course, Wrong> {
 }
 
 impl Course {
-    /// Which beginning, of at least `low` and at most `high` rows, comes to these bytes.
+    /// The beginning, of at least `low` and at most `high` rows, that leads to these bytes.
     pub fn place(&self, low: usize, high: usize, bytes: &[u8]) -> Option<usize> {
         for count in low..=high {
             if self.is_at(count, bytes) {
@@ -193,7 +193,7 @@ impl Course {
         None
     }
 
-    /// Whether the beginning of so many rows comes to these bytes.
+    /// Whether the beginning of `count` rows leads to these bytes.
     pub fn is_at(&self, count: usize, bytes: &[u8]) -> bool {
         match self.states.get(count) {
             Some(state) => state.as_slice() == bytes,
@@ -201,7 +201,7 @@ impl Course {
         }
     }
 
-    /// Whether that beginning and one more row come to these bytes.
+    /// Whether that beginning and one more row lead to these bytes.
     pub fn is_onward(&self, count: usize, bytes: &[u8]) -> bool {
         match self.onward.get(count) {
             Some(state) => state.as_slice() == bytes,

@@ -20,7 +20,7 @@ const STARTS: Row = (0, Coming::Verb(UnitVerb::Start, "a.service"));
 
 const STOPS: Row = (0, Coming::Verb(UnitVerb::Stop, "a.service"));
 
-/// What a run does.
+/// A doing of a run.
 #[derive(Clone, Copy)]
 pub enum Doing {
     /// A turn in which a request comes, and the row that it is.
@@ -33,7 +33,7 @@ pub enum Doing {
     EndAndOpen(u64, u8),
 }
 
-/// What stands in the store, how processes end, and what is done.
+/// The rows in the store, how processes end, and the doings.
 pub struct Life {
     pub name: &'static str,
     rows: &'static [Row],
@@ -99,7 +99,7 @@ pub const ONESHOT: Life = Life {
     ],
 };
 
-/// Opens a manager.
+/// Opens a manager over these, for the boot of all runs.
 fn open(alloc: Global, disk: MemDisk, children: FaultyChildren) -> Result<Box<Running>, Wrong> {
     managers::opened(alloc, disk, children, boot_of(alloc, BOOT)?)
 }
@@ -137,7 +137,7 @@ fn go(alloc: Global, watched: Watched, doing: Doing) -> Result<Watched, Wrong> {
     Ok(watched)
 }
 
-/// The store of a life: what its rows order isn't carried out.
+/// The store of a life: the orders of its rows aren't carried out.
 fn stored(alloc: Global, life: &Life) -> Result<(MemDisk, Alone), Wrong> {
     let mut keeper = opened(alloc, made(alloc)?)?;
     let mut alone = Alone::new(alloc)?;
@@ -163,7 +163,7 @@ fn children_of(
     Ok(children)
 }
 
-/// What a run was.
+/// The outcome of a run.
 #[derive(Drop)]
 struct Ran {
     calls: u64,
@@ -193,7 +193,7 @@ fn run(alloc: Global, life: &Life, place: usize, fails: u64, makes: bool) -> Res
     })
 }
 
-/// A run whose call of this number fails; tells how many cases that are: a start fails both ways.
+/// A run whose call of this number fails; returns how many cases these are: a start fails both ways.
 fn both_ways(alloc: Global, life: &Life, place: usize, fails: u64) -> Result<u64, Wrong> {
     let ran = run(alloc, life, place, fails, false)?;
     if !ran.has_failed {
@@ -206,7 +206,7 @@ fn both_ways(alloc: Global, life: &Life, place: usize, fails: u64) -> Result<u64
     Ok(2)
 }
 
-/// Each call of the children fails in turn, with an opening before the doing of that number; tells how many cases were tried.
+/// Each call of the children fails in turn, with an opening before the doing of that number; returns how many cases were tried.
 fn each_call_at(alloc: Global, life: &Life, place: usize) -> Result<u64, Wrong> {
     let mut cases: u64 = 0;
     for fails in 1..=run(alloc, life, place, 0, false)?.calls {
@@ -218,7 +218,7 @@ fn each_call_at(alloc: Global, life: &Life, place: usize) -> Result<u64, Wrong> 
     Ok(cases)
 }
 
-/// Each call of the children fails in turn, with an opening before each doing; tells how many cases were tried.
+/// Each call of the children fails in turn, with an opening before each doing; returns how many cases were tried.
 pub fn each_call(alloc: Global, life: &Life) -> Result<u64, Wrong> {
     let mut cases: u64 = 0;
     for place in 0..=life.doings.len() {

@@ -1,4 +1,4 @@
-//! Two clients of a manager in which any allocation may fail, once: what finds no memory is asked again.
+//! Two clients of a manager in which any allocation may fail, once: a request that finds no memory is sent again.
 
 use crate::alone::{Course, course_of};
 use crate::hoard::Hoard;
@@ -22,7 +22,7 @@ const JOBS: &str = r#"{"verb":"list-jobs"}"#;
 
 const START: &str = r#"{"verb":"start","unit":"a"}"#;
 
-/// What may be answered to the start, to the show that comes with it, and to the list of jobs behind it.
+/// The replies that may come to the start, to the show that comes with it, and to the list of jobs after it.
 const DONE: &str = r#"{"ok":true}"#;
 
 const WANTING: &str = r#"{"detail":[],"error":15,"ok":false}"#;
@@ -37,13 +37,13 @@ const RUNNING: &str =
 const DEAD: &str =
     r#"{"ok":true,"value":{"ActiveState":"inactive","Description":"","Id":"a.service","LoadState":"loaded","MainNumber":0,"Result":"success","SubState":"dead","Warnings":[]}}"#;
 
-/// What comes in before the manager is opened.
+/// The inputs before the manager is opened.
 const LOADED: &[Row] = &[
     (0, Coming::Put("lib/a.service", SLEEPS)),
     (0, Coming::Reload),
 ];
 
-/// The same, the boot, the start of the two clients, and how that ends where the children find no memory for it.
+/// The same, the boot, the start of the two clients, and its end if the children find no memory for it.
 const TURNED: &[Row] = &[
     (0, Coming::Put("lib/a.service", SLEEPS)),
     (0, Coming::Reload),
@@ -52,14 +52,14 @@ const TURNED: &[Row] = &[
     (0, Coming::Ended(1, 203)),
 ];
 
-/// So many of these rows stand behind the boot, the start, and its end.
+/// The number of these rows up to the boot, up to the start, and up to its end.
 const BOOTED: usize = 3;
 
 const STARTED: usize = 4;
 
 const ENDED: usize = 5;
 
-/// Asserts of the disk of an opening that was refused so what its images stand for.
+/// Asserts what the images of a disk stand for whose opening was refused in this way.
 fn stands_as_before(
     alloc: Global,
     course: &Course,
@@ -74,8 +74,8 @@ fn stands_as_before(
     stand_for(alloc, course, disk, LOADED.len(), high)
 }
 
-/// The manager over a store that is loaded, opened again where it found no memory: then each image stands for the state from before, or,
-/// where its disk found none, maybe for that behind the boot.
+/// The manager over a store that is loaded, opened again if it found no memory: then each image stands for the state from before, or,
+/// if its disk found none, maybe for that after the boot.
 fn opened_manager(alloc: Global, course: &Course) -> Result<Box<InMemory>, Wrong> {
     let disk = taker_behind(alloc, course, LOADED, false)?.into_disk();
     let boot = boot_of(alloc, "one")?;
@@ -109,7 +109,7 @@ fn output(manager: &mut InMemory, number: usize) -> Result<Output, Wrong> {
     }
 }
 
-/// Which of these replies was put out; None where the session has failed with a reply less.
+/// Which of these replies was put out; None if the session has failed with a reply less.
 fn reply_among(alloc: Global, output: &Output, texts: &[&str]) -> Result<Option<usize>, Wrong> {
     if output.failed {
         if output.bytes.is_empty() {
@@ -125,7 +125,7 @@ fn reply_among(alloc: Global, output: &Output, texts: &[&str]) -> Result<Option<
     Err(found("another reply than one of those that may come"))
 }
 
-/// Whether the state of the manager is that behind the start, or, where the children failed, that behind its end.
+/// Whether the state of the manager is that after the start, or, if the children failed, that after its end.
 fn has_started(alloc: Global, course: &Course, manager: &InMemory) -> Result<bool, Wrong> {
     let bytes = spell(alloc, manager.state())?;
     let last = if manager.children().failures() == 0 {
@@ -139,12 +139,12 @@ fn has_started(alloc: Global, course: &Course, manager: &InMemory) -> Result<boo
     }
 }
 
-/// What a turn of the two clients came to.
+/// The outcome of a turn of the two clients.
 #[derive(Clone, Copy)]
 enum Turned {
     /// It was done.
     Done,
-    /// It was done but for what is answered E15, the start maybe.
+    /// It was done but for requests that are answered E15, the start maybe.
     Served,
     /// It found no memory for itself.
     Untaken,
@@ -152,7 +152,7 @@ enum Turned {
     Failed,
 }
 
-/// What the two clients got, and whether the start was done.
+/// The output for the two clients, and whether the start was done.
 #[derive(Drop)]
 struct Got {
     shown: Output,
@@ -178,14 +178,14 @@ fn failed(alloc: Global, got: &Got) -> Result<Turned, Wrong> {
     Ok(Turned::Failed)
 }
 
-/// Asserts that the replies are what the state tells.
+/// Asserts that the replies agree with the state.
 fn served(alloc: Global, got: &Got) -> Result<Turned, Wrong> {
     let shows = if got.is_behind { RUNNING } else { DEAD };
     let shown = reply_among(alloc, &got.shown, &[shows, WANTING])?;
     let started = reply_among(alloc, &got.started, &[DONE, WANTING])?;
     let is_done = match started {
         Some(place) => place == 0,
-        // of a reply alone that found no memory the state tells
+        // if the reply alone found no memory, the state shows whether the start was done
         None => got.is_behind,
     };
     if is_done != got.is_behind {
@@ -197,7 +197,7 @@ fn served(alloc: Global, got: &Got) -> Result<Turned, Wrong> {
     Ok(Turned::Served)
 }
 
-/// What a turn came to that was answered so, as far as that tells it: `Done`, `Untaken` or `Failed`.
+/// The outcome of a turn, as far as its answer shows it: `Done`, `Untaken` or `Failed`.
 fn answered(turned: Result<(), Refusal>) -> Result<Turned, Wrong> {
     let Err(refusal) = turned else {
         return Ok(Turned::Done);
@@ -214,7 +214,7 @@ fn answered(turned: Result<(), Refusal>) -> Result<Turned, Wrong> {
     })
 }
 
-/// A turn that finds so many grains.
+/// A turn that finds this many grains.
 fn turn(
     alloc: Global,
     manager: &mut InMemory,
@@ -227,14 +227,14 @@ fn turn(
     answered(turned)
 }
 
-/// What comes of two clients: one asks to show, and for the jobs behind it; the other one starts.
+/// The bytes from two clients: one sends `show` and then `list-jobs`; the other one sends `start`.
 fn sent_by_both(alloc: Global, first: usize) -> Result<Pieces, Wrong> {
     let mut both = sent(alloc, first, &[SHOW, JOBS])?;
     add(alloc, &mut both, first.saturating_add(1), &[START])?;
     Ok(both)
 }
 
-/// What both got.
+/// The output for both.
 fn got_by_both(
     alloc: Global,
     course: &Course,
@@ -248,7 +248,7 @@ fn got_by_both(
     })
 }
 
-/// The turn of two clients, with so many grains.
+/// The turn of two clients, with this many grains.
 fn both(
     alloc: Global,
     course: &Course,
@@ -265,7 +265,7 @@ fn both(
     }
 }
 
-/// The jobs that were asked for behind the show are listed in the next turn, which is asked again where it found no memory.
+/// The jobs, whose request came after the show, are listed in the next turn, which is repeated if it found no memory.
 fn listed(alloc: Global, manager: &mut InMemory, first: usize) -> Result<(), Wrong> {
     let mut turned = turn(alloc, manager, silence(alloc)?, None)?;
     if let Turned::Untaken = turned {
@@ -278,7 +278,7 @@ fn listed(alloc: Global, manager: &mut InMemory, first: usize) -> Result<(), Wro
     Ok(())
 }
 
-/// The turn of two clients, and the list behind it.
+/// The turn of two clients, and the list after it.
 fn both_and_list(
     alloc: Global,
     course: &Course,
@@ -293,7 +293,7 @@ fn both_and_list(
     Ok(turned)
 }
 
-/// Asks again for the start where it wasn't done, and asserts that it is done then.
+/// Sends the start again if it wasn't done, and asserts that it is done then.
 fn done(alloc: Global, course: &Course, manager: &mut InMemory, first: usize) -> Result<(), Wrong> {
     if has_started(alloc, course, manager)? {
         return Ok(());
@@ -305,7 +305,7 @@ fn done(alloc: Global, course: &Course, manager: &mut InMemory, first: usize) ->
     Err(found("no memory where there is some"))
 }
 
-/// Asks for the jobs, and tells whether they were listed: there are none.
+/// Requests the jobs, and returns whether they were listed: there are none.
 fn lists(alloc: Global, manager: &mut InMemory, number: usize) -> Result<bool, Wrong> {
     match turn(alloc, manager, sent(alloc, number, &[JOBS])?, None)? {
         Turned::Done | Turned::Served => {}
@@ -316,7 +316,7 @@ fn lists(alloc: Global, manager: &mut InMemory, number: usize) -> Result<bool, W
     Ok(told == Some(0))
 }
 
-/// What was refused for want of memory is done when it is asked again, by the clients of these numbers.
+/// Asserts that each request that was refused for want of memory is done when the clients with the next numbers send it again.
 fn done_in_the_end(alloc: Global, course: &Course, manager: &mut InMemory) -> Result<(), Wrong> {
     done(alloc, course, manager, 3)?;
     if lists(alloc, manager, 5)? || lists(alloc, manager, 6)? {
@@ -325,8 +325,8 @@ fn done_in_the_end(alloc: Global, course: &Course, manager: &mut InMemory) -> Re
     Err(found("no memory where there is some"))
 }
 
-/// Two clients in one turn of a manager, which finds so many grains, and what is asked again behind it. Tells whether nothing of the turn was
-/// refused.
+/// Two clients in one turn of a manager, which finds this many grains, and the requests that are sent again after it. Returns whether
+/// nothing of the turn was refused.
 fn two_of(
     alloc: Global,
     course: &Course,
@@ -341,15 +341,15 @@ fn two_of(
     Ok(matches!(turned, Turned::Done))
 }
 
-/// Two clients in one turn, which finds so many grains, and a list of the jobs behind it; what finds no memory is asked again. Tells whether
-/// nothing of the turn was refused.
+/// Two clients in one turn, which finds this many grains, and a list of the jobs after it; a request that finds no memory is sent again.
+/// Returns whether nothing of the turn was refused.
 pub fn two(alloc: Global, grains: Option<usize>) -> Result<bool, Wrong> {
     let course = course_of(alloc, TURNED)?;
     let manager = opened_manager(alloc, &course)?;
     two_of(alloc, &course, manager, grains)
 }
 
-/// The same with as much memory as there is; tells how many requests there were.
+/// The same with as much memory as there is; returns how many requests there were.
 pub fn two_clients(alloc: Global) -> Result<u64, Wrong> {
     two(alloc, None)?;
     Ok(4)

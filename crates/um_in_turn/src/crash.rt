@@ -1,4 +1,4 @@
-//! The machine stops before each write, and what a crash may leave is opened.
+//! The machine stops before each write, and the images that a crash may leave are opened.
 
 use crate::alone::{Course, ONWARD, course_onward, spent};
 use crate::disk::{RESTART, almost_filled, beginning};
@@ -13,7 +13,7 @@ use um_keeper::Keeper;
 use um_sector::{Disk, Fuse, MemDisk};
 use um_wire::Refusal;
 
-/// Every pick is opened where at most so many sectors aren't synced.
+/// The most sectors that aren't synced for which every combination of picks is opened.
 const FEW: usize = 6;
 
 /// Records of one to four sectors, ends and ticks.
@@ -25,7 +25,7 @@ const SIZES: &[Row] = &[
     (3_200_002, Coming::Long("lib/b.service", 1_200)),
 ];
 
-/// More of them, behind a checkpoint.
+/// More of them, after a checkpoint.
 const MORE: &[Row] = &[
     (4_000_000, Coming::Long("lib/b.service", 1_700)),
     (4_000_001, Coming::Ended(4, 1)),
@@ -44,7 +44,7 @@ pub fn script(alloc: Global) -> Result<Script, Wrong> {
     Ok(script)
 }
 
-/// A record of two sectors behind one of one, for a selection.
+/// A record of two sectors after one of one, for a selection.
 pub fn short(alloc: Global) -> Result<Script, Wrong> {
     let mut script = Script::new(alloc);
     script.each(&[(1, Coming::Reload), (2, Coming::Long("lib/b.service", 450))])?;
@@ -61,7 +61,7 @@ pub fn with_lists(alloc: Global) -> Result<Script, Wrong> {
     Ok(script)
 }
 
-/// The automatic restart, and an area of the log that is filled but for a sector: what stands before the stops that are looked at.
+/// The automatic restart, and an area of the log that is filled but for a sector: the script before the stops that are looked at.
 pub fn filling(alloc: Global) -> Result<Script, Wrong> {
     let mut script = Script::new(alloc);
     script.each(RESTART)?;
@@ -87,7 +87,7 @@ pub fn areas(alloc: Global) -> Result<Script, Wrong> {
     Ok(script)
 }
 
-/// The same with a checkpoint in the middle of the snapshot, and an opening behind it.
+/// The same with a checkpoint in the middle of the snapshot, and an opening after it.
 pub fn midway(alloc: Global) -> Result<Script, Wrong> {
     let mut script = filling(alloc)?;
     script.list(&beginning(4_000_000, 3, 450))?;
@@ -99,7 +99,7 @@ pub fn midway(alloc: Global) -> Result<Script, Wrong> {
     Ok(script)
 }
 
-/// A disk as it was stopped, what a crash may leave of it, and which beginnings that may stand for.
+/// A disk as it was stopped, and the least and the greatest beginning that its images after a crash may stand for.
 #[derive(Drop)]
 struct Stop<'a> {
     disk: &'a MemDisk,
@@ -107,16 +107,16 @@ struct Stop<'a> {
     high: usize,
 }
 
-/// What was opened so far.
+/// The images opened so far, and the course that they are compared with.
 #[derive(Drop)]
 pub struct Crashes<'a> {
     alloc: Global,
     course: &'a Course,
-    /// So many images.
+    /// The number of images.
     images: u64,
 }
 
-/// The next combination of picks, of which each sector has so many; the first one behind the last.
+/// The next combination of picks, by the number of picks of each sector; the first one after the last.
 pub fn turn(picks: &mut [usize], unsynced: &[(usize, usize)]) {
     for (pick, (_, count)) in picks.iter_mut().zip(unsynced) {
         if pick.saturating_add(1) < *count {
@@ -156,7 +156,7 @@ fn picks_but_one(
     Ok(picks)
 }
 
-/// How often something was done to a disk: a read changes none of it.
+/// The number of syncs of a disk, and of its unsynced values; a read changes neither.
 fn deeds(alloc: Global, disk: &MemDisk) -> Result<(usize, usize), Wrong> {
     let mut writes: usize = 0;
     for (_, count) in disk.unsynced(alloc)?.as_slice() {
@@ -181,7 +181,7 @@ fn half_opened(alloc: Global, disk: MemDisk, fails: u64) -> Result<MemDisk, Wron
 }
 
 impl Crashes<'_> {
-    /// Opens an image, and tells for which beginning it stands.
+    /// Opens an image, and returns the beginning that it stands for.
     fn look(&mut self, image: MemDisk, low: usize, high: usize) -> Result<usize, Wrong> {
         self.images = self.images.saturating_add(1);
         let keeper = opened(self.alloc, image)?;
@@ -217,7 +217,7 @@ impl Crashes<'_> {
         for back in 0..calls {
             let image = stop.disk.crash(alloc, picks)?;
             let disk = half_opened(alloc, image, calls.saturating_sub(back))?;
-            // all calls from here to the front are reads behind a sync
+            // all calls from here to the front are reads after a sync
             if deeds(alloc, &disk)? == (1, 0) {
                 return Ok(());
             }
@@ -227,7 +227,7 @@ impl Crashes<'_> {
         Err(found("an opening without a sync"))
     }
 
-    /// Opens what these picks choose, goes on over it, and crashes again.
+    /// Opens the image of these picks, goes on over it, and crashes again.
     fn judge(&mut self, stop: &Stop<'_>, picks: &[usize]) -> Result<(), Wrong> {
         let alloc = self.alloc;
         let place = self.look(stop.disk.crash(alloc, picks)?, stop.low, stop.high)?;
@@ -298,12 +298,12 @@ pub fn calls_of_create(alloc: Global) -> Result<u64, Wrong> {
     Ok(disk.calls())
 }
 
-/// A script is stopped before each write behind its creation; tells how many images were opened.
+/// A script is stopped before each write after its creation; returns how many images were opened.
 pub fn each_stop(alloc: Global, script: &Script) -> Result<u64, Wrong> {
     each_stop_behind(alloc, script, calls_of_create(alloc)?)
 }
 
-/// A script is stopped before each write behind so many disk calls; tells how many images were opened.
+/// A script is stopped before each write after the first `from` disk calls; returns how many images were opened.
 pub fn each_stop_behind(alloc: Global, script: &Script, from: u64) -> Result<u64, Wrong> {
     let course = course_onward(alloc, script.rows.as_slice())?;
     let calls = script.calls(alloc)?;
@@ -332,7 +332,7 @@ pub fn each_stop_behind(alloc: Global, script: &Script, from: u64) -> Result<u64
     Ok(crashes.images)
 }
 
-/// What a crash within a creation may leave: no store, the empty one, and, until the first sync, what stood there.
+/// Asserts what a crash within a creation may leave: no store, the empty one, or, until the first sync, the store that stood there.
 fn is_created(
     alloc: Global,
     image: MemDisk,
@@ -378,7 +378,7 @@ fn with_file(alloc: Global) -> Result<Box<Keeper<MemDisk>>, Wrong> {
     Ok(keeper)
 }
 
-/// A creation over a store with a file, and over a blank disk, is stopped before each call; tells how many images were opened.
+/// A creation over a store with a file, and over a blank disk, is stopped before each call; returns how many images were opened.
 pub fn each_creation(alloc: Global) -> Result<u64, Wrong> {
     let empty = bytes_of(alloc, opened(alloc, made(alloc)?)?.as_ref())?;
     let keeper = with_file(alloc)?;

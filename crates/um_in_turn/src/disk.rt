@@ -14,10 +14,10 @@ use um_wire::Refusal;
 /// A service that is started again after its delay, of a tenth of a second.
 const AGAIN: &str = "[Service]\nExecStart=/bin/sleep 9\nRestart=on-failure\n";
 
-/// The record of a file of so many bytes takes 20 sectors.
+/// The bytes of a file whose record takes 20 sectors.
 const LONG: usize = 9_500;
 
-/// The record of a file of so many bytes takes four sectors.
+/// The bytes of a file whose record takes four sectors.
 const SHORT: usize = 1_700;
 
 /// The automatic restart with its ticks.
@@ -33,7 +33,7 @@ pub const RESTART: &[Row] = &[
     (2_200_000, Coming::Tick),
 ];
 
-/// The automatic restart; then a checkpoint, and the store is opened again behind more records.
+/// The automatic restart; then a checkpoint, and the store is opened again after more records.
 pub fn restart(alloc: Global) -> Result<Script, Wrong> {
     let mut script = Script::new(alloc);
     script.each(RESTART)?;
@@ -54,12 +54,12 @@ pub fn short(alloc: Global) -> Result<Script, Wrong> {
     Ok(script)
 }
 
-/// The number of disk calls of a creation and the opening behind it.
+/// The number of disk calls of a creation and the opening after it.
 pub fn calls_before(alloc: Global) -> Result<u64, Wrong> {
     Script::new(alloc).calls(alloc)
 }
 
-/// So many records of a file of so many bytes, from this microsecond on.
+/// `count` records of a file of `bytes` bytes, from this microsecond on.
 fn records(alloc: Global, from: u64, count: u64, bytes: usize) -> Result<Vec<Row>, Wrong> {
     let mut rows = Vec::new(alloc);
     for number in 0..count {
@@ -69,7 +69,7 @@ fn records(alloc: Global, from: u64, count: u64, bytes: usize) -> Result<Vec<Row
     Ok(rows)
 }
 
-/// Submits each of so many records of a file of so many bytes.
+/// Submits each of `count` records of a file of `bytes` bytes.
 fn each_record(
     alloc: Global,
     script: &mut Script,
@@ -89,8 +89,8 @@ pub fn almost_filled(alloc: Global, from: u64) -> Result<Vec<Row>, Wrong> {
     Ok(rows)
 }
 
-/// An area of 256 sectors is filled to its end, and the next record begins a generation; the store is opened again behind another one, in the
-/// middle of the snapshot.
+/// An area of 256 sectors is filled to its end, and the next record begins a generation; the store is opened again after more records, in
+/// the middle of the snapshot.
 pub fn filled(alloc: Global) -> Result<Script, Wrong> {
     let mut script = Script::new(alloc);
     each_record(alloc, &mut script, 1, 12, LONG)?;
@@ -113,8 +113,8 @@ pub fn lists(alloc: Global) -> Result<Script, Wrong> {
     Ok(script)
 }
 
-/// A record of one sector, and two of files of so many bytes, which go over the end of an area that is all but full; then a restart, with the end
-/// of the process of this number: taken twice, it would be seen.
+/// A record of one sector, and two of files of `bytes` bytes, which go over the end of an area that is all but full; then a restart, with the
+/// end of the process of this number: taken twice, it would be seen.
 pub fn beginning(micros: u64, number: u64, bytes: usize) -> [Row; 5] {
     [
         (micros, Coming::Put("lib/c.service", "")),
@@ -150,7 +150,7 @@ pub fn steps(alloc: Global) -> Result<Script, Wrong> {
     ])?;
     script.deed(Deed::Step(16))?;
     script.deed(Deed::Step(16))?;
-    // behind eight sectors: the area is full
+    // the area holds eight sectors already: these fill it
     script.list(almost_filled(alloc, 2_000)?.as_slice())?;
     script.list(&beginning(3_000, 2, SHORT))?;
     script.deed(Deed::Step(2))?;
@@ -160,7 +160,7 @@ pub fn steps(alloc: Global) -> Result<Script, Wrong> {
     Ok(script)
 }
 
-/// A store of layout 1 and this generation is opened, and written anew as layout 2; more is recorded, and it is opened again.
+/// A store of layout 1 and this generation is opened, and rewritten as layout 2; more is recorded, and it is opened again.
 pub fn old(alloc: Global, generation: u8) -> Result<Script, Wrong> {
     let mut script = Script::old(alloc, generation, RESTART)?;
     script.each(&[
@@ -222,7 +222,7 @@ fn is_beginning(
     }
 }
 
-/// Asserts it of the disk as it stands, which loses nothing, and of what a crash leaves that loses all that wasn't synced.
+/// Asserts it of the disk as it stands, which loses nothing, and of the image after a crash that loses all unsynced values.
 fn are_beginnings(
     alloc: Global,
     course: &Course,
@@ -253,7 +253,7 @@ fn is_created_again(alloc: Global, course: &Course, disk: MemDisk) -> Result<(),
     are_beginnings(alloc, course, disk, 0, 0)
 }
 
-/// Asserts what must hold of a call that was refused behind so many rows, and took so many more.
+/// Asserts what must hold of a call that was refused after `done` rows, and was given `more` rows.
 fn is_refused(
     alloc: Global,
     course: &Course,
@@ -295,7 +295,7 @@ fn both_ways(alloc: Global, script: &Script, course: &Course, fails: u64) -> Res
     }
 }
 
-/// Each call of a script fails in turn, from that number on; tells how many cases were tried.
+/// Each call of a script fails in turn, from that number on; returns how many cases were tried.
 pub fn each_call(alloc: Global, script: &Script, first: u64) -> Result<u64, Wrong> {
     let course = course_of(alloc, script.rows.as_slice())?;
     let calls = script.calls(alloc)?;

@@ -10,9 +10,9 @@ use um_children::{
 };
 use um_keeper::SpawnOrder;
 
-/// Children in memory of which one call fails: the `fails`-th, counted from 1; with 0 none. A start that fails is made all the same where
-/// it `makes` it. They keep each call but one to forget that fails, which isn't made; of a start that was made all the same they keep that it
-/// was taken.
+/// Children in memory of which one call fails: the `fails`-th, counted from 1; with 0 none. A start that fails is made all the same if
+/// `makes` is set. The calls are kept, except a failed call to forget, which isn't made; a start that was made all the same is kept as
+/// taken.
 #[derive(Drop)]
 pub struct FaultyChildren {
     inner: FakeChildren,
@@ -25,7 +25,7 @@ pub struct FaultyChildren {
 }
 
 impl FaultyChildren {
-    /// The `fails`-th call fails.
+    /// Children whose `fails`-th call fails, a start after it was made if `makes` is set; with 0 none.
     pub fn new(inner: FakeChildren, fails: u64, makes: bool) -> FaultyChildren {
         FaultyChildren {
             inner,
@@ -52,7 +52,7 @@ impl FaultyChildren {
         self.refused
     }
 
-    /// From now on the process of this number, once it was started, has ended so.
+    /// From now on the process of this number, once it was started, has ended in this way.
     pub fn ends(&mut self, number: ProcessNumber, end: End) -> Result<(), AllocError> {
         self.inner.ends(number, end)
     }
@@ -62,7 +62,7 @@ impl FaultyChildren {
         self.failures != 0
     }
 
-    /// Counts a call, and tells whether it is to fail.
+    /// Counts a call, and returns whether it is to fail.
     fn burns(&mut self) -> bool
         ensures failures { self.new.failures ≡ self.old.failures }
     {
@@ -70,7 +70,7 @@ impl FaultyChildren {
         self.calls == self.fails
     }
 
-    /// What the children below answer, whose failures are counted.
+    /// The answer of the inner children, whose failures are counted.
     fn counted<T: Drop>(&mut self, answer: Result<T, ChildFault>) -> Result<T, ChildFault>
         ensures answer { result ≡ answer }
         ensures failures { CountsFault result self.old.failures self.new.failures }

@@ -5,7 +5,7 @@ ghost use Rattle.std.specs.Prelude.{true, false, []};
 use um_gate::{FakeGate, Gate, Note, Open};
 
 /// A gate in memory of which one call fails: the `fails`-th accept, read or write, counted from 1; with 0 none. An accept that fails takes
-/// nobody. A read that fails tells closed, and a write that fails takes nothing, and the next read tells closed.
+/// nobody. A read that fails returns closed, and a write that fails takes nothing, and the next read returns closed.
 #[derive(Drop)]
 pub struct FaultyGate {
     inner: FakeGate,
@@ -16,7 +16,7 @@ pub struct FaultyGate {
 }
 
 impl FaultyGate {
-    /// The `fails`-th call fails.
+    /// A gate whose `fails`-th call fails; with 0 none.
     pub fn new(inner: FakeGate, fails: u64) -> FaultyGate {
         FaultyGate {
             inner,
@@ -36,12 +36,12 @@ impl FaultyGate {
         self.hit
     }
 
-    /// What it did so far, the oldest first.
+    /// The notes of its calls so far, the oldest first.
     pub fn notes(&self) -> &[Note] {
         self.inner.notes()
     }
 
-    /// Counts a call, and tells whether it is to fail.
+    /// Counts a call, and returns whether it is to fail.
     fn burns(&mut self) -> bool {
         self.calls = self.calls.saturating_add(1);
         self.calls == self.fails

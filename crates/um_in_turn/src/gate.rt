@@ -16,10 +16,10 @@ use um_sector::MemDisk;
 use um_serve::Buffered;
 use um_wire::spell;
 
-/// So many rounds are served.
+/// The number of rounds that are served.
 const ROUNDS: usize = 24;
 
-/// The requests of the client that commands, and the rows that they are, behind the boot.
+/// The requests of the client that commands, and the rows that they are, after the boot.
 const COMMANDS: &[&str] = &[
     r#"{"verb":"put-file","path":"lib/a.service","text":"[Service]\nExecStart=/bin/sleep 9\n"}"#,
     r#"{"verb":"daemon-reload"}"#,
@@ -43,7 +43,7 @@ const DONE: &str = r#"{"ok":true}"#;
 /// The replies to the commands.
 const DONES: &[&str] = &[DONE, DONE, DONE, DONE];
 
-/// The requests of the client that asks.
+/// The requests of the client that queries.
 const QUERIES: &[&str] = &[
     r#"{"verb":"cat","unit":"b"}"#,
     r#"{"verb":"is-active","unit":"b"}"#,
@@ -73,7 +73,7 @@ pub struct Clients {
 }
 
 impl Clients {
-    /// The number of the one that asks.
+    /// The number of the one that queries.
     fn asks(self) -> usize {
         if self.commands == 0 { 1 } else { 0 }
     }
@@ -112,7 +112,7 @@ fn manager(alloc: Global) -> Result<Box<Serving>, Wrong> {
     managers::opened(alloc, disk, children, boot_of(alloc, "one")?)
 }
 
-/// What a gate took for a client.
+/// The bytes that a gate took for a client.
 fn taken(alloc: Global, notes: &[Note], number: usize) -> Result<Vec<u8>, Wrong> {
     let mut bytes = Vec::new(alloc);
     for note in notes {
@@ -146,7 +146,7 @@ fn whole(alloc: Global, bytes: &[u8], texts: &[&str]) -> Result<usize, Wrong> {
     Ok(count)
 }
 
-/// What a client must have: all its replies, or, where its call failed, a beginning. Tells how many whole ones.
+/// Asserts that a client has all its replies, or, if its call failed, a beginning of them. Returns how many whole ones.
 fn has(alloc: Global, gate: &FaultyGate, number: usize, texts: &[&str]) -> Result<usize, Wrong> {
     let bytes = taken(alloc, gate.notes(), number)?;
     let count = whole(alloc, bytes.as_slice(), texts)?;
@@ -156,7 +156,7 @@ fn has(alloc: Global, gate: &FaultyGate, number: usize, texts: &[&str]) -> Resul
     Ok(count)
 }
 
-/// Asserts of a run what its clients have, and that the state is that of a beginning.
+/// Asserts of a run that its clients have their replies, and that the state is that of a beginning.
 fn have(
     alloc: Global,
     course: &Course,
@@ -166,7 +166,7 @@ fn have(
 ) -> Result<(), Wrong> {
     has(alloc, gate, clients.asks(), TOLD)?;
     let replies = has(alloc, gate, clients.commands, DONES)?;
-    // behind the boot each reply is that to a command that was taken
+    // after the boot each reply is that to a command that was taken
     let bytes = spell(alloc, manager.state())?;
     let last = course.states.len().saturating_sub(1);
     match course.place(replies.saturating_add(1), last, bytes.as_slice()) {
@@ -175,12 +175,12 @@ fn have(
     }
 }
 
-/// The same gate, with what goes from one round to the next.
+/// The same gate, with the buffers that go from one round to the next.
 fn buffered(alloc: Global, clients: Clients, fails: u64) -> Result<Buffered<FaultyGate>, Wrong> {
     Ok(Buffered::new(alloc, gate_of(alloc, clients, fails)?)?)
 }
 
-/// Serves the rounds.
+/// Serves `ROUNDS` rounds.
 fn served(
     alloc: Global,
     manager: &mut Serving,
@@ -190,7 +190,7 @@ fn served(
     Ok(managers::serve(manager, gate, &mut clock, ROUNDS)?)
 }
 
-/// One run; tells how many calls it made.
+/// One run; returns how many calls it made.
 fn run(alloc: Global, course: &Course, clients: Clients, fails: u64) -> Result<u64, Wrong> {
     let mut manager = manager(alloc)?;
     let mut gate = Box::new(alloc, buffered(alloc, clients, fails)?)?;
@@ -200,7 +200,7 @@ fn run(alloc: Global, course: &Course, clients: Clients, fails: u64) -> Result<u
     Ok(gate.calls())
 }
 
-/// Each call of the gate fails in turn; tells how many cases were tried.
+/// Each call of the gate fails in turn; returns how many cases were tried.
 pub fn each_call(alloc: Global, clients: Clients) -> Result<u64, Wrong> {
     let course = course_of(alloc, ROWS)?;
     let calls = run(alloc, &course, clients, 0)?;

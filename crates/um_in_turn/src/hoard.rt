@@ -3,7 +3,7 @@
 use crate::wrong::{Wrong, found};
 use std::alloc::Global;
 
-/// So many bytes has a grain.
+/// The bytes of a grain.
 const GRAIN: usize = 64;
 
 /// The largest blocks that are held have two to the power of this many bytes.
@@ -12,10 +12,10 @@ const LARGE: usize = 20;
 /// The smallest of those that halve; below them there is one of each size that the C library hands out.
 const SMALL: usize = 11;
 
-/// More blocks than these aren't held: so the program ends where its memory has no limit.
+/// The most blocks that are held, so that the program ends if its memory has no limit.
 const MOST: usize = 16_384;
 
-/// All memory of the program but so many grains.
+/// All memory of the program but some grains.
 #[derive(Drop)]
 pub struct Hoard {
     /// Where the grains stood.
@@ -23,7 +23,7 @@ pub struct Hoard {
     blocks: Vec<Vec<u8>>,
 }
 
-/// Holds blocks of so many bytes, until none is left.
+/// Holds blocks of `bytes` bytes, until none is left.
 fn hold(alloc: Global, blocks: &mut Vec<Vec<u8>>, bytes: usize) -> Result<(), Wrong> {
     for _ in blocks.len()..MOST {
         match Vec::with_capacity(alloc, bytes) {
@@ -45,7 +45,7 @@ fn hold_all(alloc: Global, blocks: &mut Vec<Vec<u8>>) -> Result<(), Wrong> {
     Ok(())
 }
 
-/// So many grains.
+/// `count` grains.
 fn grains_of(alloc: Global, count: usize) -> Result<Vec<Vec<u8>>, Wrong> {
     let mut grains = Vec::new(alloc);
     for _ in 0..count {
@@ -55,7 +55,7 @@ fn grains_of(alloc: Global, count: usize) -> Result<Vec<Vec<u8>>, Wrong> {
 }
 
 impl Hoard {
-    /// From now on, until it is let go, a call finds about so many grains, where the program's memory has a limit. With None nothing is held.
+    /// From now on, until it is dropped, a call finds about this many grains, if the program's memory has a limit. With None nothing is held.
     pub fn all_but(alloc: Global, grains: Option<usize>) -> Result<Hoard, Wrong> {
         let Some(count) = grains else {
             return Ok(Hoard {

@@ -7,7 +7,6 @@ use std::process::{Command, Processes, Stdio};
 /// Becomes its words, with 64 MiB of memory at most.
 const LIMITED: &str = "ulimit -v 65536 && exec \"$@\"";
 
-/// Adds these words.
 fn add_words(command: &mut Command, words: &[&str]) -> Result<(), AllocError> {
     for word in words {
         command.arg(*word)?;
@@ -24,7 +23,7 @@ fn command(alloc: Global, program: &str, number: &str) -> Result<Command, AllocE
     Ok(command)
 }
 
-/// The life of this number, played by this program with little memory; what it finds wrong it tells itself.
+/// The life of this number, played by this program with little memory; that process reports itself what it finds wrong.
 pub fn play<R: Processes>(rt: &R, alloc: Global, program: &str, number: &str) -> Result<(), Wrong> {
     let mut command = command(alloc, program, number)?;
     match command.status(rt) {

@@ -1,4 +1,4 @@
-//! Lives in which any allocation may fail, once: what finds no memory is asked again.
+//! Lives in which any allocation may fail, once: a call that finds no memory is repeated.
 
 use crate::alone::{Answer, Course, course_of, refused, spent};
 use crate::crash::{combinations, turn};
@@ -69,7 +69,7 @@ pub const ENABLED: &[Row] = &[
     (0, Coming::Install(InstallVerb::Disable, "a.service")),
 ];
 
-/// So many records of a file that takes 20 sectors.
+/// The number of records of a file that take 20 sectors each.
 const LONG: usize = 12;
 
 /// A service runs, the area of its log is full, and with its restart a snapshot of three sectors begins, which isn't done at the end.
@@ -87,11 +87,11 @@ pub fn areas(alloc: Global) -> Result<Vec<Row>, Wrong> {
     Ok(rows)
 }
 
-/// What takes the inputs of a life.
+/// A keeper that takes the inputs of a life.
 #[derive(Drop)]
 pub struct Taker {
     pub keeper: Box<Keeper<MemDisk>>,
-    /// A wrong program: whatever comes is answered E15.
+    /// A wrong program: every input is answered E15.
     always_wanting: bool,
 }
 
@@ -104,7 +104,7 @@ impl Taker {
         }
     }
 
-    /// Submits the input.
+    /// Submits the input; the wrong program refuses each with E15.
     pub fn submit(&mut self, input: Input) -> Result<Receipt, Refusal> {
         if self.always_wanting {
             return Err(Refusal::NoMemory);
@@ -112,7 +112,7 @@ impl Taker {
         submit(self.keeper.as_mut(), input)
     }
 
-    /// A sector of a snapshot under way goes out; where the disk finds no memory for it, the store is opened again.
+    /// A sector of a snapshot under way goes out; if the disk finds no memory for it, the store is opened again.
     pub fn stepped(mut self, alloc: Global) -> Result<Taker, Wrong> {
         match self.keeper.step(1) {
             Ok(_) => Ok(self),
@@ -136,7 +136,7 @@ impl Taker {
         Box::into_inner(self.keeper).into_disk()
     }
 
-    /// Asserts that it is in the state of the beginning of so many rows.
+    /// Asserts that it is in the state of the beginning of `place` rows.
     pub fn is_at(&self, alloc: Global, course: &Course, place: usize) -> Result<(), Wrong> {
         if course.is_at(place, bytes_of(alloc, self.keeper.as_ref())?.as_slice()) {
             return Ok(());
@@ -180,7 +180,7 @@ fn stands_for(
     }
 }
 
-/// The keeper that is opened at the beginning of so many rows, or again where it found no memory: then each image stands for that state.
+/// The keeper that is opened at the beginning of `place` rows, or again if it found no memory: then each image stands for that state.
 fn open_at(
     alloc: Global,
     course: &Course,
@@ -212,7 +212,7 @@ pub fn is_untouched(alloc: Global, disk: &MemDisk) -> Result<(), Wrong> {
     Err(found("a creation without memory has written"))
 }
 
-/// A disk that holds a new store, which is made again where the creation or its disk found no memory.
+/// A disk that holds a new store, which is made again if the creation or its disk found no memory.
 fn new_store(alloc: Global) -> Result<MemDisk, Wrong> {
     let mut disk = blank(alloc)?;
     match create_on(alloc, &mut disk) {
@@ -235,7 +235,7 @@ pub enum Taken {
     Failed,
 }
 
-/// What was told of an input.
+/// How an input was answered, by the result of its submission.
 pub fn heard(alloc: Global, told: Result<Receipt, Refusal>) -> Result<Taken, Wrong> {
     match told {
         Ok(receipt) => Ok(Taken::As(spent(alloc, receipt)?)),
@@ -279,7 +279,7 @@ pub fn is_closed(alloc: Global, taker: &mut Taker, row: Row) -> Result<(), Wrong
     }
 }
 
-/// The keeper whose disk found no memory, opened again: it takes the input where it didn't.
+/// The keeper whose disk found no memory, opened again: it takes the input now if it didn't before.
 fn taken_again(
     alloc: Global,
     course: &Course,
@@ -298,7 +298,7 @@ fn taken_again(
     Ok(taker)
 }
 
-/// The input is asked once more, and gets its answer.
+/// The input is submitted once more, and gets its answer.
 fn once_more(
     alloc: Global,
     course: &Course,
@@ -349,7 +349,7 @@ pub fn taker_behind(
     Ok(taker)
 }
 
-/// The rows are taken one by one, and the store is opened again; tells how many there were.
+/// The rows are taken one by one, and the store is opened again; returns how many there were.
 pub fn rows_taken(alloc: Global, rows: &[Row]) -> Result<u64, Wrong> {
     let course = course_of(alloc, rows)?;
     let taker = taker_behind(alloc, &course, rows, false)?;
@@ -357,7 +357,7 @@ pub fn rows_taken(alloc: Global, rows: &[Row]) -> Result<u64, Wrong> {
     Ok(rows.len() as u64)
 }
 
-/// Asserts that a program that answers E15 to whatever comes fails a life.
+/// Asserts that a program that answers E15 to every input fails a life.
 pub fn wanting_is_noticed(alloc: Global) -> Result<(), Wrong> {
     let course = course_of(alloc, SIMPLE)?;
     match taker_behind(alloc, &course, SIMPLE, true) {

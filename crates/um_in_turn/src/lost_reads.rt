@@ -1,4 +1,4 @@
-//! A client whose round finds little memory: where its turn finds none for itself what was read is lost, and nothing is served behind that.
+//! A client whose round finds little memory: if its turn finds none for itself, the bytes read are lost, and nothing is served after that.
 
 use crate::hoard::Hoard;
 use crate::managers;
@@ -15,7 +15,7 @@ use um_sector::MemDisk;
 use um_serve::Buffered;
 use um_wire::Refusal;
 
-/// What the client asks.
+/// The request of the client.
 const JOBS: &str = r#"{"verb":"list-jobs"}"#;
 
 /// A manager over a gate.
@@ -33,14 +33,14 @@ impl Serving {
         managers::serve(self.manager.as_mut(), gate, &mut self.clock, 1)
     }
 
-    /// How much the gate has done, and how often the clock was asked.
+    /// How much the gate has done, and how often the clock was read.
     fn done(&self) -> (usize, usize) {
         let notes = self.gate.as_ref().gate.notes();
         (notes.len(), self.clock.given().len())
     }
 }
 
-/// A manager over a gate behind a round without clients, which has made the room for what is read; then a client comes.
+/// A manager over a gate after a round without clients, which has made room for the bytes read; then a client comes.
 fn begun(alloc: Global) -> Result<Serving, Wrong> {
     let boot = boot_of(alloc, "one")?;
     let manager = managers::opened(alloc, made(alloc)?, FakeChildren::new(alloc), boot)?;
@@ -57,7 +57,7 @@ fn begun(alloc: Global) -> Result<Serving, Wrong> {
     Ok(serving)
 }
 
-/// Asserts that a round is answered E15, though there is memory, and that nothing is heard in it and nothing handed out.
+/// Asserts that a round is answered E15, though there is memory, and that it neither uses the gate nor reads the clock.
 fn is_over(serving: &mut Serving) -> Result<(), Wrong> {
     let before = serving.done();
     if !matches!(serving.round(), Err(Refusal::NoMemory)) {
@@ -69,7 +69,7 @@ fn is_over(serving: &mut Serving) -> Result<(), Wrong> {
     Ok(())
 }
 
-/// The client's round finds so many grains; tells whether what it read was lost. Then nothing is served behind it.
+/// The client's round finds this many grains; returns whether the bytes that it read were lost. Then nothing is served after it.
 pub fn is_lost(alloc: Global, grains: Option<usize>) -> Result<bool, Wrong> {
     let mut serving = begun(alloc)?;
     let hoard = Hoard::all_but(alloc, grains)?;

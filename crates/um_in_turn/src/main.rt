@@ -1,8 +1,8 @@
-//! Everything that can be refused is refused, one after another, and what must hold is asserted each time.
+//! Every call that can be refused is refused, one after another, and the rules that must hold are asserted each time.
 //!
 //! Its words are a kind, `memory`, `scarce`, `disk`, `crash`, `children` or `gate`, and a number, of a script or a life; or `some 0` for a
 //! selection of these. Those of `memory` are lives whose allocations `tools/in-turn` lets fail; those of `scarce` are played where the
-//! program's memory has a limit. It prints how many cases it tried, 0 for a selection; where one is wrong it tells that on standard error,
+//! program's memory has a limit. It prints how many cases it tried, 0 for a selection; if one is wrong it reports that on standard error,
 //! and the exit status is 1.
 #![tactic(auto)]
 
@@ -150,8 +150,8 @@ fn scarce_parts(rt: &HostRuntime, program: &str, numbers: &[&str]) -> Result<(),
     Ok(())
 }
 
-/// What is short: the scripts of children and gate, the lives with all their memory, a short script each of a disk and of crashes, and crashes of
-/// an opening that writes a store of layout 1 anew.
+/// The short parts: the scripts of children and gate, the lives with all their memory, a short script each of a disk and of crashes, and
+/// crashes of an opening that rewrites a store of layout 1.
 fn short(alloc: Global) -> Result<(), Wrong> {
     let first = disk::calls_before(alloc)?.saturating_add(1);
     disk::each_call(alloc, &disk::short(alloc)?, first)?;
@@ -170,7 +170,7 @@ fn some(rt: &HostRuntime, program: &str) -> Result<u64, Wrong> {
     Ok(0)
 }
 
-/// What the words ask for; tells how many cases were tried.
+/// Plays the parts that the words name; returns how many cases were tried.
 fn tried(rt: &HostRuntime, program: &str, kind: &str, number: &str) -> Result<u64, Wrong> {
     match kind {
         "some" => some(rt, program),

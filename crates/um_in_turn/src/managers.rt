@@ -1,4 +1,4 @@
-//! What is asked of managers, for any disk and children: where a call promises much, it costs the prover less here than where both are known.
+//! Calls of managers, for any disk and children: if a call promises much, it costs the prover less here than where both are known.
 
 use crate::wrong::Wrong;
 use std::alloc::Global;
@@ -11,7 +11,7 @@ use um_serve::Buffered;
 use um_state::BootId;
 use um_wire::Refusal;
 
-/// Opens a manager.
+/// Opens a manager; else the refusal, with the disk and the children.
 pub fn open<D: Disk, C: Children>(
     alloc: Global,
     disk: D,
@@ -21,7 +21,7 @@ pub fn open<D: Disk, C: Children>(
     Manager::open(alloc, disk, children, boot, Moment::FIRST)
 }
 
-/// Opens a manager, where no opening may be refused. It is boxed, since it is large.
+/// Opens a manager in a place where no opening may be refused. It is boxed, since it is large.
 pub fn opened<D: Disk + Drop, C: Children + Drop>(
     alloc: Global,
     disk: D,
@@ -34,7 +34,7 @@ pub fn opened<D: Disk + Drop, C: Children + Drop>(
     }
 }
 
-/// A turn in which this comes.
+/// A turn in which these pieces come.
 pub fn turn<D: Disk, C: Children>(
     manager: &mut Manager<D, C>,
     pieces: &Pieces,
@@ -42,7 +42,7 @@ pub fn turn<D: Disk, C: Children>(
     manager.turn(Moment::FIRST, pieces)
 }
 
-/// So many rounds.
+/// Serves this many rounds.
 pub fn serve<D: Disk, C: Children, G: Gate>(
     manager: &mut Manager<D, C>,
     gate: &mut Buffered<G>,

@@ -1,4 +1,4 @@
-//! What comes in, as rows of a script.
+//! Inputs as rows of a script.
 
 use crate::wrong::{Wrong, found};
 use std::alloc::Global;
@@ -6,12 +6,12 @@ use um_model::{End, InstallVerb, JobMode, Moment, UnitVerb};
 use um_name::UnitName;
 use um_state::{BootId, Command, Event, Happening, Input};
 
-/// What comes in.
+/// An event of a script.
 #[derive(Clone, Copy)]
 pub enum Coming {
     /// A file of this text at the path.
     Put(&'static str, &'static str),
-    /// A file of so many bytes at the path.
+    /// A file of this many bytes at the path.
     Long(&'static str, usize),
     Reload,
     /// A verb for a unit, in mode `replace`.
@@ -24,7 +24,7 @@ pub enum Coming {
     Booted(&'static str),
 }
 
-/// A microsecond, and what comes in then.
+/// A microsecond, and the event at it.
 pub type Row = (u64, Coming);
 
 fn text(alloc: Global, text: &str) -> Result<String, Wrong> {

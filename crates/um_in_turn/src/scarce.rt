@@ -13,10 +13,10 @@ use um_keeper::Keeper;
 use um_sector::MemDisk;
 use um_wire::Refusal;
 
-/// A call is tried so often at most, the last time with some 20 MiB.
+/// The most tries of a call, the last with some 20 MiB.
 const MOST: usize = 160;
 
-/// The grains of the first try. Where they are None, each call finds all the memory.
+/// The grains of the first try. If they are None, each call finds all the memory.
 type Grains = Option<usize>;
 
 /// The grains of the next try: at first a grain more each time, later a sixteenth more.
@@ -46,7 +46,7 @@ fn created(alloc: Global, first: Grains) -> Result<(MemDisk, usize), Wrong> {
     Err(found("a creation is refused always"))
 }
 
-/// A keeper that is in the state of the beginning of so many rows.
+/// A keeper that is in the state of the beginning of `place` rows.
 fn at(
     alloc: Global,
     course: &Course,
@@ -58,7 +58,7 @@ fn at(
     Ok(taker)
 }
 
-/// A keeper that is opened at the beginning of so many rows, and how often that was refused: each time each image of its disk stands for that
+/// A keeper that is opened at the beginning of `place` rows, and how often that was refused: each time each image of its disk stands for that
 /// state.
 fn opened(
     alloc: Global,
@@ -109,7 +109,7 @@ fn reopened(
     }
 }
 
-/// The row of that place is submitted with so many grains; tells whether it was taken.
+/// The row of that place is submitted with this many grains; returns whether it was taken.
 fn try_row(
     alloc: Global,
     course: &Course,
@@ -134,7 +134,7 @@ fn try_row(
     }
 }
 
-/// The row of that place is submitted until it is taken; tells how often it wasn't.
+/// The row of that place is submitted until it is taken; returns how often it wasn't.
 fn take_row(
     alloc: Global,
     course: &Course,
@@ -157,7 +157,7 @@ fn take_row(
     Err(found("an input is refused always"))
 }
 
-/// The rows are taken one by one; tells how many tries were refused.
+/// The rows are taken one by one; returns how many tries were refused.
 fn take_rows(
     alloc: Global,
     course: &Course,
@@ -175,7 +175,7 @@ fn take_rows(
     Ok((taker, refusals))
 }
 
-/// A store is created and opened, takes the rows, and is opened again; tells how many tries were refused.
+/// A store is created and opened, takes the rows, and is opened again; returns how many tries were refused.
 fn play(alloc: Global, rows: &[Row], first: Grains) -> Result<usize, Wrong> {
     let course = course_of(alloc, rows)?;
     let (disk, creating) = created(alloc, first)?;
@@ -186,7 +186,7 @@ fn play(alloc: Global, rows: &[Row], first: Grains) -> Result<usize, Wrong> {
     Ok(creating.saturating_add(taking).saturating_add(openings))
 }
 
-/// The two clients, until nothing of their turn is refused; tells how many tries were refused something.
+/// The two clients, until nothing of their turn is refused; returns how many tries were refused something.
 fn turned(alloc: Global, first: Grains) -> Result<usize, Wrong> {
     let mut grains = first;
     for tries in 0..MOST {
@@ -198,7 +198,7 @@ fn turned(alloc: Global, first: Grains) -> Result<usize, Wrong> {
     Err(found("a turn is refused always"))
 }
 
-/// A client's round, until nothing is lost of what it reads; tells how many rounds lost that.
+/// A client's round, until none of the bytes read are lost; returns how many rounds lost some.
 fn kept(alloc: Global, first: Grains) -> Result<usize, Wrong> {
     let mut grains = first;
     for tries in 0..MOST {
@@ -218,20 +218,20 @@ fn some(refusals: usize) -> Result<u64, Wrong> {
     Ok(refusals as u64)
 }
 
-/// The rows are taken one by one, each call in scarce memory, and the openings and the creation too; tells how many tries were refused.
+/// The rows are taken one by one, each call in scarce memory, and the openings and the creation too; returns how many tries were refused.
 pub fn rows_taken(alloc: Global, rows: &[Row]) -> Result<u64, Wrong> {
     // with all the memory first: later the stack has no room to grow
     play(alloc, rows, None)?;
     some(play(alloc, rows, Some(0))?)
 }
 
-/// The two clients, whose turn finds scarce memory; tells how many tries were refused something.
+/// The two clients, whose turn finds scarce memory; returns how many tries were refused something.
 pub fn two_clients(alloc: Global) -> Result<u64, Wrong> {
     turned(alloc, None)?;
     some(turned(alloc, Some(0))?)
 }
 
-/// A client whose round finds scarce memory; tells how many rounds lost what they read.
+/// A client whose round finds scarce memory; returns how many rounds lost the bytes that they read.
 pub fn lost_reads(alloc: Global) -> Result<u64, Wrong> {
     kept(alloc, None)?;
     some(kept(alloc, Some(0))?)

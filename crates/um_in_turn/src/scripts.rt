@@ -18,9 +18,9 @@ pub type Failing = Fuse<MemDisk>;
 pub enum Deed {
     /// The next row is submitted.
     Input,
-    /// So many rows are submitted as one list.
+    /// This many rows are submitted as one list.
     List(usize),
-    /// So many sectors of a snapshot under way go out.
+    /// This many sectors of a snapshot under way go out.
     Step(u32),
     Checkpoint,
     /// The store is opened again.
@@ -32,7 +32,7 @@ pub enum Deed {
 pub enum Start {
     /// It is created.
     New,
-    /// One of layout 1 and this generation, which holds so many rows.
+    /// One of layout 1 and this generation, which holds this many rows.
     Old(u8, usize),
 }
 
@@ -45,7 +45,7 @@ pub struct Script {
 }
 
 impl Script {
-    /// No call behind a creation and an opening.
+    /// No call after a creation and an opening.
     pub fn new(alloc: Global) -> Script {
         Script {
             start: Start::New,
@@ -54,7 +54,7 @@ impl Script {
         }
     }
 
-    /// No call behind the opening of a store of layout 1 and this generation that holds these rows.
+    /// No call after the opening of a store of layout 1 and this generation that holds these rows.
     pub fn old(alloc: Global, generation: u8, rows: &[Row]) -> Result<Script, Wrong> {
         let mut script = Script::new(alloc);
         script.start = Start::Old(generation, rows.len());
@@ -88,7 +88,7 @@ impl Script {
         Ok(())
     }
 
-    /// This call.
+    /// This call is made next.
     pub fn deed(&mut self, deed: Deed) -> Result<(), Wrong> {
         self.deeds.push(deed)?;
         Ok(())
@@ -105,26 +105,26 @@ impl Script {
 /// How far a script came.
 #[derive(Drop)]
 pub enum Outcome {
-    /// To its end, with so many calls of the disk.
+    /// To its end, with this many calls of the disk.
     Done(u64),
     /// The creation was refused.
     Creating(MemDisk),
-    /// An opening was refused, behind so many rows.
+    /// An opening was refused, after this many rows.
     Opening(MemDisk, usize),
-    /// A call of the keeper was refused, behind so many rows, which took so many more.
+    /// A call of the keeper was refused: the number of rows before it, and of rows in it.
     Taking(Box<Keeper<Failing>>, usize, usize),
 }
 
 /// How a call went.
 #[derive(Drop)]
 enum Gone {
-    /// It was done, with so many rows.
+    /// It was done, with this many rows.
     On(Box<Keeper<Failing>>, usize),
     Refused(Box<Keeper<Failing>>, usize),
     NotOpened(Failing),
 }
 
-/// How the call went that was refused so.
+/// How the call went that got this refusal.
 fn refused_by(keeper: Box<Keeper<Failing>>, refusal: Refusal) -> Result<Gone, Wrong> {
     let is_fault = matches!(refusal, Refusal::Device);
     let is_due = !matches!(refusal, Refusal::NoMemory | Refusal::Reopen);
@@ -149,7 +149,7 @@ fn submit(alloc: Global, keeper: Box<Keeper<Failing>>, row: Row) -> Result<Gone,
     }
 }
 
-/// What an answer of a list is.
+/// The kind of an answer in a list.
 #[derive(Clone, Copy)]
 enum Kind {
     Done,
@@ -157,7 +157,7 @@ enum Kind {
     Refused,
 }
 
-/// Spends an answer, and tells what it is.
+/// Spends an answer, and returns its kind.
 fn spent_kind(alloc: Global, answer: Result<Receipt, Refusal>) -> Kind {
     match answer {
         Ok(receipt) => {
@@ -188,7 +188,7 @@ fn counted(alloc: Global, answers: Vec<Result<Receipt, Refusal>>) -> (usize, usi
     (done, faults)
 }
 
-/// Lets go of the answers to a list.
+/// Spends the answers to a list.
 pub fn let_go(alloc: Global, answers: Vec<Result<Receipt, Refusal>>) {
     let _counts = counted(alloc, answers);
 }
@@ -281,7 +281,7 @@ impl Script {
         }
     }
 
-    /// The calls behind the opening.
+    /// Makes the calls after the opening.
     fn play_over(&self, alloc: Global, keeper: Box<Keeper<Failing>>) -> Result<Outcome, Wrong> {
         let mut keeper = keeper;
         let mut done = self.begun();
@@ -298,7 +298,7 @@ impl Script {
         Ok(Outcome::Done(Box::into_inner(keeper).into_disk().calls()))
     }
 
-    /// The opening of its store and the calls behind it.
+    /// Makes the opening of its store and the calls after it.
     fn play_from(&self, alloc: Global, disk: Failing) -> Result<Outcome, Wrong> {
         match open(alloc, disk)? {
             Gone::On(keeper, _) => self.play_over(alloc, keeper),
@@ -320,7 +320,7 @@ impl Script {
         self.play_from(alloc, disk)
     }
 
-    /// How many calls of the disk the script makes where none fails.
+    /// How many calls of the disk the script makes if none fails.
     pub fn calls(&self, alloc: Global) -> Result<u64, Wrong> {
         match self.play(alloc, Fuse::new(self.disk(alloc)?, 0))? {
             Outcome::Done(calls) => Ok(calls),

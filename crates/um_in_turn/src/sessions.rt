@@ -1,4 +1,4 @@
-//! Frames, and what comes of connections.
+//! Frames, and the bytes from connections.
 
 use crate::wrong::{Wrong, found};
 use std::alloc::Global;
@@ -24,12 +24,12 @@ pub fn frames(alloc: Global, texts: &[&str]) -> Result<Vec<u8>, Wrong> {
     Ok(bytes)
 }
 
-/// Nothing of any connection.
+/// Nothing from any connection.
 pub fn silence(alloc: Global) -> Result<Pieces, Wrong> {
     Ok(Pieces::none(alloc)?)
 }
 
-/// Adds what comes of a connection: the frames of these texts.
+/// Adds the frames of these texts as the bytes from a connection.
 pub fn add(alloc: Global, pieces: &mut Pieces, number: usize, texts: &[&str]) -> Result<(), Wrong> {
     let Some(connection) = Connection::new(number) else {
         return Err(found("no connection"));
@@ -38,7 +38,7 @@ pub fn add(alloc: Global, pieces: &mut Pieces, number: usize, texts: &[&str]) ->
     Ok(())
 }
 
-/// The frames of these texts come of one connection.
+/// The frames of these texts, as the bytes from one connection.
 pub fn sent(alloc: Global, number: usize, texts: &[&str]) -> Result<Pieces, Wrong> {
     let mut pieces = silence(alloc)?;
     add(alloc, &mut pieces, number, texts)?;

@@ -9,7 +9,7 @@ use um_sector::{Disk, MemDisk, Sector};
 use um_state::Input;
 use um_wire::{Refusal, spell};
 
-/// So many sectors a disk has: slots of 64, a log of 512.
+/// The sectors of a disk: slots of 64, a log of 512.
 pub const SECTORS: usize = 641;
 
 /// The first sector of slot B.
@@ -46,7 +46,7 @@ pub fn made(alloc: Global) -> Result<MemDisk, Wrong> {
     Ok(disk)
 }
 
-/// Opens the store that a disk holds. The keeper is boxed, since it is large; where that finds no memory, the opening has found none.
+/// Opens the store that a disk holds. The keeper is boxed, since it is large; if that finds no memory, the opening has found none.
 pub fn open<D: Disk>(alloc: Global, disk: D) -> Result<Box<Keeper<D>>, (Refusal, D)> {
     match Box::new(alloc, Keeper::open(alloc, disk)?) {
         Ok(keeper) => Ok(keeper),
@@ -54,7 +54,7 @@ pub fn open<D: Disk>(alloc: Global, disk: D) -> Result<Box<Keeper<D>>, (Refusal,
     }
 }
 
-/// The keeper that is opened over a disk, where no opening may be refused.
+/// The keeper that is opened over a disk, in a place where no opening may be refused.
 pub fn opened<D: Disk + Drop>(alloc: Global, disk: D) -> Result<Box<Keeper<D>>, Wrong> {
     match open(alloc, disk) {
         Ok(keeper) => Ok(keeper),
@@ -62,7 +62,7 @@ pub fn opened<D: Disk + Drop>(alloc: Global, disk: D) -> Result<Box<Keeper<D>>, 
     }
 }
 
-/// Submits an input.
+/// Submits an input: its receipt, or the refusal.
 pub fn submit<D: Disk>(keeper: &mut Keeper<D>, input: Input) -> Result<Receipt, Refusal> {
     keeper.submit(input)
 }
@@ -72,7 +72,7 @@ pub fn bytes_of<D: Disk>(alloc: Global, keeper: &Keeper<D>) -> Result<Vec<u8>, W
     Ok(spell(alloc, keeper.state())?)
 }
 
-/// The disk that a crash leaves which loses all that wasn't synced.
+/// The disk after a crash that loses all unsynced values.
 pub fn oldest(alloc: Global, disk: &MemDisk) -> Result<MemDisk, Wrong> {
     Ok(disk.crash(alloc, &[])?)
 }
@@ -86,13 +86,13 @@ fn newest_picks(alloc: Global, disk: &MemDisk) -> Result<Vec<usize>, Wrong> {
     Ok(picks)
 }
 
-/// The disk that a crash leaves which loses nothing.
+/// The disk after a crash that loses nothing.
 pub fn newest(alloc: Global, disk: &MemDisk) -> Result<MemDisk, Wrong> {
     let picks = newest_picks(alloc, disk)?;
     Ok(disk.crash(alloc, picks.as_slice())?)
 }
 
-/// What an opening comes to that is refused: there is no store, where that is why.
+/// None if an opening was refused since there is no store; else the refusal as a wrong.
 fn no_store(refusal: Refusal) -> Result<Option<Vec<u8>>, Wrong> {
     match refusal {
         Refusal::NotFormatted => Ok(None),
@@ -100,7 +100,7 @@ fn no_store(refusal: Refusal) -> Result<Option<Vec<u8>>, Wrong> {
     }
 }
 
-/// The state of the store that a disk holds, as bytes; None where there is no store.
+/// The state of the store that a disk holds, as bytes; None if there is no store.
 pub fn state_on(alloc: Global, disk: MemDisk) -> Result<Option<Vec<u8>>, Wrong> {
     match open(alloc, disk) {
         Ok(keeper) => Ok(Some(bytes_of(alloc, keeper.as_ref())?)),
@@ -111,7 +111,7 @@ pub fn state_on(alloc: Global, disk: MemDisk) -> Result<Option<Vec<u8>>, Wrong> 
     }
 }
 
-/// A store of layout 1 that holds what this one of layout 2 does, whose newest snapshot is of generation 4 in slot A, and whose records are all
+/// A store of layout 1 with the contents of this one of layout 2, whose newest snapshot is of generation 4 in slot A, and whose records are all
 /// of that generation: it is of this generation, and has no other snapshot.
 pub fn made_old(disk: MemDisk, generation: u8) -> Result<MemDisk, Wrong> {
     let mut disk = disk;

@@ -1,4 +1,4 @@
-//! A manager whose children fail a call, beside what the engine alone makes of what was told.
+//! A manager whose children fail a call, beside the engine alone, which takes the same fates and requests.
 
 use crate::alone::{Alone, Order};
 use crate::faulty_children::FaultyChildren;
@@ -20,16 +20,16 @@ pub const BOOT: &str = "one";
 /// A manager over a disk in memory and these children.
 pub type Running = Manager<MemDisk, FaultyChildren>;
 
-/// A manager, and what the engine alone makes of what it was told.
+/// A manager, and beside it the engine alone, which takes the same fates and requests.
 #[derive(Drop)]
 pub struct Watched {
     pub manager: Box<Running>,
     pub alone: Alone,
-    /// So many calls of the children were looked at.
+    /// The number of calls of the children that were looked at.
     pub seen: usize,
-    /// The numbers that are to be asked with a claim.
+    /// The numbers whose fates must be queried with a claim.
     claimed: Vec<ProcessNumber>,
-    /// Those of which nothing was told since.
+    /// Those of them whose fate wasn't reported since.
     pub untold: Vec<ProcessNumber>,
 }
 
@@ -37,7 +37,7 @@ fn happened(happening: Happening) -> Input {
     Input::new(Moment::FIRST, Event::Happened(happening))
 }
 
-/// The engine alone takes what happened, and orders this behind the others.
+/// The engine alone takes a happening; its orders are added after the others.
 fn take_happening(
     alone: &mut Alone,
     happening: Happening,
@@ -50,7 +50,7 @@ fn take_happening(
     Ok(())
 }
 
-/// The engine alone takes what a fate comes to; one that is absent ended so.
+/// The engine alone takes the happenings of a fate; a process that is absent ended in this way.
 fn hear_one(
     alone: &mut Alone,
     number: ProcessNumber,
@@ -75,7 +75,7 @@ fn hear_one(
     take_happening(alone, Happening::ProcessEnded { number, end }, orders)
 }
 
-/// The engine alone takes all that was told in these calls.
+/// The engine alone takes all fates that were reported in these calls.
 fn hear(
     alone: &mut Alone,
     calls: &[Call],
@@ -95,7 +95,7 @@ fn hear(
     Ok(())
 }
 
-/// What was ordered in these calls.
+/// The orders in these calls.
 fn ordered(alloc: Global, calls: &[Call]) -> Result<Vec<Order>, Wrong> {
     let mut orders = Vec::new(alloc);
     for call in calls {
@@ -114,7 +114,7 @@ fn ordered(alloc: Global, calls: &[Call]) -> Result<Vec<Order>, Wrong> {
     Ok(orders)
 }
 
-/// Asserts that each number that is to be asked with a claim was asked so.
+/// Asserts that each number that must be queried with a claim was queried so.
 fn are_claimed(calls: &[Call], claimed: &[ProcessNumber]) -> Result<(), Wrong> {
     for call in calls {
         if let Call::Asked { number, claim, .. } = call {
@@ -126,7 +126,7 @@ fn are_claimed(calls: &[Call], claimed: &[ProcessNumber]) -> Result<(), Wrong> {
     Ok(())
 }
 
-/// Whether the fate of a number was asked in these calls, and told.
+/// Whether the first query for the fate of a number in these calls got a fate; wrong if there is no such query.
 fn is_told(calls: &[Call], process: ProcessNumber) -> Result<bool, Wrong> {
     for call in calls {
         if let Call::Asked { number, told, .. } = call {
@@ -163,7 +163,7 @@ fn are_started_once(calls: &[Call]) -> Result<(), Wrong> {
     Ok(())
 }
 
-/// Asserts that these orders were carried out; behind them an opening may send signals again.
+/// Asserts that these orders were carried out; after them an opening may send signals again.
 fn are_carried_out(done: &[Order], orders: &[Order], is_opening: bool) -> Result<(), Wrong> {
     if !done.starts_with(orders) {
         return Err(found("other orders than those that are due"));
@@ -176,7 +176,7 @@ fn are_carried_out(done: &[Order], orders: &[Order], is_opening: bool) -> Result
     Ok(())
 }
 
-/// The numbers of which nothing is told yet.
+/// The numbers whose fates aren't reported yet.
 fn left_untold(
     alloc: Global,
     calls: &[Call],
@@ -191,13 +191,13 @@ fn left_untold(
     Ok(left)
 }
 
-/// The calls of a manager's children behind so many.
+/// The calls of a manager's children after the first `seen`.
 fn calls_behind(manager: &Running, seen: usize) -> &[Call] {
     manager.children().notes().get(seen..).unwrap_or(&[])
 }
 
 impl Watched {
-    /// Looks at what a turn or an opening did beside what was told and taken, by the orders of the engine alone.
+    /// Compares the calls of a turn or an opening, and the state after it, with the orders and the state of the engine alone.
     fn look(&mut self, alloc: Global, orders: &[Order], is_opening: bool) -> Result<(), Wrong> {
         let calls = calls_behind(self.manager.as_ref(), self.seen);
         let done = ordered(alloc, calls)?;
@@ -215,7 +215,7 @@ impl Watched {
         Ok(())
     }
 
-    /// A number whose start was refused is to be asked with a claim.
+    /// A number whose start was refused must be queried with a claim from now on.
     fn mark(&mut self) -> Result<(), Wrong> {
         if let Some(number) = self.manager.children().refused() {
             if !self.claimed.contains(&number) {
@@ -226,7 +226,7 @@ impl Watched {
         Ok(())
     }
 
-    /// Takes what the opening was told.
+    /// The engine alone takes the boot and the fates that the opening got.
     fn begin(&mut self, alloc: Global) -> Result<(), Wrong> {
         let mut orders = Vec::new(alloc);
         self.alone.take_row((0, Coming::Booted(BOOT)))?;
@@ -239,7 +239,7 @@ impl Watched {
         Ok(())
     }
 
-    /// The reply to a row is that of the engine; tells what it orders.
+    /// Asserts that the reply to a row is that of the engine; returns the orders of the engine.
     fn is_answer(&mut self, alloc: Global, row: Row, bytes: &[u8]) -> Result<Vec<Order>, Wrong> {
         let answer = self.alone.take_row(row)?;
         if bytes != frame(alloc, answer.reply.as_slice())?.as_slice() {
@@ -248,7 +248,7 @@ impl Watched {
         Ok(answer.orders)
     }
 
-    /// What the engine alone orders, where this was told, the time has come, and the row behind it.
+    /// The orders of the engine alone for the fates reported, then a tick, and then the row.
     fn due(&mut self, alloc: Global, row: Option<Row>, bytes: &[u8]) -> Result<Vec<Order>, Wrong> {
         let mut orders = Vec::new(alloc);
         let calls = calls_behind(self.manager.as_ref(), self.seen);
@@ -279,7 +279,7 @@ impl Watched {
     }
 }
 
-/// The numbers that were asked in these calls.
+/// The numbers that were queried in these calls, each with a claim.
 fn asked(alloc: Global, calls: &[Call]) -> Result<Vec<ProcessNumber>, Wrong> {
     let mut numbers = Vec::new(alloc);
     for call in calls {
@@ -293,7 +293,7 @@ fn asked(alloc: Global, calls: &[Call]) -> Result<Vec<ProcessNumber>, Wrong> {
     Ok(numbers)
 }
 
-/// What an opening made of a manager, where the engine alone stood so before.
+/// Watches a manager that was just opened, beside the engine alone as it was before that opening.
 pub fn watch(
     alloc: Global,
     manager: Box<Running>,

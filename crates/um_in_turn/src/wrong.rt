@@ -1,4 +1,4 @@
-//! What a run finds wrong.
+//! The faults that a run finds.
 
 use std::alloc::{AllocError, AllocFailed};
 use thiserror::Error;
@@ -26,7 +26,7 @@ pub enum Wrong {
     },
 }
 
-/// What isn't as it must be.
+/// A fault with this text.
 pub fn found(what: &'static str) -> Wrong {
     Wrong::Found {
         what,

@@ -1,4 +1,4 @@
--- What a failed start takes along is decided, and so one state is left after it.
+-- It is decided which starts a failed start takes along, and so one state is left after it.
 use Rattle.std.proofs.Common.{◌≡◌, ◌∙◌, ℕ, List, [], ◌∷◌, Some, refl, sym, inl, inr}
 use Rattle.std.proofs.lemmas.Option.{none-some}
 use Rattle.std.specs.FinMap as map
@@ -53,7 +53,7 @@ depends_by_all tree kind x y =
     (depends_anyhow tree Everything (These x y) kind x y (first (extra (inl refl))) (first (extra (inr (inl refl)))))
     (depends_or_not tree (These x y) (x ∷ y ∷ []) (these_listed x y) kind x y)
 
--- ---- what a failed start takes along
+-- ---- the starts that a failed start takes along
 
 -- the start of a unit waits for that of another, or not
 pub needs_or_not : (s : State) (other unit : List ℕ) → IsDecided (NeedsStart s other unit)

@@ -30,7 +30,7 @@ along_held s failed unit along =
 
 -- ---- the state without them
 
--- the one value where it holds, the other where it doesn't
+-- the one value if it holds, the other if it doesn't
 abbrev either_value : {P A : Type 0} → IsDecided P → A → A → A
 either_value (inl is) a b = a
 either_value (inr isnt) a b = b
@@ -66,7 +66,7 @@ module _ (s : State) (failed : List ℕ) (decided : (unit : List ℕ) → IsDeci
       value_elsewhere (decided unit) (with_result_dependency (state_of_unit s.units unit)) (state_of_unit s.units unit) (not_along unit none)
       ∙ not_held dead_unit s.units unit (λ key. none (among_right (map.keys s.pending) (map.keys s.units) unit key))
 
-  -- where it is decided which starts are taken along, they can be
+  -- if it is decided which starts are taken along, there is a state without them
   an_along_by : (s' : State) × TakesAlong s failed s'
   an_along_by = by_maps (a_job_map jobs_without concerned jobs_elsewhere) (a_unit_map state_without concerned state_elsewhere)
     where
@@ -85,6 +85,6 @@ module _ (s : State) (failed : List ℕ) (decided : (unit : List ℕ) → IsDeci
         },
       )
 
--- there is a state in which what a failed start takes along is gone
+-- there is a state in which the starts that a failed start takes along are gone
 pub an_along : (s : State) (failed : List ℕ) → (s' : State) × TakesAlong s failed s'
 an_along s failed = an_along_by s failed (taken_along_or_not s failed)

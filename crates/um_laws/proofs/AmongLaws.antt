@@ -1,9 +1,9 @@
--- What is among a list; and whether one of a list has a property is decided where it is decided for each.
+-- Membership in a list; and whether one of a list has a property is decided if it is decided for each.
 use Rattle.std.proofs.Common.{zero, suc, ◌≡◌, ◌⊎◌, Bool, true, false, Decides, true≢false, List, [], ◌∷◌, ◌++◌, map, flat_map, filter_map, Contains, Option, Some, None, refl, sym, ◌∙◌, ap, subst, inl, inr, arith}
 use Rattle.std.specs.List.{cons_option}
 use Rattle.um_model.proofs.LeastLaws.{IsDecided, Among}
 
--- ---- what is decided
+-- ---- decided facts
 
 pub both_decided : {P Q : Type 0} → IsDecided P → IsDecided Q → IsDecided (P × Q)
 both_decided (inl is) (inl too) = inl (is, too)
@@ -30,7 +30,7 @@ passes_or_not true false = inr true≢false
 passes_or_not false true = inr (λ e. true≢false (sym e))
 passes_or_not false false = inl refl
 
--- the same of another fact that holds where this one does, and only there
+-- the same of another fact that holds exactly if this one does
 pub decided_as : {P Q : Type 0} → (P → Q) → (Q → P) → IsDecided P → IsDecided Q
 decided_as there back (inl is) = inl (there is)
 decided_as there back (inr isnt) = inr (λ q. isnt (back q))
@@ -80,12 +80,12 @@ module _ {A : Type 0} where
     | inr late ↦ inr late
   ]
 
-  -- the list has just what has the property
+  -- the list has just the values with the property
   pub record IsListOf (Has : A → Type 0) (xs : List A) : Type 0 where
     pub has : (a : A) → Among xs a → Has a
     pub all : (a : A) → Has a → Among xs a
 
-  -- of those in a list that have it
+  -- a list of those in a list that have it
   those_of : (Has : A → Type 0) → ((a : A) → IsDecided (Has a)) → (xs : List A) → (ys : List A) × IsListOf (λ a. Among xs a × Has a) ys
   those_of Has decided [] = ([], record { has = λ a none. absurd none; all = λ a has. has.0 })
   those_of Has decided (x ∷ xs) = with_first (decided x) (those_of Has decided xs)
@@ -107,7 +107,7 @@ module _ {A : Type 0} where
       with_first (inr isnt) rest =
           (rest.0, record { has = λ a is. (inr (rest.1.has a is).0, (rest.1.has a is).1); all = λ a both. without rest.0 isnt rest.1 a both.0 both.1 })
 
-  -- where a list has all that have the property, one has just those
+  -- if a list has all that have the property, some list has just those
   pub list_of : (Has : A → Type 0) → ((a : A) → IsDecided (Has a)) → (cover : List A) → ((a : A) → Has a → Among cover a) → (xs : List A) × IsListOf Has xs
   list_of Has decided cover covers =
       let those = those_of Has decided cover in

@@ -30,7 +30,7 @@ there_already name first names same sorted = record { has = λ z is. inr is; all
     all z (inl is) = inl (is ∙ same)
     all z (inr later) = later
 
--- the name stands behind the first one
+-- the name stands after the first one
 behind_first : (name first : List ℕ) (names more : List (List ℕ)) → IsNamedBefore first name → AllPairs IsNamedBefore (first ∷ names) → IsWith name names more
     → IsWith name (first ∷ names) (first ∷ more)
 behind_first name first names more less sorted w = record {
@@ -96,7 +96,7 @@ in_order (name ∷ names) = with_first (in_order names)
         by_list : (more : List (List ℕ)) × IsWith name sorted more → (sorted : List (List ℕ)) × IsListOf (Among (name ∷ names)) sorted × AllPairs IsNamedBefore sorted
         by_list (more, w) = (more, record { has = λ z is. there z (w.has z is); all = λ z is. w.all z (back z is) }, w.sorted)
 
--- where a list has all names that have the property, a sorted one has just those
+-- if a list has all names that have the property, some sorted one has just those
 pub list_in_order : (Has : List ℕ → Type 0) → ((name : List ℕ) → IsDecided (Has name)) → (cover : List (List ℕ)) → ((name : List ℕ) → Has name → Among cover name)
     → (names : List (List ℕ)) × IsListOf Has names × AllPairs IsNamedBefore names
 list_in_order Has decided cover covers = by_list (list_of Has decided cover covers)

@@ -12,7 +12,7 @@ use Rattle.um_model.proofs.TimersLaws.{same_name, names_one_way}
 abbrev pub OneOrNone : (Refused → Type 0) → Type 0
 OneOrNone Causes = ((r : Refused) × Causes r) ⊎ ((r : Refused) → ¬ (Causes r))
 
--- the second cause counts only where the first doesn't hold
+-- the second cause counts only if the first doesn't hold
 pub first_or_then : (A B : Refused → Type 0) → OneOrNone A → (((r : Refused) → ¬ (A r)) → OneOrNone B) → OneOrNone (FirstCause A B)
 first_or_then A B (inl found) other = inl (found.0, at_first found.1)
 first_or_then A B (inr none) other = by_other (other none)
@@ -42,13 +42,13 @@ one_first A B one other r q (at_second none h) (at_second neither k) = other r q
 abbrev pub NoneOrLeast : (List ℕ → Type 0) → Type 0
 NoneOrLeast Has = ((name : List ℕ) → ¬ (Has name)) ⊎ ((name : List ℕ) × IsLeast IsNamedBefore Has name)
 
--- the least name that has it is told, or none has it
+-- a refusal names the least name that has it, or none has it
 pub named_or_none : (Has : List ℕ → Type 0) (Tells : List ℕ → Refused → Type 0) → ((name : List ℕ) → Has name → (r : Refused) × Tells name r) → NoneOrLeast Has
     → OneOrNone (NamesLeast Has Tells)
 named_or_none Has Tells tells (inl none) = inr (λ r h. none h.name h.least.has)
 named_or_none Has Tells tells (inr found) = let told = tells found.0 found.1.has in inl (told.0, record { name = found.0; least = found.1; told = told.1 })
 
--- where each name has one refusal, so has the least
+-- if each name has one refusal, so has the least
 pub one_named : (Has : List ℕ → Type 0) (Tells : List ℕ → Refused → Type 0) → ((name : List ℕ) (r q : Refused) → Tells name r → Tells name q → r ≡ q)
     → (r q : Refused) → NamesLeast Has Tells r → NamesLeast Has Tells q → r ≡ q
 one_named Has Tells one r q h k =

@@ -1,4 +1,4 @@
--- Which records count beside a snapshot, by the format: what isn't read doesn't change them, and where no later generation stands there are none.
+-- Which records count beside a snapshot, by the format: unread sectors don't change them, and a generation above all in the log has none.
 use Rattle.std.specs.Prelude.{◌≡◌, ◌⊎◌, ◌+◌, ◌^◌, ◌<◌, ◌≤◌, ℕ, List, [], ◌++◌, length, refl}
 use Rattle.std.proofs.Common.{sym, ◌∙◌, ap, subst, inl, inr, ⊎_elim, arith, append_assoc}
 use Rattle.std.proofs.lemmas.List.{append-nil}
@@ -36,7 +36,7 @@ pub no_records : (format : Format) (layout : Layout) (generation last : ℕ) (im
     → records_of format layout generation image ≡ []
 no_records format layout generation last image above none = only_records format layout generation image [] (none_above format layout generation last image above none)
 
--- and so has one that no sector can tell
+-- and so has one that no sector can hold
 pub never_recorded : (format : Format) (layout : Layout) (generation : ℕ) (image : Image) → 2 ^ 64 ≤ generation → records_of format layout generation image ≡ []
 never_recorded format layout generation image past = only_records format layout generation image [] (stops (λ bytes is. let last = is.last in omega (arith, past, last)))
 
@@ -59,7 +59,7 @@ same_all Two layout newest a b same =
     let behind = same_log Two layout (newest + 1) a b same in
     λ k. here k ++ behind k
 
--- where none of these generations stands in the log, none counts
+-- if none of these generations stands in the log, no record counts
 pub none_counts : (format : Format) (layout : Layout) (newest last : ℕ) (image : Image) → last < newest → IsNoneAbove layout image last
     → all_records format layout newest image ≡ []
 none_counts One layout newest last image above none = no_records One layout newest last image above none
@@ -68,7 +68,7 @@ none_counts Two layout newest last image above none =
     let behind = no_records Two layout (newest + 1) last image (omega (arith, above)) none in
     λ k. here k ++ behind k
 
--- where the next generation doesn't stand there, those of the snapshot's own are all
+-- if the next generation doesn't stand there, those of the snapshot's own are all
 pub own_records : (format : Format) (layout : Layout) (newest : ℕ) (image : Image) → IsNoneAbove layout image newest → all_records format layout newest image ≡ records_of format layout newest image
 own_records One layout newest image none = refl
 own_records Two layout newest image none =
@@ -151,7 +151,7 @@ pub beside : (layout : Layout) (newest j : ℕ) → log_start layout newest ≤ 
 beside layout newest j low high = ⊎_elim {C = (j < log_start layout (newest + 1)) ⊎ (log_end layout (newest + 1) ≤ j)}
     (λ one. inl (omega (arith, one.0, one.1, high))) (λ two. inr (omega (arith, two.0, two.1, low))) (areas layout newest)
 
--- what changes in the log's place alone leaves those before
+-- a change in the log's place alone leaves those before
 pub front_same : (layout : Layout) (newest generation : ℕ) (a b : Image) (counts : Counts current newest generation)
     → ((j : ℕ) → first_log_sector layout ≤ j → (j < log_start layout generation) ⊎ (log_end layout generation ≤ j) → b j ≡ a j)
     → front layout newest generation counts b ≡ front layout newest generation counts a
@@ -161,7 +161,7 @@ front_same layout newest generation a b (inr next) same =
     same_area current layout newest a b (λ j low high. same j (omega (arith, low, within.0))
     (subst (λ (n : ℕ). (j < log_start layout n) ⊎ (log_end layout n ≤ j)) (sym next) (beside layout newest j low high)))
 
--- So where the log's own have more behind them, all that count have.
+-- So if the log's own records have more after them, all that count have.
 pub all_more : (layout : Layout) (newest generation : ℕ) (a b : Image) → Counts current newest generation → IsNoneAbove layout a generation → IsNoneAbove layout b generation
     → ((j : ℕ) → first_log_sector layout ≤ j → (j < log_start layout generation) ⊎ (log_end layout generation ≤ j) → b j ≡ a j) → (x : List (List ℕ))
     → records_of current layout generation b ≡ records_of current layout generation a ++ x → all_records current layout newest b ≡ all_records current layout newest a ++ x

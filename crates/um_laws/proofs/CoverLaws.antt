@@ -44,7 +44,7 @@ among_fronted (x ∷ bytes) texts b text (inl same) is =
 among_fronted (x ∷ bytes) texts b text (inr later) is =
     among_right (map (λ t. x ∷ t) texts) (fronted bytes texts) (b ∷ text) (among_fronted bytes texts b text later is)
 
--- the texts of so many of the bytes at most
+-- the texts of at most this many of the bytes
 texts_of : List ℕ → ℕ → List (List ℕ)
 texts_of bytes zero = [] ∷ []
 texts_of bytes (suc n) = [] ∷ fronted bytes (texts_of bytes n)

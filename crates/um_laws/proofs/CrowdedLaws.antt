@@ -18,7 +18,7 @@ use Rattle.um_laws.proofs.SceneLaws.{held_list, one_count}
 -- ---- the limit of known units
 
 module _ (Extra : List ℕ → Type 0) (extras : List (List ℕ)) (listed : IsListOf Extra extras) where
-  -- where a list has what is named besides the tree, too many units are known or not
+  -- if a list has all names besides the tree's, too many units are known or not
   pub crowded_or_none : (tree : ReadTree) → OneOrNone (IsCrowded tree Extra)
   crowded_or_none tree = by_tests (either_decided (too_many_or_not tree Extra extras listed) (too_many_or_not (lasting_tree tree) Extra extras listed))
     where
@@ -70,7 +70,7 @@ pub one_weight : (s : State) (m n : ℕ) → Weighs s m → Weighs s n → m ≡
 one_weight s m n h k =
     h.is ∙ ap (weight_of s.tree s.loaded.entries) (one_count s.loaded (IsHeld s) h.units k.units h.count k.count) ∙ sym k.is
 
--- by which it is told whether it is too heavy
+-- the weight decides whether it is too heavy
 pub heavy_by_weight : (size : ℕ) (s : State) (weight : ℕ) → Weighs s weight → IsTooHeavy size s ↔ size < weight
 heavy_by_weight size s weight h = (
   λ k. subst (λ n. size < n) (one_weight s (weight_of s.tree s.loaded.entries k.units) weight (record { units = k.units; count = k.count; is = refl }) h) k.heavy,

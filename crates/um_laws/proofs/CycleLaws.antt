@@ -1,4 +1,4 @@
--- The pending jobs have a cycle or none, and none comes by what only takes jobs away; where there is none and a job waits, some pending
+-- The pending jobs have a cycle or none, and removing jobs makes none; if there is none and a job waits, some pending
 -- job has none before it.
 use Rattle.std.proofs.Common.{◌≡◌, ◌⊎◌, ℕ, List, [], ◌∷◌, Option, Some, None, is_some, unwrap_or, true, refl, sym, ◌∙◌, ap, subst, inl, inr}
 use Rattle.std.proofs.lemmas.List.Elements.{All-map}
@@ -25,14 +25,14 @@ comes_earlier : (IsBefore : List ℕ → List ℕ → Type 0) (before later : By
     → ((job : Job) → IsPending later job → IsPending before job) → (job other : Job) → ComesBefore IsBefore later job other → ComesBefore IsBefore before job other
 comes_earlier IsBefore before later waits pends job other c = record { pends = pends job c.pends; waits = waits other c.waits; goes = c.goes }
 
--- no cycle comes by what lets no job wait or be pending that didn't before
+-- no cycle arises if no job waits or is pending that wasn't so before
 pub fewer_free : (IsBefore : List ℕ → List ℕ → Type 0) (before later : ByUnit UnitJobs) → ((job : Job) → state_of_job later job ≡ Some Waiting → (state_of_job before job ≡ Some Waiting))
     → ((job : Job) → IsPending later job → IsPending before job) → ((cycle : List Job) → ¬ (IsCycle (ComesBefore IsBefore before) cycle))
     → (cycle : List Job) → ¬ (IsCycle (ComesBefore IsBefore later) cycle)
 fewer_free IsBefore before later waits pends none cycle c =
     none cycle (cycle_weaker (ComesBefore IsBefore later) (ComesBefore IsBefore before) (comes_earlier IsBefore before later waits pends) cycle c)
 
--- ---- a cycle told from its least unit on
+-- ---- a cycle from its least unit on
 
 abbrev AtMost : Job → Job → Type 0
 AtMost job other = ¬ (IsNamedBefore other.unit job.unit)
@@ -104,7 +104,7 @@ waits_pending pending job waits none = none-some Waiting (sym none ∙ waits)
 -- ---- which job comes before which is decided
 
 module _ (IsBefore : List ℕ → List ℕ → Type 0) where
-  -- what the order of their units says where jobs of these kinds go one before the other
+  -- the order of their units by which jobs of these kinds go one before the other
   abbrev GoesBy : JobKind → JobKind → List ℕ → List ℕ → Type 0
   GoesBy Start Start x y = IsBefore x y
   GoesBy Start Stop x y = ⊥
@@ -156,7 +156,7 @@ module _ (IsBefore : List ℕ → List ℕ → Type 0) where
       pub jobs_cycle_or_none : ((cycle : List Job) × IsCycle (ComesBefore IsBefore pending) cycle) ⊎ ((cycle : List Job) → ¬ (IsCycle (ComesBefore IsBefore pending) cycle))
       jobs_cycle_or_none = cycle_or_none (ComesBefore IsBefore pending) (jobs_of (map.keys pending)) covers comes_or_not
 
-      -- where they have none and a job waits, nothing comes before some pending job, which is that one or leads to it
+      -- if they have none and a job waits, nothing comes before some pending job, which is that one or leads to it
       pub a_first_job : ((cycle : List Job) → ¬ (IsCycle (ComesBefore IsBefore pending) cycle)) → (job : Job) → state_of_job pending job ≡ Some Waiting
           → (found : Job) × IsPending pending found × IsFirstOf (ComesBefore IsBefore pending) job found
       a_first_job none job waits =

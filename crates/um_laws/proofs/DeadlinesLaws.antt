@@ -11,7 +11,7 @@ use Rattle.std.proofs.lemmas.Map.Lookups.{exact_bytes}
 use Rattle.um_model.specs.Timers.{Timers}
 use Rattle.um_model.specs.declared.service.UnitState.{UnitState}
 
--- with a deadline, where there is one
+-- with a deadline, if there is one
 abbrev pub with_deadline : Timers → List ℕ → Option ℕ → Timers
 with_deadline m n None = m
 with_deadline m n (Some d) = map.insert m n d
@@ -42,7 +42,7 @@ get_with m n q None = elim (eq_by_cmp (slice_cmp nat_cmp) q n) as (λ b. map.get
 ]
 get_with m n q (Some d) = map.get-insert nat_list_cmp_total m n d q
 
--- here and in the rest; what is here stands nowhere else
+-- the deadline here or in the rest: a unit that stands here stands nowhere else
 put_first : (b : Bool) (f : Option UnitState) (u : UnitState) (g : Option ℕ) → (b ≡ true → f ≡ None)
     → or_else (deadline_in f) (cond b (or_else u.deadline g) g) ≡ or_else (deadline_in (cond b (Some u) f)) g
 put_first true f u g h = ap (λ o. or_else (deadline_in o) (or_else u.deadline g)) (h refl)

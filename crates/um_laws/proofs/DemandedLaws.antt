@@ -1,5 +1,5 @@
--- Of finitely many units it is decided what a demand requires and demands, and which unit can be started along; a list has just what is
--- demanded.
+-- Of finitely many units it is decided which demands a demand requires and demands, and which unit can be started along; a list has just
+-- the demanded ones.
 use Rattle.std.proofs.Common.{◌≡◌, ◌⊎◌, List, [], ◌∷◌, refl, sym, ap, subst, inl, inr}
 use Rattle.um_model.specs.Reached.{first, next}
 use Rattle.um_model.specs.Demands.{IsStarting, starts, restarts, LeansOn, requires, binds, is_part, Brings, required, bound, conflicting, conflicted, stopped, restarted}
@@ -56,7 +56,7 @@ module _ {U : Type 0} (Depends : DependencyKind → U → U → Type 0) (IsActiv
       by_parts (inr isnt) other = inr (λ e. isnt (ap (λ x. x.0) e))
       by_parts (inl is) (inr isnt) = inr (λ e. isnt (ap (λ x. x.1) e))
 
-  -- ---- what a demand brings
+  -- ---- the demands that a demand brings
 
   leans_or_not : (y x : U) → IsDecided (LeansOn Depends y x)
   leans_or_not y x = decided_as there back (either_decided (depends Requires y x) (either_decided (depends BindsTo y x) (depends PartOf y x)))
@@ -71,7 +71,7 @@ module _ {U : Type 0} (Depends : DependencyKind → U → U → Type 0) (IsActiv
       back (binds d) = inr (inl d)
       back (is_part d) = inr (inr d)
 
-  -- what the second demand asks for where the first brings it
+  -- a start of x brings a start of y
   abbrev BringsStart : U → U → Type 0
   BringsStart x y = Depends Requires x y ⊎ Depends BindsTo x y
 
@@ -166,7 +166,7 @@ module _ {U : Type 0} (Depends : DependencyKind → U → U → Type 0) (IsActiv
       reached_or_not (λ q. q ≡ root) (Brings Depends IsActive) (demands_on (root.1 ∷ units))
       (λ q r. among_demands q.0 (root.1 ∷ units) q.1 (required_within root q r)) (λ q. same_pair q root) brings_or_not p
 
-  -- the unit's start would start one that can't be loaded, or stop what it starts
+  -- the unit's start would start one that can't be loaded, or stop one that it starts
   abbrev Spoils : U → U → Type 0
   Spoils w y = Required (Start, w) (Start, y) × ((¬ (IsLoadable y)) ⊎ Required (Start, w) (Stop, y))
 
@@ -195,7 +195,7 @@ module _ {U : Type 0} (Depends : DependencyKind → U → U → Type 0) (IsActiv
 
   -- ---- the demanded set
 
-  -- what is wanted along is started
+  -- a unit that is wanted along is started
   abbrev WantsBy : Demand → Demand → U → U → Type 0
   WantsBy d Start x w = IsStarting d × (Depends Wants x w × IsStartable Depends IsActive IsLoadable w)
   WantsBy d Stop x w = ⊥
@@ -229,7 +229,7 @@ module _ {U : Type 0} (Depends : DependencyKind → U → U → Type 0) (IsActiv
   along_within p q (needed b) = brought_within p q b
   along_within p q (wanted {x = x} {w = w} s h good) = (within Wants x w h).1
 
-  -- what is demanded is the root or among the units
+  -- each demand that is demanded is on the root's unit or on one of the units
   pub demanded_within : (root p : Demand × U) → IsDemanded Depends IsActive IsLoadable root p → Among (root.1 ∷ units) p.1
   demanded_within root p (first e) = inl (ap (λ x. x.1) e)
   demanded_within root p (next {a = a} r h) = inr (along_within a p h)

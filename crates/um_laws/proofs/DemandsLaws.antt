@@ -1,4 +1,4 @@
--- Demands in two situations that correspond, unit for unit: what is demanded in the one is what is demanded in the other.
+-- Demands in two situations that correspond, unit for unit: the same is demanded in both.
 use Rattle.std.proofs.Common.{◌≡◌, ◌↔◌, refl, sym, ap, subst}
 use Rattle.um_model.specs.Reached.{Reached, first, next}
 use Rattle.um_model.specs.Demands.{LeansOn, requires, binds, is_part, Brings, required, bound, conflicting, conflicted, stopped, restarted}
@@ -40,13 +40,13 @@ module _ {U V : Type 0} (name : U → V) (Inside : U → Type 0) (Depends : Depe
   abbrev named : Demand × U → Demand × V
   named p = (p.0, name p.1)
 
-  -- on what a unit depends
+  -- the units on which a unit depends
   depends_on : (kind : DependencyKind) (i : U) (y : V) → Inside i → Depends' kind (name i) y → (j : U) × (name j ≡ y) × Depends kind i j
   depends_on kind i y h d =
       let b = back kind (name i) y d in
       (b.1, b.3, subst (λ u. Depends kind u b.1) (one b.0 i (within kind b.0 b.1 b.4).0 h b.2) b.4)
 
-  -- what depends on a unit
+  -- the units that depend on a unit
   depend_on : (kind : DependencyKind) (j : U) (x : V) → Inside j → Depends' kind x (name j) → (i : U) × (name i ≡ x) × Depends kind i j
   depend_on kind j x h d =
       let b = back kind x (name j) d in
@@ -92,11 +92,11 @@ module _ {U V : Type 0} (name : U → V) (Inside : U → Type 0) (Depends : Depe
       let j = (leans_forth b.0 i b.2).0 in
       ((Restart, b.0), ap (λ v. (Restart, v)) b.1, restarted b.2 ((active b.0 j).1 (subst IsActive' (sym b.1) a)))
 
-  -- of the demand on this name the demand on its unit
+  -- a demand on this name is one on its unit
   at_name : (T : Demand × U → Type 0) (d : Demand) (y : V) → (q : Demand × U) × (named q ≡ (d, y)) × Inside q.1 × T q → (j : U) × (name j ≡ y) × Inside j × T (d, j)
   at_name T d y b = (b.0.1, ap (λ p. p.1) b.1, b.2, subst (λ e. T (e, b.0.1)) (ap (λ p. p.0) b.1) b.3)
 
-  -- and where the name is a unit's
+  -- and if the name is a unit's
   at_unit : (T : Demand × U → Type 0) (d : Demand) (i : U) → Inside i → (j : U) × (name j ≡ name i) × Inside j × T (d, j) → T (d, i)
   at_unit T d i h b = subst (λ u. T (d, u)) (one b.0 i b.2 h b.1) b.3
 
@@ -116,7 +116,7 @@ module _ {U V : Type 0} (name : U → V) (Inside : U → Type 0) (Depends : Depe
   required_at : (root : Demand × U) → Inside root.1 → (d : Demand) (j : U) → Inside j → IsRequired Depends' IsActive' (named root) (d, name j) → IsRequired Depends IsActive root (d, j)
   required_at root h d j i r = at_unit (IsRequired Depends IsActive root) d j i (required_back root h d (name j) r)
 
-  -- ---- what can be started along
+  -- ---- the units that can be started along
   startable_forth : (w : U) → Inside w → IsStartable Depends IsActive IsLoadable w → IsStartable Depends' IsActive' IsLoadable' (name w)
   startable_forth w h s = record {
     loadable = λ y r. let b = required_back (Start, w) h Start y r in subst IsLoadable' b.1 ((loadable b.0 b.2).0 (s.loadable b.0 b.3));

@@ -1,4 +1,4 @@
--- How runs of disk calls go on: what was shown of each call says what every image during them has.
+-- How runs of disk calls go on: the facts shown of each call give a property of every image during them.
 use Rattle.std.specs.Prelude.{◌≡◌, ◌≢◌, ◌⊎◌, ◌≤◌, ℕ, suc, List, [], ◌∷◌, ◌++◌, length, Result, Ok, Err, refl, OnOk}
 use Rattle.std.specs.List.{Contains}
 use Rattle.std.proofs.Common.{sym, ◌∙◌, ap, subst, inl, inr, ⊎_elim, arith, append_assoc, length-append}
@@ -41,7 +41,7 @@ some_candidate start (wrote j v kept ∷ calls) k = let c = some_candidate start
         (cases_eq k j)
 some_candidate start (synced ∷ calls) k = (seen_after start calls k, Contains-push [] (seen_after start calls k))
 
--- a candidate after a write was one before it, or is what was written
+-- a candidate after a write was one before it, or is the value that was written
 pub candidate_wrote : (start : Image) (calls : List Call) (j k : ℕ) (v kept x : Sector) → Contains (candidates_after start (wrote j v kept ∷ calls) k) x
     → Contains (candidates_after start calls k) x ⊎ ((k ≡ j) × (x ≡ v))
 candidate_wrote start calls j k v kept x has = ⊎_elim
@@ -74,12 +74,12 @@ module _ (past : Past) (k : ℕ) (v kept : Sector) (image : Image) (is : IsImage
   pub written_image : IsImage past image ⊎ ((d : Image) × IsImage past d × (image ≡ with_sector d k v))
   written_image = ⊎_elim (λ old. inl (here old)) (λ new. inr (base, base_is, same_image _ _ (changed new.1))) (candidate_wrote past.start past.calls k k v kept (image k) (is k))
 
--- What was shown of all images before a write, and kept by the write or without it, is so of all images after it.
+-- A property that all images before a write have, and that is kept with and without the written sector, is one of all images after it.
 pub images_wrote : (past : Past) (k : ℕ) (v kept : Sector) (P Q : Image → Type 0) → Images past P → ((d : Image) → P d → Q d) → ((d : Image) → P d → Q (with_sector d k v)) → Images (after (wrote k v kept) past) Q
 images_wrote past k v kept P Q all stay change image is =
     ⊎_elim (λ old. stay image (all image old)) (λ new. subst Q (sym new.2) (change new.0 (all new.0 new.1))) (written_image past k v kept image is)
 
--- a sync leaves what a read gives
+-- a sync leaves the image that reads give
 pub image_synced : (past : Past) (image : Image) → IsImage (after synced past) image → image ≡ seen past
 image_synced past image is = same_image _ _ (λ k. one_only (seen past k) (image k) (is k))
 
@@ -111,7 +111,7 @@ since_parts start (call ∷ more) calls t image (inr earlier) = ⊎_elim (λ lat
 pub started : (past : Past) (P : Image → Type 0) → Images past P → During past past P
 started past P all = record { calls = []; is = refl; each = λ image since. all image (only_now past.start past.calls image since) }
 
--- what was shown of two runs, one behind the other
+-- two runs with a property, one after the other
 pub followed : (old mid new : Past) (P : Image → Type 0) → During old mid P → During mid new P → During old new P
 followed old mid new P first second = record {
   calls = second.calls ++ first.calls;
@@ -125,7 +125,7 @@ followed old mid new P first second = record {
     is_onto : new ≡ onto (second.calls ++ first.calls) old
     is_onto = second.is ∙ ap (onto second.calls) first.is ∙ ap (λ calls. record { start = old.start; calls = calls }) (sym (append_assoc second.calls first.calls old.calls))
 
--- what follows from what was shown
+-- a property that follows from one that was shown
 pub weaker : (old new : Past) (P Q : Image → Type 0) → ((image : Image) → P image → Q image) → During old new P → During old new Q
 weaker old new P Q from run = record { calls = run.calls; is = run.is; each = λ image since. from image (run.each image since) }
 
@@ -137,7 +137,7 @@ at_end old new P run image is = run.each image (counts_now new.start new.calls (
 during_call : (old : Past) (call : Call) (P : Image → Type 0) → Images old P → Images (after call old) P → During old (after call old) P
 during_call old call P before now = record { calls = call ∷ []; is = refl; each = λ image since. ⊎_elim (λ at_now. now image at_now.1) (λ early. before image (only_now old.start old.calls image early)) since }
 
--- A write, whatever it answers: what has P may be seen before it, and then what has P with the sector changed.
+-- A write, whatever it answers: images that have P may be seen before it, and then such images with the sector changed.
 pub during_write : {T E : Type 0} (result : Result T E) (past : Past) (k : ℕ) (v : Sector) (new : Past) (P Q : Image → Type 0) → Wrote result past k v new
     → Images past P → ((d : Image) → P d → Q d) → ((d : Image) → P d → Q (with_sector d k v)) → During past new Q
 during_write (Ok x) past k v new P Q is all stay change =
@@ -146,7 +146,7 @@ during_write (Err e) past k v new P Q (inl same) all stay change = subst (λ n. 
 during_write (Err e) past k v new P Q (inr maybe) all stay change =
     subst (λ n. During past n Q) (sym maybe.is) (during_call past (wrote k v maybe.kept) Q (λ image at_image. stay image (all image at_image)) (images_wrote past k v maybe.kept P Q all stay change))
 
--- A sync, whatever it answers: all is seen before it, and just what a read gives after it.
+-- A sync, whatever it answers: all images may be seen before it, and just the one that reads give after it.
 pub during_sync : {T E : Type 0} (result : Result T E) (past new : Past) (P : Image → Type 0) → Synced result past new → P (seen past) → Images past P → During past new P
 during_sync (Ok x) past new P is here all =
     subst (λ n. During past n P) (sym is) (during_call past synced P all (λ image at_image. subst P (sym (image_synced past image at_image)) here))
@@ -160,7 +160,7 @@ settled_after_sync past image is = image_synced past image is
 pub settled_at_start : (start : Image) → IsSettled (record { start = start; calls = [] })
 settled_at_start start image is = same_image _ _ (λ k. one_only (start k) (image k) (is k))
 
--- so it is where a sync ends a function
+-- and so is the disk after a function that ends with a sync
 pub settled_at_ok : {T E : Type 0} (result : Result T E) (H : Type 0) (past new : Past) → (H → Synced result past new) → OnOk result (H → IsSettled new)
 settled_at_ok (Ok x) H past new is = λ h. subst IsSettled (sym (is h)) (settled_after_sync past)
 settled_at_ok (Err e) H past new is = tt

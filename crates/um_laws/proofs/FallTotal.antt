@@ -1,4 +1,4 @@
--- What falls with a unit is listed, and telling it to stop ends: a unit that was active or activating isn't after it, and no other is changed.
+-- The units that fall with a unit are listed, and their bound stops end: each makes a unit not active or activating, and changes no other.
 use Rattle.std.proofs.Common.{ℕ, zero, suc, ◌+◌, ◌<◌, ◌≤◌, ◌≡◌, ◌≢◌, ◌⊎◌, ◌∙◌, ◌&&◌, not, Bool, true, false, true≢false, cond, List, [], ◌∷◌, ◌++◌, Option, Some, None, is_some, unwrap_or, refl, sym, ap, subst, inl, inr, arith}
 use Rattle.std.specs.FinMap as map
 use Rattle.um_model.specs.Ends.{is_failed, is_restart_wanted}
@@ -35,7 +35,7 @@ use Rattle.um_model.specs.Transitions.{comes_to_rest}
 abbrev pub HasOutcome : (List Action → State → Type 0) → Type 0
 HasOutcome Is = (actions : List Action) × (v : State) × Is actions v
 
--- ---- what happens to a unit by itself
+-- ---- an event of a unit by itself
 
 fails_or_not : (start : StartJob) (job : Option JobState) → IsDecided ((start ≡ Fails) × (job ≡ Some states.Running))
 fails_or_not Fails (Some states.Running) = inl (refl, refl)
@@ -52,7 +52,7 @@ a_becoming s unit c = by_test (fails_or_not c.start (jobs_of_unit s.pending unit
         let taken = an_along (changed s unit c) unit in
         (taken.0, along fails taken.1)
 
--- what happens to a unit is carried out
+-- an event of a unit is carried out
 pub a_carrying : (t : ℕ) (unit : List ℕ) (event : UnitEvent) (s : State) → HasOutcome (Carries t unit event s)
 a_carrying t unit event s =
     let c = change_of t s unit event in
@@ -66,7 +66,7 @@ a_carrying t unit event s =
 abbrev pub goes_at : SubState → Bool
 goes_at sub = is_going (active_state_of sub)
 
--- a unit that was told to stop isn't active or activating
+-- after this change the unit isn't active or activating
 abbrev pub IsDown : Change → Type 0
 IsDown c = goes_at c.unit.sub ≡ false
 
@@ -196,7 +196,7 @@ goes_held units unit goes = among_keys units unit (by_entry (map.get units unit)
 
 -- ---- the units that fall with one
 
--- so it did
+-- a unit that the test finds at rest came to rest
 pub rest_told : (before after : SubState) → comes_to_rest before after ≡ true → ((after ≡ Dead) ⊎ (after ≡ Failed)) × (before ≢ after)
 rest_told before Dead e = (inl refl, λ same. true≢false (sym e ∙ ap (λ x. not (is_dead x)) same))
 rest_told before Failed e = (inr refl, λ same. true≢false (sym e ∙ ap (λ x. not (is_failed x)) same))
@@ -210,7 +210,7 @@ wasnt_failed : (sub : SubState) → sub ≢ Failed → not (is_failed sub) ≡ t
 wasnt_failed Failed isnt = absurd (isnt refl)
 wasnt_failed _ isnt = refl
 
--- and where it did it is told
+-- and the test finds each unit that came to rest
 pub rest_is : (before after : SubState) → (after ≡ Dead) ⊎ (after ≡ Failed) → before ≢ after → comes_to_rest before after ≡ true
 rest_is before after (inl dead) anew = ap (comes_to_rest before) dead ∙ wasnt_dead before (λ same. anew (same ∙ sym dead))
 rest_is before after (inr failed) anew = ap (comes_to_rest before) failed ∙ wasnt_failed before (λ same. anew (same ∙ sym failed))
@@ -233,9 +233,9 @@ a_falling s u unit =
       },
     )
 
--- ---- telling them ends
+-- ---- their bound stops end
 
--- of a unit that didn't come to rest nothing falls with it
+-- with a unit that didn't come to rest none falls
 none_fall : (s u : State) (unit : List ℕ) (names : List (List ℕ)) → AreByName (FallsWith s u unit) names
     → comes_to_rest (state_of_unit s.units unit).sub (state_of_unit u.units unit).sub ≡ false → names ≡ []
 none_fall s u unit [] are stays = refl
@@ -249,7 +249,7 @@ stays_up Dead = refl
 stays_up Failed = refl
 stays_up other = refl
 
--- a unit was told to stop
+-- a unit got a bound stop
 module _ (t : ℕ) (unit : List ℕ) (s : State) (actions : List Action) (u : State) (told : Carries t unit BoundStop s actions u) where
   told_subs : (c : Change) → change_of t s unit BoundStop ≡ c → (state_of_unit u.units unit).sub ≡ c.unit.sub
   told_subs c same = sub_here s unit (change_of t s unit BoundStop) u told.state ∙ ap (λ (x : Change). x.unit.sub) same
@@ -265,7 +265,7 @@ module _ (t : ℕ) (unit : List ℕ) (s : State) (actions : List Action) (u : St
     | inr apart ↦ ap goes_at (sym (sub_apart s unit (change_of t s unit BoundStop) u told.state other apart)) ∙ goes
   ]
 
-  -- where it wasn't active or activating, none falls with it
+  -- if it wasn't active or activating, none falls with it
   told_alone : goes_in s.units unit ≡ false → (names : List (List ℕ)) → AreByName (FallsWith s u unit) names → names ≡ []
   told_alone down names are =
       none_fall s u unit names are
@@ -277,10 +277,10 @@ module _ (t : ℕ) (unit : List ℕ) (s : State) (actions : List Action) (u : St
 abbrev HaveGoing : List (List ℕ) → State → Type 0
 HaveGoing names s = (unit : List ℕ) → goes_in s.units unit ≡ true → Among names unit
 
--- where fewer units are active or activating the telling ends; then it ends for a list of units
+-- if bound stops end while fewer units are active or activating, then they end for a list of units
 module _ (t : ℕ) (names : List (List ℕ)) (bound : ℕ)
     (deeper : (units : List (List ℕ)) (s : State) → HaveGoing names s → going names s.units < bound → HasOutcome (FallDown t units s)) where
-  -- the first of a list is told, where the telling of the others ends
+  -- the first of a list gets its bound stop, if the bound stops of the others end
   module _ (unit : List ℕ) (units : List (List ℕ)) (s : State) (have : HaveGoing names s) (few : going names s.units ≤ bound)
       (others : (u : State) → HaveGoing names u → going names u.units ≤ bound → HasOutcome (FallDown t units u)) where
     module _ (first : List Action) (u : State) (told : Carries t unit BoundStop s first u) where
@@ -314,11 +314,11 @@ told_within zero t names units s have few = told_one_by_one t names zero (λ oth
 told_within (suc n) t names units s have few =
     told_one_by_one t names (suc n) (λ others u has less. told_within n t names others u has (omega arith)) units s have few
 
--- units are told to stop at once, until all are told
+-- units get bound stops until all have one
 pub a_fall : (t : ℕ) (units : List (List ℕ)) (s : State) → HasOutcome (FallDown t units s)
 a_fall t units s = told_within (going (map.keys s.units) s.units) t (map.keys s.units) units s (goes_held s.units) (omega arith)
 
--- what happens to a unit is carried out, with all that fall with it
+-- an event of a unit is carried out, with all units that fall with it
 pub a_happening : (t : ℕ) (unit : List ℕ) (event : UnitEvent) (s : State) → HasOutcome (Happens t unit event s)
 a_happening t unit event s =
     let now = a_carrying t unit event s in

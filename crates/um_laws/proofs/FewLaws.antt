@@ -1,4 +1,4 @@
--- No more units are known than may be: a plan or another tree makes more known, and both are refused where these would be too many.
+-- No more units are known than may be: a plan or another tree makes more known, and both are refused if these would be too many.
 use Rattle.std.proofs.Common.{ℕ, ◌≡◌, ◌≢◌, ◌⊎◌, ◌∙◌, Bool, true, false, true≢false, cond, is_some, List, [], ◌∷◌, ◌++◌, length, Option, Some, None, unwrap_or, refl, sym, ap, subst, inl, inr, arith}
 use Rattle.std.proofs.lemmas.Option.{none-some}
 use Rattle.std.specs.Cmp.Lexicographic.{slice_cmp, nat_list_cmp_total}
@@ -45,7 +45,7 @@ use Rattle.um_model.proofs.UnitLaws.{jobs_here, unlike}
 use Rattle.um_model.proofs.Forms.{with_running}
 use Rattle.um_model.specs.Live.{HoldsNoMore}
 
--- ---- what maps hold of a unit
+-- ---- the values that maps hold of a unit
 
 none_left : {A : Type 0} (b : Bool) (o : Option A) → o ≡ None → cond b None o ≡ None
 none_left true o none = refl
@@ -83,7 +83,7 @@ pub none_there : {A : Type 0} (o : Option A) → ¬ (o ≢ None) → o ≡ None
 none_there None h = refl
 none_there (Some a) h = absurd (h (λ none. none-some a (sym none)))
 
--- a tidy map holds nothing where it tells of nothing
+-- a tidy map holds no entry for a name whose value is the empty one
 none_told : {A : Type 0} (nothing : A) (o : Option A) → o ≢ Some nothing → unwrap_or o nothing ≡ nothing → o ≡ None
 none_told nothing None tidy told = refl
 none_told nothing (Some a) tidy told = absurd (tidy (ap Some told))
@@ -101,7 +101,7 @@ waiting_held s j waits = inr (there (map.get s.pending j.unit) (held s.pending j
 deadline_held : (s : State) (unit : List ℕ) (deadline : ℕ) → (state_of_unit s.units unit).deadline ≡ Some deadline → IsHeld s unit
 deadline_held s unit deadline is = inl (λ none. none-some deadline (sym (ap (λ o. (unwrap_or o dead_unit).deadline) none) ∙ is))
 
--- ---- what happens to units makes the state hold nothing new
+-- ---- events of units make the state hold nothing new
 
 pub same_no_more : (s : State) → HoldsNoMore s s
 same_no_more s = record { loaded = refl; held = λ unit is. is }
@@ -129,7 +129,7 @@ stays_dead settings c (ControlEnds e) isnt = refl
 stays_dead settings c DeadlinePasses isnt = refl
 stays_dead settings c Reset isnt = refl
 
--- what follows for a unit that is held
+-- the changes of a unit that is held
 changed_no_more : (s : State) (unit : List ℕ) (c : Change) → IsHeld s unit → HoldsNoMore s (changed s unit c)
 changed_no_more s unit c is = record { loaded = refl; held = by_unit }
   where
@@ -143,7 +143,7 @@ changed_no_more s unit c is = record { loaded = refl; held = by_unit }
       | inr apart ↦ of_other x apart h
     ]
 
--- or that stays dead
+-- or of one that stays dead
 changed_dead : (s : State) (unit : List ℕ) (c : Change) → map.get s.pending unit ≡ None → c.unit ≡ dead_unit → HoldsNoMore s (changed s unit c)
 changed_dead s unit c no_job dead = record { loaded = refl; held = by_unit }
   where
@@ -211,7 +211,7 @@ becomes_no_more : (s : State) (unit : List ℕ) (c : Change) (v : State) → Hol
 becomes_no_more s unit c v less (Becomes.alone isnt) = less
 becomes_no_more s unit c v less (Becomes.along fails a) = no_more_trans s (changed s unit c) v less (along_no_more (changed s unit c) unit v a)
 
--- what happens to a unit that is held, or is anything but that its start begins
+-- the unit is held, or the event isn't the beginning of its start
 abbrev MayHappen : State → List ℕ → UnitEvent → Type 0
 MayHappen s unit event = IsHeld s unit ⊎ (event ≢ StartBegins)
 
@@ -257,7 +257,7 @@ settles_no_more t s actions v (Settles.begins_next {u = u} {first = x} {more = y
     (no_more_trans s (begun s j) u (begun_no_more s j (waiting_held s j n.has.waits)) (happens_no_more t j.unit (begins j.kind) (begun s j) x u (inl (begun_held s j)) h))
     (settles_no_more t u y v k)
 
--- what happens to a unit, and the jobs that begin by that
+-- an event of a unit, and the jobs that begin by it
 pub happened_no_more : (t : ℕ) (unit : List ℕ) (event : UnitEvent) (s : State) (early late : List Action) (u v : State) → MayHappen s unit event
     → Happens t unit event s early u → Settles t u late v → HoldsNoMore s v
 happened_no_more t unit event s early late u v may h k = no_more_trans s u v (happens_no_more t unit event s early u may h) (settles_no_more t u late v k)
@@ -306,7 +306,7 @@ cancel_no_more s unit = record { loaded = refl; held = still }
 
 -- ---- no more units are known than may be
 
--- where no more is held, no more is known
+-- if no more is held, no more is known
 pub no_more_few : (s u : State) → HoldsNoMore s u → IsFew s → IsFew u
 no_more_few s u less few r crowded = few r (fewer (subst (λ tree. IsCrowded tree (IsHeld u) r) less.loaded crowded))
   where
@@ -341,7 +341,7 @@ pub booted_none : (boot : List ℕ) (s : State) (x : List ℕ) → ¬ IsHeld (bo
 booted_none boot s x (inl h) = h (map.get-empty (slice_cmp nat_cmp) x)
 booted_none boot s x (inr h) = h (map.get-empty (slice_cmp nat_cmp) x)
 
--- and no more is known by what stands not under `run/`
+-- and no more is known by the entries that aren't under `run/`
 pub booted_few : (boot : List ℕ) (s : State) → IsFew s → IsFew (booted boot s)
 booted_few boot s few r crowded = few r (record { many = inr (by_tree crowded.many); refusal = crowded.refusal })
   where
@@ -353,7 +353,7 @@ booted_few boot s few r crowded = few r (record { many = inr (by_tree crowded.ma
     by_tree (inl k) = fewer (lasting_tree s.loaded) k
     by_tree (inr k) = fewer (lasting_tree s.loaded) (subst (λ entries. KnowsTooMany (read_by s.loaded.profile entries) (IsHeld (booted boot s))) (without_run_twice s.loaded.entries) k)
 
--- what happens makes the state hold nothing new, or it is a boot
+-- a happening makes the state hold nothing new, or it is a boot
 pub follows_no_more : (t : ℕ) (s : State) (happening : Happening) (actions : List Action) (v : State) → Follows t s happening actions v
     → HoldsNoMore s v ⊎ ((boot : List ℕ) × (v ≡ booted boot s))
 follows_no_more t s happening actions v (Follows.ends {number = number} {end = end} {first = x} {more = y} {u = u} unit is h k) =
@@ -387,7 +387,7 @@ run_few size s t (i ∷ inputs) (Run.goes {t = v} reply actions step run) few = 
 
 -- ---- a state in which nothing is held
 
--- in an empty tree nothing is known where nothing is held
+-- in an empty tree nothing is known if nothing is held
 module _ (tree : ReadTree) (empty : tree.entries ≡ map.empty) (Extra : List ℕ → Type 0) (none : (x : List ℕ) → ¬ Extra x) where
   nothing_at : (path : List ℕ) → map.get tree.entries path ≡ None
   nothing_at path = ap (λ entries. map.get entries path) empty ∙ map.get-empty (slice_cmp nat_cmp) path

@@ -65,7 +65,7 @@ noted_rests : (w : UnitState) (e : End) (clean : Bool) → Rests w → Rests (no
 noted_rests w e true h = h
 noted_rests w e false h = h
 
--- what follows for a unit that is told to stop leaves it down or told to stop
+-- a change of a unit whose stop was requested leaves it down, done, or with that request
 module _ (s : ServiceSettings) (c : Around) where
   abbrev Leaves : Change → Type 0
   Leaves v = Rests v.unit
@@ -157,7 +157,7 @@ module _ (x : List ℕ) where
   abbrev AtRest : State → Type 0
   AtRest s = IsAtRest s x
 
-  -- what happens to the unit isn't that its start begins
+  -- the event isn't the beginning of the unit's start
   abbrev IsOther : List ℕ → UnitEvent → Type 0
   IsOther unit event = x ≡ unit → event ≢ StartBegins
 
@@ -232,7 +232,7 @@ module _ (x : List ℕ) where
   settles_rest t s actions v (Settles.begins_next {u = u} {first = first} {more = more} j n h k) rest =
       settles_rest t u more v k (next_rests t s j first u n h rest)
 
-  -- ---- what comes of deadlines
+  -- ---- deadlines that are due
 
   waits_apart : (sub : SubState) (asked : Bool) → sub ≡ AutoRestart → is_down_or_done sub asked ≡ true → ⊥
   waits_apart sub asked waits h = true≢false (sym h ∙ ap (λ x. is_down_or_done x asked) waits)
@@ -260,7 +260,7 @@ module _ (x : List ℕ) where
       fires_rest t (map.remove timers n) p more v l (settles_rest t u next p k (due_rest t s n first u h rest))
   fires_rest t timers s actions v (Fires.fires_next {more = more} d n least due (FiresOne.is_gone isnt) l) rest = fires_rest t (map.remove timers n) s more v l rest
 
-  -- ---- what follows from what happens
+  -- ---- the effect of a happening
 
   end_apart : (b : Bool) (e : End) → cond b (MainEnds e) (ControlEnds e) ≢ StartBegins
   end_apart true e = λ is. cc

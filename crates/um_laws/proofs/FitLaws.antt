@@ -23,11 +23,11 @@ use Rattle.um_model.specs.declared.transition.UnitEvent.TheVariants.{StartBegins
 use Rattle.um_model.specs.declared.transition.UnitKind.{UnitKind}
 use Rattle.um_model.specs.declared.transition.UnitKind.TheVariants.{Simple, Exec, Oneshot, Target}
 
--- where the start job goes on the unit is in start-pre or start
+-- if the start job goes on, the unit is in start-pre or start
 abbrev pub StartFits : Change → Type 0
 StartFits v = v.start ≡ Stays → is_starting v.unit.sub ≡ true
 
--- where the stop job goes on the unit is in a stop state
+-- if the stop job goes on, the unit is in a stop state
 abbrev pub StopFits : Change → Type 0
 StopFits v = v.stop_ends ≡ false → is_stopping v.unit.sub ≡ true
 

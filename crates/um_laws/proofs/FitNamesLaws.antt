@@ -50,7 +50,7 @@ module _ (tree : ReadTree) (Extra : List ℕ → Type 0) (extra_names : (x : Lis
       by (inl own) = subst IsName (sym own) (named_by_name tree.entries a is)
       by (inr named) = named
 
-  -- where what is named besides the tree are unit names, so is all that is known
+  -- if the names besides the tree's are unit names, so are all known names
   pub known_name : (x : List ℕ) → IsKnown tree Extra x → IsName x
   known_name = reached_in IsName named_name mentioned_name
 
@@ -107,7 +107,7 @@ follows_names t s happening actions v h names = by (follows_no_more t s happenin
     by (inl less) = no_more_names s v less names
     by (inr (boot, is)) = subst HoldsNames (sym is) (λ x held. absurd (booted_none boot s x held))
 
--- what an input has for its effect keeps this
+-- the effect of an input keeps this
 pub takes_names : {profile : Profile} (t : ℕ) (s : State) (event : Event) (actions : List Action) (v : State) → FitEvent event → TakesEffect profile t s event actions v → HoldsNames s → HoldsNames v
 takes_names t s event actions v fit (obeys {command = command} {first = x} {more = y} {u = u} none does h) names =
     no_more_names u v (settles_no_more t u y v h) (does_names t s command x u fit does names)

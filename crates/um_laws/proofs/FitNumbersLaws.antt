@@ -183,13 +183,13 @@ none_good t s none some low = record {
     no_number : (x : List ℕ) (n : ℕ) → ¬ HasNumber (state_of_unit s.units x) n
     no_number x n has = dead_none n (subst (λ u. HasNumber u n) (nothing_held x) (subst (λ us. HasNumber (state_of_unit us x) n) none has))
 
--- what an input has for its effect keeps them
+-- the effect of an input keeps them
 pub takes_good : {profile : Profile} (t : ℕ) → t ≤ moment_limit → (s : State) (event : Event) (actions : List Action) (v : State) → FitEvent event → TakesEffect profile t s event actions v → HasGoodUnits t s → HasGoodUnits t v
 takes_good t early =
     kept_taking t (HasGoodUnits t) (carried_good t early) (λ s j h. same_good t s (begun s j) refl refl h) (λ s unit h. same_good t s (with_start_alone s unit) refl refl h) (λ profile s command u h. changes_good t s command u h)
     (λ s boot h. none_good t (booted boot s) refl h.next_some h.next_low)
 
--- later they are good too
+-- a window that is good at a moment is good at a later one too
 later_window : (t r : ℕ) (o : Option Counted) → t ≤ r → IfSome o (λ w. (w.began ≤ t) × (w.count < 2 ^ 32)) → IfSome o (λ w. (w.began ≤ r) × (w.count < 2 ^ 32))
 later_window t r None less fits = tt
 later_window t r (Some w) less fits = (omega (arith, fits.0, less), fits.1)

@@ -145,7 +145,7 @@ module _ (s : State) (h : HasGoodUnits s.clock s) where
     others = λ k l u v n is too has also. h.apart k l n (number_held k u n is has) (number_held l v n too also);
   })
 
-  -- where each unit may be in its sub state by the loaded profile
+  -- the state passes the test, if each unit may be in its sub state by the loaded profile
   pub sound : ((unit : List ℕ) → is_sub_state_in s.loaded.profile (state_of_unit s.units unit).sub ≡ true) → is_sound s ≡ true
   sound may = both_true _ _ (both_true _ _ (both_true _ _ subs windows_begun) numbers_low) numbers_apart
     where

@@ -1,4 +1,4 @@
--- Each state of a run from the empty one has bytes, of at most its weight, where each input has some.
+-- Each state of a run from the empty one has bytes, of at most its weight, if each input has some.
 use Rattle.std.proofs.Common.{ℕ, ◌≡◌, ◌≢◌, inl, inr, ◌∙◌, ◌<◌, ◌≤◌, ◌^◌, true, List, [], ◌∷◌, ◌++◌, length, get_or, flat_map, AllPairs, Option, Some, None, unwrap_or, refl, sym, ap, subst, append_assoc, arith}
 use Rattle.std.specs.Prelude.{IfSome}
 use Rattle.std.specs.List.{AllByRecursion}
@@ -105,7 +105,7 @@ told_all (e ∷ es) fit =
     subst (AllByRecursion FitJob) (sym (append_assoc (job_shown e.0 Stop e.1.stop) (job_shown e.0 Start e.1.start) later))
     (told_jobs e.0 Stop e.1.stop (job_shown e.0 Start e.1.start ++ later) fit.0 (told_jobs e.0 Start e.1.start later fit.0 (told_all es fit.1)))
 
--- ---- what a run keeps
+-- ---- the properties that a run keeps
 
 pub record IsWhole (s : State) : Type 0 where
   pub texts : AreOfTexts s

@@ -1,4 +1,4 @@
--- The trees of a state that comes of inputs that have bytes have bytes: each path is served and what stands at it is a text.
+-- The trees of a state that inputs with bytes lead to have bytes: each path is served, and the entry at it is a text.
 use Rattle.std.proofs.Common.{ℕ, zero, suc, ◌≡◌, ◌≢◌, ◌⊎◌, ◌∙◌, ◌<◌, ◌≤◌, ◌^◌, Bool, true, false, not, cond, List, [], ◌∷◌, ◌++◌, length, map as each, Option, Some, None, option_and_then, is_some, Ok, codes, refl, sym, ap, subst, inl, inr, arith, T, is_eq}
 use Rattle.std.specs.Prelude.{option_map}
 use Rattle.std.specs.Option.{option_or, option_map_or}
@@ -45,7 +45,7 @@ use Rattle.um_model.proofs.TimersLaws.{among_keys}
 use Rattle.um_model.proofs.TreeLaws.{put_keeps, link_keeps, remove_keeps, without_run_keeps, empty_is}
 use Rattle.um_model.proofs.WeightLaws.{entry_light}
 
--- ---- what holds of each entry
+-- ---- properties of each entry
 
 module _ {X : Type 0} (P : List ℕ × X → Type 0) where
   each_found : (es : List (List ℕ × X)) → T (map.is_sorted (slice_cmp nat_cmp) es) → ((k : List ℕ) (v : X) → find (slice_cmp nat_cmp) k es ≡ Some v → P (k, v)) → AllByRecursion P es
@@ -60,13 +60,13 @@ module _ {X : Type 0} (P : List ℕ × X → Type 0) where
           absurd (none-some v (sym (below_none e.0 es (left_holds _ _ sorted)) ∙ (ap (λ (l : List ℕ). find (slice_cmp nat_cmp) l es) (sym (tells_apart exact_bytes k e.0 t)) ∙ is)))
       apart k v is false t = t
 
-  -- where it holds of what stands at each text, it holds of each entry
+  -- if it holds of the value at each text, it holds of each entry
   pub each_entry : (m : ByText X) → ((k : List ℕ) (v : X) → map.get m k ≡ Some v → P (k, v)) → AllByRecursion P (map.entries m)
   each_entry m holds = each_found (map.entries m) (map.entries_sorted m) (λ k v is. holds k v (map.get-entries m k ∙ is))
 
 -- ---- a tree of texts
 
--- what stands there is a text
+-- the entry there is a text
 abbrev pub IsTextAt : Option Entry → Type 0
 IsTextAt None = Unit {0}
 IsTextAt (Some entry) = is_utf8 (text_of_entry entry) ≡ true
@@ -105,7 +105,7 @@ fit_of_texts tree h = record { texts = ((omega (arith, h.is.few, map.len-entries
         let light = entry_light path entry (sym (ap (is_fit_at path) at) ∙ h.is.fit path) in
         ((omega (arith, light), path_utf8 tree h.is path entry at), fit_entry entry (omega (arith, light)) (subst IsTextAt at (h.texts path)))
 
--- ---- what a command puts and removes
+-- ---- puts and removals by a command
 
 put_text : (b : Bool) (o : Option Entry) (entry : Entry) → is_utf8 (text_of_entry entry) ≡ true → IsTextAt o → IsTextAt (cond b (Some entry) o)
 put_text true o entry utf8 text = utf8
@@ -127,7 +127,7 @@ removed tree path h = record {
   texts = λ q. subst IsTextAt (sym (map.get-remove nat_list_cmp_total tree path q)) (out_text (eq_by_cmp (slice_cmp nat_cmp) q path) (map.get tree q) (h.texts q));
 }
 
--- what isn't refused is the value
+-- if there is no refusal, the result is the value
 value_of : (o : Option Refused) (a b : Tree) → unless_refused o a ≡ Ok b → (o ≡ None) × (a ≡ b)
 value_of None a b e = (refl, cc)
 value_of (Some r) a b e = cc

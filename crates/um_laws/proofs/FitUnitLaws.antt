@@ -1,4 +1,4 @@
--- What follows for a unit leaves it with bytes: row by row of the table.
+-- Each change of a unit leaves it with bytes: row by row of the table.
 use Rattle.std.proofs.Common.{ℕ, ◌≡◌, inl, inr, ◌+◌, ◌<◌, ◌≤◌, ◌^◌, ◌&&◌, nat_lt, Bool, true, false, not, cond, List, [], ◌∷◌, Option, Some, None, filter_map, length, refl, sym, ap, ◌∙◌, arith}
 use Rattle.std.specs.Prelude.{IfSome, codes}
 use Rattle.std.proofs.lemmas.Bool.{and_parts, ltb-true}
@@ -67,7 +67,7 @@ module _ {A : Type 0} (P : A → Type 0) where
   last_holds default [] first others = first
   last_holds default (x ∷ xs) first others = last_holds x xs (others x (inl refl)) (λ y later. others y (inr later))
 
-  -- what is read last, where it holds of the default and of all that can be read
+  -- a property of the default and of all values that can be read is one of the last that is read
   read_holds : (read : List ℕ → Option A) (default : A) (values : List (List ℕ)) → P default → ((value : List ℕ) (a : A) → read value ≡ Some a → P a)
       → P (last_or default (flat_map (λ value. filter_map result_ok (ok_or (read value) UnreadableValue ∷ [])) values))
   read_holds read default values first each = last_holds default _ first one
@@ -160,7 +160,7 @@ settings_low tree unit = loadable_low (load tree unit) (loads_low tree unit)
 
 -- ---- one unit
 
--- what stands in the fields of a unit fits at the moment t; its processes have two numbers
+-- the fields of a unit fit at the moment t; its processes have two different numbers
 pub record AreGood (t index : ℕ) (deadline : Option ℕ) (window : Option Counted) (last : Option End) (main control : Option ℕ) : Type 0 where
   pub index_low : index < 2 ^ 32
   pub deadline_low : IfSome deadline (λ d. d ≤ deadline_limit)
@@ -418,7 +418,7 @@ module _ (s : ServiceSettings) (c : Around) (low : AreLow s) (early : c.moment �
   row_good StopSigkill DeadlinePasses u fit g below = rests_for_good_good (timed_out u) g
   row_good sub event u fit g below = g
 
-  -- what follows for a unit leaves it good
+  -- each change of a unit leaves it good
   pub transition_fits : (u : UnitState) (e : UnitEvent) → FitUnitEvent e → IsGood c.moment u → ((n : ℕ) → HasNumber u n → n < c.next) → IsGood c.moment (transition s c u e).unit
   transition_fits u BoundStop fit g below = by_cond Leaves (is_going (active_state_of u.sub)) (fails_start u.sub (row s c u (active_state_of u.sub) u.sub StopBegins)) (just u)
       (λ e. row_good u.sub StopBegins u tt g below) (λ e. g)

@@ -1,4 +1,4 @@
--- A stream has one reading as frames, and what is written for it, frame by frame, is one but for the cycles that refusals name.
+-- A stream has one reading as frames, and one list of bytes is written for it, frame by frame, but for the cycles that refusals name.
 use Rattle.std.proofs.Common.{◌≡◌, ℕ, zero, suc, ◌+◌, ◌-◌, ◌<◌, ◌≤◌, ◌⊎◌, inl, inr, List, ◌∷◌, ◌++◌, [], length, take, drop, Result, Ok, Err, refl, sym, ap, ◌∙◌, subst, arith, length-append, take-append-drop}
 use Rattle.std.proofs.Math.Seq.{take-append_seam, drop-append_seam}
 use Rattle.std.proofs.lemmas.List.{length-take-le, length-drop}
@@ -31,7 +31,7 @@ one_frame stream b c r q x y =
     let head = same_parts x.header y.header (b ++ r) (c ++ q) (x.four ∙ sym y.four) (sym x.whole ∙ y.whole) in
     same_parts b c r q (sym x.length_is ∙ ap (big_number 4) head.0 ∙ y.length_is) head.1
 
--- so many bytes and more aren't none, nor fewer
+-- a stream with a header has four bytes or more
 four_bytes : (stream header rest : List ℕ) → length header ≡ 4 → stream ≡ header ++ rest → 4 ≤ length stream
 four_bytes stream header rest four whole =
     let size : length stream ≡ length header + length rest = ap length whole ∙ length-append header rest in
@@ -56,7 +56,7 @@ not_too_long stream b r x y =
     let short = x.short in
     omega arith
 
--- where a frame comes the stream doesn't end
+-- a stream that begins with a frame doesn't end there
 not_over : (stream b r : List ℕ) (ending : Ending) → BeginsWith stream b r → ¬ EndsSo stream ending
 not_over stream b r Between x over =
     let many = four_bytes stream x.header (b ++ r) x.four x.whole in
@@ -116,7 +116,7 @@ one_stream stream f g d e (frame {rest = r} {bytes = x} {frames = fs} b h) (fram
 abbrev StreamRead : List ℕ → Type 0
 StreamRead stream = (frames : List (List ℕ)) × (ending : Ending) × IsStream stream frames ending
 
--- behind a length that is within the limit
+-- after a length within the limit
 body_read : (stream header rest : List ℕ) (size : ℕ) → length header ≡ 4 → big_number 4 header ≡ size → size ≤ frame_limit → stream ≡ header ++ rest
     → ((more : List ℕ) → length more ≤ length rest → StreamRead more) → (length rest < size) ⊎ (size ≤ length rest) → StreamRead stream
 body_read stream header rest size four is low whole read (inl few) =
@@ -141,7 +141,7 @@ behind_length stream header rest size four is whole read (inl long) =
     ([], TooLong, ends (record { header = header; rest = rest; four = four; long = subst (λ n. frame_limit < n) (sym is) long; whole = whole }))
 behind_length stream header rest size four is whole read (inr low) = body_read stream header rest size four is low whole read (cases_lt (length rest) size)
 
--- at least a length and what stands behind it
+-- a stream with at least one byte: part of a length, or a length and the bytes after it
 past_header : (n : ℕ) (stream : List ℕ) → length stream ≤ suc n → ((more : List ℕ) → length more ≤ n → StreamRead more)
     → 0 < length stream → (length stream < 4) ⊎ (4 ≤ length stream) → StreamRead stream
 past_header n stream h read some (inl few) = ([], Inside, ends (in_header some few))
@@ -160,7 +160,7 @@ read_within (suc n) (b ∷ bs) h = past_header n (b ∷ bs) h (read_within n) (o
 pub each_stream : (stream : List ℕ) → (frames : List (List ℕ)) × (ending : Ending) × IsStream stream frames ending
 each_stream stream = read_within (length stream) stream (omega arith)
 
--- ---- what is written
+-- ---- the bytes that are written
 
 -- two answers are one, but for the cycle that a refusal names
 pub record IsSameAnswer (r q : Reply) (s t : State) (a b : List Action) : Type 0 where
@@ -178,7 +178,7 @@ same_refusal r x y e f = cc
 not_both : (r : Result Request Refused) (x : Request) (y : Refused) → r ≡ Ok x → ¬ (r ≡ Err y)
 not_both r x y e f = cc
 
--- and ask for one thing
+-- and have one subject
 same_asked : (r : Result Request Refused) (x y : Request) → r ≡ Ok x → r ≡ Ok y → x.asked ≡ y.asked
 same_asked r x y e f = ap (λ (z : Request). z.asked) (same_request r x y e f)
 
@@ -217,7 +217,7 @@ one_answer size s kept bytes r q t u left other (stepped at event told_by action
     let one = one_outcome size s (input_of s at' event') told_by told_by' actions actions' v v' moved step' in
     record { reply = one.reply; state = one.state; kept = ap (λ l. kept ++ l) one.actions }
 
--- what is written for the frames is one, but for the cycles that refusals name
+-- one list of bytes is written for the frames, but for the cycles that refusals name
 pub one_list_of_replies : (size : ℕ) (ending : Ending) (s : State) (kept : List Action) (frames : List (List ℕ)) (out other : List ℕ)
     → AreReplies size ending s kept frames out → AreReplies size ending s kept frames other → AreAlikeBut ending out other
 one_list_of_replies size ending s kept [] out other last last = at_last
@@ -228,7 +228,7 @@ one_list_of_replies size ending s kept (bytes ∷ frames) out other
     (one_list_of_replies size ending t left frames more more' h
     (subst (λ x. AreReplies size ending t x frames more') (sym same.kept) (subst (λ x. AreReplies size ending x left' frames more') (sym same.state) k)))
 
--- what is served for a stream is one, but for the cycles that refusals name
+-- one list of bytes is written for a stream, but for the cycles that refusals name
 pub one_serving : (size : ℕ) (s : State) (kept : List Action) (stream out other : List ℕ) (d e : Ending)
     → Serves size s kept stream out d → Serves size s kept stream other e → AreAlikeBut d out other × (d ≡ e)
 one_serving size s kept stream out other d e h k =
@@ -238,7 +238,7 @@ one_serving size s kept stream out other d e h k =
       same.1,
     )
 
--- what is written for a stream begins with the reply to its first frame
+-- the bytes written for a stream begin with the reply to its first frame
 pub serves_frame : (size : ℕ) (s t : State) (kept left : List Action) (bytes stream rest out : List ℕ) (r : Reply) (ending : Ending)
     → BeginsWith stream bytes rest → Answers size s kept bytes r t left → Serves size t left rest out ending
     → Serves size s kept stream (frame_of (reply_text r) ++ out) ending

@@ -41,7 +41,7 @@ use Rattle.um_model.proofs.Forms.{with_running}
 
 -- ---- fewer jobs of a unit
 
--- a job that waits waited, and none comes anew
+-- a job that waits waited before, and no new job is added
 pub record ComesOf (o p : Option JobState) : Type 0 where
   pub waits : p ≡ Some Waiting → o ≡ Some Waiting
   pub none : o ≡ None → p ≡ None
@@ -114,7 +114,7 @@ less_trans s u v f g = record {
   fewer = λ unit kind. comes_further (job_of kind (jobs_of_unit s.pending unit)) (job_of kind (jobs_of_unit u.pending unit)) (job_of kind (jobs_of_unit v.pending unit)) (f.fewer unit kind) (g.fewer unit kind);
 }
 
--- no cycle comes by what leaves fewer jobs
+-- no cycle arises from fewer jobs
 less_free : (s u : State) → HasLess s u → IsFree s → IsFree u
 less_free s u less free =
     subst (λ tree. (cycle : List Job) → ¬ IsCycle (ComesBefore (IsBefore tree) u.pending) cycle) (sym less.loaded)
@@ -165,13 +165,13 @@ settles_less t s actions v (Settles.begins_next {u = u} {first = x} {more = y} j
     less_trans s (begun s j) v (begun_less s j n.has.waits)
     (less_trans (begun s j) u v (happens_less t j.unit (begins j.kind) (begun s j) x u h) (settles_less t u y v k))
 
--- what happens to a unit, and the jobs that begin by that
+-- an event of a unit, and the jobs that begin by it
 happened_less : (t : ℕ) (unit : List ℕ) (event : UnitEvent) (s : State) (early late : List Action) (u v : State) → Happens t unit event s early u → Settles t u late v → HasLess s v
 happened_less t unit event s early late u v h k = less_trans s u v (happens_less t unit event s early u h) (settles_less t u late v k)
 
--- ---- what comes of deadlines
+-- ---- deadlines that are due
 
--- an automatic restart puts a start only where no cycle comes by it
+-- an automatic restart puts a start only if no cycle arises from it
 restarts_free : (s : State) (unit : List ℕ) (v : State) → Restarts s unit v → IsFree s → IsFree v
 restarts_free s unit v (Restarts.puts none stays_free) free = stays_free
 restarts_free s unit v (isnt_put why) free = free
@@ -243,7 +243,7 @@ module _ (s : State) (named : List ℕ) where
 
 -- ---- a command
 
--- where no cycle is named, the pending jobs have none
+-- if no cycle is named, the pending jobs have none
 no_circle : (Before : List ℕ → List ℕ → Type 0) (pending : ByUnit UnitJobs) → ((r : Refused) → ¬ NamesCycle Before pending r) → AreFree Before pending
 no_circle Before pending none cycle c =
     let turned = least_unit_first (ComesBefore Before pending) cycle c in
@@ -291,7 +291,7 @@ none_waits job.Start e = none-some Waiting e
 none_comes : (Before : List ℕ → List ℕ → Type 0) (j k : Job) → ¬ ComesBefore Before map.empty j k
 none_comes Before j k c = none_waits k.kind (sym (ap (λ o. job_of k.kind (unwrap_or o no_jobs)) (map.get-empty _ k.unit)) ∙ c.waits)
 
--- where no job is pending there is no cycle, whatever the order
+-- if no job is pending there is no cycle, whatever the order
 pub none_free : (Before : List ℕ → List ℕ → Type 0) → AreFree Before map.empty
 none_free Before [] c = c
 none_free Before (j ∷ []) c = none_comes Before j j c

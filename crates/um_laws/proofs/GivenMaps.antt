@@ -1,4 +1,4 @@
--- Tidy maps of given values: of any jobs of units, and of any states, where all but those of a list are empty.
+-- Tidy maps of given values: of any jobs of units, and of any states, if all but those of a list are empty.
 use Rattle.std.proofs.Common.{ℕ, ◌≡◌, ◌≢◌, ◌∙◌, List, [], ◌∷◌, Option, Some, None, is_some, unwrap_or, refl, sym, ap, inl, inr}
 use Rattle.std.specs.FinMap as map
 use Rattle.std.specs.Cmp.Lexicographic.{slice_cmp}
@@ -11,7 +11,7 @@ use Rattle.um_model.proofs.LeastLaws.{Among}
 use Rattle.um_model.proofs.TimersLaws.{among_keys, same_name}
 use Rattle.um_model.proofs.UnitLaws.{IsTidy, jobs_apart, jobs_here, state_apart, state_here, tidy_empty, tidy_jobs, tidy_units}
 
--- what a map holds of a name, where it holds the empty value of those that it hasn't
+-- the value of a name in a map, or the empty value if the map has none
 abbrev pub held_of : {A : Type 0} → A → ByUnit A → List ℕ → A
 held_of nothing m unit = unwrap_or (map.get m unit) nothing
 
@@ -39,17 +39,17 @@ module _ {A : Type 0} (nothing : A) (put : ByUnit A → List ℕ → A → ByUni
             ∙ all_held others unit (λ none. empty (λ among. elim among as (λ _. ⊥) [ inl is ↦ differs is | inr later ↦ none later ]))
       ]
 
-  -- where all others have the empty value, a tidy map has just these values
+  -- if all others have the empty value, a tidy map has just these values
   a_map : (units : List (List ℕ)) → ((unit : List ℕ) → ¬ (Among units unit) → value unit ≡ nothing)
       → (m : ByUnit A) × IsTidy nothing m × ((unit : List ℕ) → held_of nothing m unit ≡ value unit)
   a_map units empty = (put_all units, all_tidy units, λ unit. all_held units unit (empty unit))
 
--- where all other units have no jobs, tidy pending jobs are just these
+-- if all other units have no jobs, tidy pending jobs are just these
 pub a_job_map : (value : List ℕ → UnitJobs) (units : List (List ℕ)) → ((unit : List ℕ) → ¬ (Among units unit) → value unit ≡ no_jobs)
     → (m : ByUnit UnitJobs) × IsTidy no_jobs m × ((unit : List ℕ) → jobs_of_unit m unit ≡ value unit)
 a_job_map = a_map no_jobs with_jobs jobs_here jobs_apart tidy_jobs
 
--- where all other units are dead, tidy units are just these
+-- if all other units are dead, tidy units are just these
 pub a_unit_map : (value : List ℕ → UnitState) (units : List (List ℕ)) → ((unit : List ℕ) → ¬ (Among units unit) → value unit ≡ dead_unit)
     → (m : ByUnit UnitState) × IsTidy dead_unit m × ((unit : List ℕ) → state_of_unit m unit ≡ value unit)
 a_unit_map = a_map dead_unit with_unit state_here state_apart tidy_units

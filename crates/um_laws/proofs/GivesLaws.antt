@@ -1,4 +1,4 @@
--- What a name gives, declares and mentions is decided; but for the unit's own name, only unit names are in it.
+-- It is decided what a name gives, declares and mentions; but for the unit's own name, only unit names are in it.
 use Rattle.std.proofs.Common.{◌≡◌, ◌≢◌, ◌⊎◌, ◌∙◌, ◌&&◌, ℕ, Bool, true, false, cond, List, [], ◌∷◌, map as each, filter_map, Option, Some, None, is_some, Ok, Err, refl, sym, ap, subst, inl, inr}
 use Rattle.std.specs.FinMap as map
 use Rattle.std.proofs.lemmas.Bool.{and_parts}
@@ -56,7 +56,7 @@ among_kinds kinds.Conflicts = inr (inr (inr (inr (inl refl))))
 
 -- ---- links
 
--- what a path says by itself: a link in the directory of the unit x for what it wants or requires is named y
+-- a path by itself names a link y in the directory of the unit x for the units that it wants or requires
 pub data Says : PathParts → DependencyKind → List ℕ → List ℕ → Type 0 where
   wants : (p : PathParts) (other : List ℕ) → p.place ≡ Wants other → Says p kinds.Wants p.unit other
   requires : (p : PathParts) (other : List ℕ) → p.place ≡ Requires other → Says p kinds.Requires p.unit other
@@ -218,9 +218,9 @@ shutdown_is_name : is_unit_name shutdown_target ≡ true
 unfolding is_unit_name suffix_of stem_of
 shutdown_is_name = refl
 
--- ---- what a name gives and declares
+-- ---- dependencies and order by a name
 
--- of two names what holds of the same ones
+-- a relation between two names holds of the same two names
 pub of_same : (R : List ℕ → List ℕ → Type 0) {u v x y : List ℕ} → x ≡ u → y ≡ v → R u v → R x y
 of_same R {u = u} {v = v} {x = x} {y = y} first second h = subst (λ z. R z y) (sym first) (subst (R u) (sym second) h)
 
@@ -312,7 +312,7 @@ module _ (tree : ReadTree) (a : List ℕ) where
       (either_decided (loadable_or_not (IsBefore x y) (λ l. both_decided (same_name x l.name) (leads_or_not l.settings.dependencies.before y)))
       (loadable_or_not (IsAfter x y) (λ l. both_decided (same_name y l.name) (leads_or_not l.settings.dependencies.after x))))
 
-  -- ---- what is mentioned
+  -- ---- mentioned names
 
   -- the unit of the name, or a unit name
   abbrev pub OwnOrName : List ℕ → Type 0
@@ -333,7 +333,7 @@ module _ (tree : ReadTree) (a : List ℕ) where
   names_declared _ _ (model.follows {y = name} {l = l} loadable names) =
       (inr (named_by_name tree.entries name ((names_of_loadable tree a l loadable).after name (among_contained l.settings.dependencies.after name names))), own_name l loadable)
 
-  -- what is known along with a name is its unit or has a unit name
+  -- a name that is known along with a name is its unit or a unit name
   pub names_mentioned : (b : List ℕ) → Mentions tree a b → OwnOrName b
   names_mentioned b (model.owner {y = y} {kind = kind} gives) = (names_given kind b y gives).0
   names_mentioned b (model.other {x = x} {kind = kind} gives) = (names_given kind x b gives).1

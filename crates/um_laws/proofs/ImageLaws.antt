@@ -17,7 +17,7 @@ use Rattle.um_laws.proofs.LogLaws.{length-part, next_part, record_size, part_byt
 
 -- ---- headers
 
--- a header that was found is one
+-- a header that the test finds is one
 header_found : (layout : Layout) (sector : Sector) (generation size : ℕ) → is_header layout sector generation size ≡ true → IsHeader layout sector generation size
 header_found layout sector generation size is =
     let one = and_parts _ _ is in
@@ -30,13 +30,13 @@ header_found layout sector generation size is =
       is = (bytes_eq-Decides sector (header_sector generation size)).0 three.1;
     }
 
--- and a header is found
+-- and the test finds each header
 header_tested : (layout : Layout) (sector : Sector) (generation size : ℕ) → IsHeader layout sector generation size → is_header layout sector generation size ≡ true
 header_tested layout sector generation size h =
     and_from _ _ (le-leb 1 generation h.first) (and_from _ _ (lt-ltb generation (2 ^ 64) h.last)
     (and_from _ _ (le-leb size (body_limit layout) h.fits) ((bytes_eq-Decides sector (header_sector generation size)).1 h.is)))
 
--- what a sector says as a header
+-- the result for a sector agrees with its header, or with there being none
 abbrev HeaderSays : Layout → Sector → Option (ℕ × ℕ) → Type 0
 HeaderSays layout sector None = (generation size : ℕ) → IsHeader layout sector generation size → ⊥
 HeaderSays layout sector (Some h) = IsHeader layout sector h.0 h.1
@@ -62,7 +62,7 @@ module _ (layout : Layout) (sector : Sector) where
 
 -- ---- the newest slot
 
--- what an image says as its newest slot
+-- the result for an image agrees with its newest slot, or with there being none
 abbrev NewestSays : Layout → Image → Option Newest → Type 0
 NewestSays layout image None = HasNoHeader layout image
 NewestSays layout image (Some n) = IsNewest layout image n.slot n.generation n.body
@@ -94,7 +94,7 @@ newest_told : (layout : Layout) (image : Image) → NewestSays layout image (new
 unfolding newest_of
 newest_told layout image = of_two layout image _ _ (header_told layout (image (slot_start layout A))) (header_told layout (image (slot_start layout B)))
 
--- what is told of the newest is it
+-- the newest slot by the relation is the one in the result
 only_newest : (layout : Layout) (image : Image) (o : Option Newest) (n : Newest) → NewestSays layout image o → IsNewest layout image n.slot n.generation n.body → o ≡ Some n
 only_newest layout image None n none is = absurd (no_newest is none)
 only_newest layout image (Some m) n one is = let same = same_newest one is in λ i. Some (record { slot = same.0 i; generation = same.1 i; body = same.2 i })
@@ -103,14 +103,14 @@ only_none : (layout : Layout) (image : Image) (o : Option Newest) → NewestSays
 only_none layout image None none is = refl
 only_none layout image (Some m) one is = absurd (no_newest one is)
 
--- The function tells the newest slot exactly where the relation does,
+-- The function returns a newest slot exactly if the relation holds of it,
 pub newest_some : (layout : Layout) (image : Image) (n : Newest) → (newest_of layout image ≡ Some n) ↔ IsNewest layout image n.slot n.generation n.body
 newest_some layout image n = (
   λ is. subst (NewestSays layout image) is (newest_told layout image),
   λ newest. only_newest layout image (newest_of layout image) n (newest_told layout image) newest,
 )
 
--- and none exactly where there is no header.
+-- and none exactly if there is no header.
 pub newest_none : (layout : Layout) (image : Image) → (newest_of layout image ≡ None) ↔ HasNoHeader layout image
 newest_none layout image = (
   λ is. subst (NewestSays layout image) is (newest_told layout image),
@@ -119,7 +119,7 @@ newest_none layout image = (
 
 -- ---- records
 
--- the first parts stand where the test says so
+-- the first parts stand if the test says so
 parts_told : (generation : ℕ) (image : Image) (number at : ℕ) (bytes : List ℕ) (n : ℕ) → parts_stand generation image number at bytes n ≡ true
     → (part : ℕ) → part < n → image (at + part) ≡ log_sector generation number part (length bytes) (part_of bytes part)
 parts_told generation image number at bytes zero is part below = absurd (omega (arith, below))
@@ -130,7 +130,7 @@ parts_told generation image number at bytes (suc n) is part below =
     (λ other. parts_told generation image number at bytes n both.0 part (omega (arith, below, other)))
     (cases_eq part n)
 
--- and the test says so where they stand
+-- and the test says so if they stand
 parts_tested : (generation : ℕ) (image : Image) (number at : ℕ) (bytes : List ℕ) (n : ℕ)
     → ((part : ℕ) → part < n → image (at + part) ≡ log_sector generation number part (length bytes) (part_of bytes part)) → parts_stand generation image number at bytes n ≡ true
 parts_tested generation image number at bytes zero stand = refl
@@ -219,7 +219,7 @@ module _ (format : Format) (layout : Layout) (generation : ℕ) (image : Image) 
       (stops (λ x is. false≢true (sym no ∙ record_tested format layout generation image number at bytes (subst (IsRecord format layout generation image number at) (sym (record_back is)) is)))))
       (cases_Bool (is_record format layout generation image number at bytes))
 
--- the records from a place on, where there are turns enough
+-- the records from a place on, if there are turns enough
 records_told : (turns : ℕ) (format : Format) (layout : Layout) (generation : ℕ) (image : Image) (number at : ℕ) → area_end format layout generation ≤ at + turns
     → AreRecords format layout generation image number at (records_from turns format layout generation image number at)
 records_told zero format layout generation image number at enough = stops (λ bytes is. let some = is.some in let within = is.within in omega (arith, enough, some, within))
@@ -227,11 +227,11 @@ records_told (suc turns) format layout generation image number at enough =
     one_more_record format layout generation image number at turns
     (λ some. records_told turns format layout generation image (suc number) (at + part_count (length (bytes_from image at))) (omega (arith, enough, some)))
 
--- The function tells the records that the relation does.
+-- The function returns records of which the relation holds.
 pub records_are : (format : Format) (layout : Layout) (generation : ℕ) (image : Image) → HasRecords format layout generation image (records_of format layout generation image)
 unfolding records_of
 records_are format layout generation image = records_told layout.log_sectors format layout generation image 0 (area_start format layout generation) (let few = area_few format layout in omega (arith, few))
 
--- And only it.
+-- And it holds of no others.
 pub only_records : (format : Format) (layout : Layout) (generation : ℕ) (image : Image) (records : List (List ℕ)) → HasRecords format layout generation image records → records_of format layout generation image ≡ records
 only_records format layout generation image records are = same_list 0 (area_start format layout generation) (records_of format layout generation image) records (records_are format layout generation image) are

@@ -21,7 +21,7 @@ use Rattle.um_model.proofs.Forms.{is_fit_at, cause}
 
 -- ---- lengths
 
--- a number of so many bytes
+-- a number has the bytes of its width
 pub number_long : (width n : ℕ) → length (big_bytes width n) ≡ width
 number_long width n = length-bytes_high_first width n
 
@@ -29,9 +29,9 @@ number_long width n = length-bytes_high_first width n
 pub text_long : (text : List ℕ) → length (text_spelling text) ≡ 4 + length text
 text_long text = length-append (big_bytes 4 (length text)) text ∙ ap (λ n. n + length text) (number_long 4 (length text))
 
--- ---- what is put, linked or removed
+-- ---- puts, links and removals
 
--- what isn't refused has no cause of refusal
+-- a value that isn't refused has no cause of refusal
 no_cause : {A : Type 0} (o : Option Refused) (a b : A) → unless_refused o a ≡ Ok b → o ≡ None
 no_cause None a b e = refl
 no_cause (Some r) a b e = cc
@@ -53,7 +53,7 @@ link_long s path target tree e =
     let short = short_target path target (path_parts path) refl (not-false _ all.0) in
     omega (arith, short.0, short.1)
 
--- where something stands the path is short
+-- a path at which something stands is short
 held_long : (tree : Tree) (path : List ℕ) → IsTree tree → (o : Option Entry) → map.get tree path ≡ o → is_none o ≡ false → length path ≤ 524
 held_long tree path is None at some = cc
 held_long tree path is (Some entry) at some = entry_short path entry (sym (ap (is_fit_at path) at) ∙ is.fit path)
@@ -80,7 +80,7 @@ optional_long (Some name) fit = omega (arith, named_long name fit)
 two_long : (a b : List ℕ) → length a + length b ≤ 66060 → length (text_spelling a ++ text_spelling b) ≤ 66068
 two_long a b h = omega (arith, length-append (text_spelling a) (text_spelling b), text_long a, text_long b)
 
--- what a command that has its effect is spelled in
+-- the length of a command that takes effect
 command_long : {profile : Profile} (t : ℕ) (s : State) (command : Command) (actions : List Action) (u : State) → IsTree s.tree → FitCommand command → Does profile t s command actions u
     → length (command_fields command) ≤ 66068
 command_long t s (PutFile path text) actions u is fit (Does.changes (puts {tree = tree} e)) = two_long path text (put_long s path text tree e)

@@ -1,4 +1,4 @@
--- Enabling, disabling, masking and unmasking have one outcome each, and one is always there; so has what is told of a unit's enabling.
+-- Enabling, disabling, masking and unmasking have exactly one outcome each; so has the query how a unit is enabled.
 use Rattle.std.proofs.Common.{ℕ, ◌≤◌, ◌≡◌, ◌≢◌, ◌⊎◌, ◌∙◌, ◌&&◌, ◌||◌, Bool, true, false, true≢false, cond, List, [], ◌∷◌, map as each, flat_map, Contains, Option, Some, None, is_some, Result, Ok, Err, codes, refl, sym, ap, subst, inl, inr, arith}
 use Rattle.std.specs.Bool.{one_answer}
 use Rattle.std.specs.FinMap as map
@@ -59,7 +59,7 @@ removed_apart : (tree : Tree) (path at : List ℕ) → at ≢ path → map.get (
 removed_apart tree path at apart =
     map.get-remove nat_list_cmp_total tree path at ∙ ap (λ b. cond b None (map.get tree at)) (unlike at path apart)
 
--- ---- what is taken, and what is meant
+-- ---- the units taken, and the names meant
 
 pub also_any : (tree : ReadTree) (unit other : List ℕ) → IsAlso tree unit other → AnyOf (λ name. other ≡ unit_named tree.entries name) (install_of (load tree unit)).also
 also_any tree unit other (also {name = name} among) = (name, among_contained (install_of (load tree unit)).also name among, refl)
@@ -72,14 +72,14 @@ also_or_not tree unit other =
     decided_as (any_also tree unit other) (also_any tree unit other)
     (any_decided (λ name. other ≡ unit_named tree.entries name) (λ name. same_name other (unit_named tree.entries name)) (install_of (load tree unit)).also)
 
--- what is taken is the unit that was asked for, or has a unit name
+-- a unit that is taken is the given one, or has a unit name
 taken_covered : (tree : ReadTree) (asked unit : List ℕ) → IsTaken tree asked unit → Among (unit_named tree.entries asked ∷ names_cover.0) unit
 taken_covered tree asked unit (first is) = inl is
 taken_covered tree asked unit (next {a = taker} reached step) =
     let any = also_any tree taker unit step in
     inr (names_cover.1 unit (subst (λ n. is_unit_name n ≡ true) (sym any.2) (named_by_name tree.entries any.0 (also_names tree taker any.0 any.1))))
 
--- a list has just what is taken
+-- a list has just the units that are taken
 pub taken_list : (tree : ReadTree) (asked : List ℕ) → (units : List (List ℕ)) × IsListOf (IsTaken tree asked) units
 taken_list tree asked =
     reached_list (λ unit. unit ≡ unit_named tree.entries asked) (IsAlso tree) (unit_named tree.entries asked ∷ names_cover.0) (taken_covered tree asked)
@@ -95,7 +95,7 @@ meant_covered tree asked name (first is) = inl is
 meant_covered tree asked name (next {a = unit} reached step) =
     inr (names_cover.1 name (also_names tree unit name (among_contained (install_of (load tree unit)).also name step)))
 
--- a list has just what is meant
+-- a list has just the names that are meant
 pub meant_list : (tree : ReadTree) (asked : List ℕ) → (names : List (List ℕ)) × IsListOf (IsMeant tree asked) names
 meant_list tree asked =
     reached_list (λ name. name ≡ asked) (λ unit name. Contains (install_of (load tree unit)).also name) (asked ∷ names_cover.0) (meant_covered tree asked) (λ name. same_name name asked) (written_or_not tree)
@@ -112,7 +112,7 @@ pulls_in other name = false
 abbrev pub is_link_for : List ℕ → PathParts → List ℕ → Bool
 is_link_for name p target = is_etc p.layer && (pulls_in p.place name || bytes_eq (unit_in_target target) name)
 
--- what stands at a path of these parts is such a link
+-- the entry at a path of these parts is such a link
 abbrev pub is_link_of : List ℕ → Option PathParts → Option Entry → Bool
 is_link_of name (Some p) (Some (Link target)) = is_link_for name p target
 is_link_of name parts entry = false
@@ -158,7 +158,7 @@ unlinked_by tree asked path name meant = by (path_parts path) refl (map.get tree
           leads = leads p.place target (or_cases (pulls_in p.place name) (bytes_eq (unit_in_target target) name) both.1);
         }
 
--- and the test tells each link that is removed
+-- and the test finds each link that is removed
 pub unlinked_test : (tree : ReadTree) (asked path : List ℕ) (h : IsUnlinked tree asked path) → is_link_of h.name (path_parts path) (map.get tree.entries path) ≡ true
 unlinked_test tree asked path h =
     ap (λ parts. is_link_of h.name parts (map.get tree.entries path)) h.served
@@ -178,7 +178,7 @@ unlinked_test tree asked path h =
     by (inr (inl requires)) = ap (λ b. b || bytes_eq (unit_in_target h.target) h.name) (ap (λ place. pulls_in place h.name) requires ∙ same h.name)
     by (inr (inr leads)) = ap (λ b. pulls_in h.parts.place h.name || b) (ap (λ unit. bytes_eq unit h.name) leads ∙ same h.name) ∙ or_true (pulls_in h.parts.place h.name)
 
--- ---- the links that are asked for
+-- ---- the links that are called for
 
 module _ (tree : ReadTree) (asked : List ℕ) where
   links_from : List (List ℕ) → List LinkAt
@@ -195,7 +195,7 @@ module _ (tree : ReadTree) (asked : List ℕ) where
   from_asked units list link w =
       among_flat_map (λ unit. links_of (load tree unit)) units w.unit link (list.all w.unit w.taken) (among_contained (links_of (load tree w.unit)) link w.among)
 
-  -- a list has just the links that are asked for
+  -- a list has just the links that are called for
   pub asked_list : (links : List LinkAt) × IsListOf (IsAskedFor tree asked) links
   asked_list =
       let units = taken_list tree asked in
@@ -237,7 +237,7 @@ module _ (tree : ReadTree) (asked : List ℕ) where
       inserted_apart (with_links links) link.path (Link link.target) path (λ e. none (link, inl refl, e))
       ∙ links_kept links path (λ any. none (any.0, inr any.1, any.2))
 
-  -- where all links of one path have one target
+  -- if all links of one path have one target, that link stands there
   links_stand : (links : List LinkAt) (path target : List ℕ) → ((link : LinkAt) → Among links link → path ≡ link.path → link.target ≡ target)
       → AnyOf (λ link. path ≡ link.path) links → map.get (with_links links) path ≡ Some (Link target)
   unfolding with_links
@@ -401,7 +401,7 @@ module _ (tree : ReadTree) (asked : List ℕ) where
       a_least IsNamedBefore (IsBarred tree asked) same_name named_trans one_named_first barred_or_not (taken_list tree asked).0
       (λ unit h. (taken_list tree asked).1.all unit h.taken)
 
-  -- where no cause names an occupied path, none is occupied
+  -- if no cause names an occupied path, none is occupied
   none_occupied : ((r : Refused) → ¬ (NamesLeast (IsOccupied tree asked) (λ path r. r ≡ exists_at path) r)) → IsFree
   none_occupied none = by_least least_occupied
     where
@@ -432,7 +432,7 @@ module _ (tree : ReadTree) (asked : List ℕ) where
   bars_cause : OneOrNone (NamesLeast (IsBarred tree asked) (λ unit r. CannotEnable unit (load tree unit) r))
   bars_cause = named_or_none (IsBarred tree asked) (λ unit r. CannotEnable unit (load tree unit) r) (λ unit h. (h.refusal, h.cause)) least_barred
 
-  -- where no cause does, no path is occupied
+  -- if no cause does, no path is occupied
   pub free_of_causes : ((r : Refused) → ¬ (CausesOfLinks tree asked r)) → IsFree
   free_of_causes none = none_occupied (λ r h. none r (at_second (λ other unfit. none other (at_first unfit)) (at_first h)))
 
@@ -451,7 +451,7 @@ module _ (tree : ReadTree) (asked : List ℕ) where
       (at_second (λ r unfit. none r (at_first unfit))
       (at_second (λ r occupied. none r (at_second (λ q unfit. none q (at_first unfit)) (at_first occupied))) many))
 
-  -- where no unit is named that can't be enabled, each that is taken can
+  -- if no unit is named that can't be enabled, each that is taken can
   pub open_of_causes : ((r : Refused) → ¬ RefusesUnits tree verbs.Enable asked r) → (unit : List ℕ) → ¬ (IsBarred tree asked unit)
   open_of_causes none = by_least least_barred
     where
@@ -479,7 +479,7 @@ module _ (tree : ReadTree) (asked : List ℕ) where
       → NamesLeast (IsBarred tree asked) (λ unit r. CannotEnable unit (load tree unit) r) q → r ≡ q
   one_bars_refusal = one_named (IsBarred tree asked) (λ unit r. CannotEnable unit (load tree unit) r) (λ unit. one_cannot unit (load tree unit))
 
-  -- ---- what disabling removes
+  -- ---- the links that disabling removes
 
   -- a link stands at the path, and one of the names is meant by it
   pub unlinked_or_not : (path : List ℕ) → IsDecided (IsUnlinked tree asked path)
@@ -575,7 +575,7 @@ module _ (tree : ReadTree) (asked : List ℕ) where
       link_removed (without_paths paths) path (map.get (without_paths paths) path) refl (no_file_left paths path (none path (inl refl))) folder
       ∙ drop_ins_left paths (λ other among. none other (inr among)) folder
 
-  -- what is removed is a link
+  -- only links are removed
   no_file_unlinked : (path : List ℕ) → IsUnlinked tree asked path → HasNoFile (map.get tree.entries path)
   no_file_unlinked path h text e = isnt_file h.target (sym h.link ∙ e)
     where

@@ -1,4 +1,4 @@
--- What each change of a unit, each job that begins, each command and each boot keep is kept by all that an input has for its effect.
+-- A property that each change of a unit, each job that begins, each command and each boot keep is kept by the effect of an input.
 use Rattle.std.proofs.Common.{ℕ, Bool, true, false, cond, List, ◌∷◌, ◌++◌}
 use Rattle.std.specs.Prelude.{⊤}
 use Rattle.std.specs.FinMap as map
@@ -15,7 +15,7 @@ use Rattle.um_model.specs.declared.service.End.{End}
 use Rattle.um_model.specs.declared.transition.UnitEvent.{UnitEvent}
 use Rattle.um_model.specs.declared.transition.UnitEvent.TheVariants.{BoundStop, Executed, MainEnds, ControlEnds, DeadlinePasses, Reset}
 
--- the end that an event tells has bytes
+-- the end in an event has bytes
 abbrev pub FitUnitEvent : UnitEvent → Type 0
 FitUnitEvent (MainEnds e) = FitEnd e
 FitUnitEvent (ControlEnds e) = FitEnd e
@@ -71,7 +71,7 @@ module _ (t : ℕ) (Inv : State → Type 0)
     kept_doing s command actions u (Does.changes h) inv = changes_so _ s command u h inv
     kept_doing s command actions u (Does.resets {asked = asked} h) inv = kept_resets (units_reset s asked) s actions u h inv
 
-    -- all that an input has for its effect
+    -- the effect of an input keeps the property
     pub kept_taking : {profile : Profile} (s : State) (event : Event) (actions : List Action) (v : State) → FitEvent event → TakesEffect profile t s event actions v → Inv s → Inv v
     kept_taking s event actions v fit (obeys {command = command} {first = first} {more = more} {u = u} none does h) inv = kept_settling u more v h (kept_doing s command first u does inv)
     kept_taking s event actions v fit (meets {happening = happening} effect (ends {number = number} {end = end} {first = x} {more = y} {u = u} unit is h k)) inv =

@@ -1,4 +1,4 @@
--- What unit events and ticks leave as it was: trees, boot and clock.
+-- Unit events and ticks leave trees, boot and clock as they were.
 use Rattle.std.proofs.Common.{ℕ, ◌≡◌, ◌∙◌, List, refl, ap}
 use Rattle.um_model.specs.Machine.{State, Carries, change_of, Becomes, alone, along, begins, begun, Settles, rests, begins_next, Happens, AreReset, Restarts, isnt_put, ComesDue, Fires, FiresOne}
 use Rattle.um_model.specs.Service.{Action}
@@ -27,11 +27,11 @@ becomes_keeps s unit c v (alone holds) = record { tree = refl; loaded = refl; bo
 becomes_keeps s unit c v (along fails h) =
     record { tree = ap (λ x. x.tree) h.rest; loaded = ap (λ x. x.loaded) h.rest; boot = ap (λ x. x.boot) h.rest; clock = ap (λ x. x.clock) h.rest }
 
--- so does what happens to a unit
+-- so does an event of a unit
 pub carries_keeps : (t : ℕ) (unit : List ℕ) (event : UnitEvent) (s : State) (actions : List Action) (v : State) → Carries t unit event s actions v → Keeps s v
 carries_keeps t unit event s actions v h = becomes_keeps s unit (change_of t s unit event) v h.state
 
--- and what happens with all units that fall with one
+-- and an event of a unit with all units that fall with it
 pub happens_keeps : (t : ℕ) (unit : List ℕ) (event : UnitEvent) (s : State) (actions : List Action) (v : State) → Happens t unit event s actions v → Keeps s v
 happens_keeps t = over_happening t (λ s actions v. Keeps s v) itself (λ s u v first more. then_keeps s u v) (carries_keeps t)
 
@@ -51,7 +51,7 @@ restarts_keep : (s : State) (unit : List ℕ) (v : State) → Restarts s unit v 
 restarts_keep s unit v (Restarts.puts none free) = record { tree = refl; loaded = refl; boot = refl; clock = refl }
 restarts_keep s unit v (isnt_put why) = itself s
 
--- and what comes of a deadline
+-- and a deadline that is due
 pub comes_due_keeps : (t : ℕ) (s : State) (unit : List ℕ) (actions : List Action) (v : State) → ComesDue t s unit actions v → Keeps s v
 comes_due_keeps t s unit actions v (ComesDue.restarts is again) = restarts_keep s unit v again
 comes_due_keeps t s unit actions v (ComesDue.passes isnt passed) = happens_keeps t unit DeadlinePasses s actions v passed

@@ -1,4 +1,4 @@
--- Known units: where more is named, more is known; what is known is decided, and so is what depends on what, and what goes before what.
+-- Known units: if more is named, more is known; it is decided which units are known, which depend on which, and which go before which.
 use Rattle.std.proofs.Common.{◌≡◌, ◌≢◌, ◌⊎◌, ◌↔◌, ◌∙◌, ◌&&◌, ℕ, ◌≤◌, Bool, true, false, true≢false, not, List, ◌++◌, length, get_or, append-nil, AllPairs, Option, Some, None, is_some, refl, sym, ap, subst, inl, inr, arith}
 use Rattle.std.specs.FinMap as map
 use Rattle.std.proofs.lemmas.Bool.{cases_lt, and_parts, cond-true}
@@ -38,7 +38,7 @@ target_suffix unit = (by (suffix_of unit), λ e. ap is_target_type e)
     by (Some Target) e = refl
     by other e = absurd (true≢false (sym e))
 
--- ---- more is known where more is named
+-- ---- more is known if more is named
 
 module _ (tree : ReadTree) (Other Extra : List ℕ → Type 0) (within : (x : List ℕ) → Other x → IsKnown tree Extra x) where
   named_grows : (x : List ℕ) → IsNamed tree Other x → IsKnown tree Extra x
@@ -47,15 +47,15 @@ module _ (tree : ReadTree) (Other Extra : List ℕ → Type 0) (within : (x : Li
   named_grows x (model.link links) = first (model.link links)
   named_grows x (model.extra more) = within x more
 
-  -- where all that the one names besides the tree is known by the other, all that is known by the one is known by the other
+  -- if all that the one names besides the tree is known by the other, all that is known by the one is known by the other
   pub known_grows : (x : List ℕ) → IsKnown tree Other x → IsKnown tree Extra x
   known_grows = reached_in (IsKnown tree Extra) named_grows (λ a b known mentions. next known mentions)
 
-  -- and then too many are known where too many were
+  -- and then too many are known if too many were
   pub more_known : KnowsTooMany tree Other → KnowsTooMany tree Extra
   more_known k = record { names = k.names; known = λ place default few. known_grows _ (k.known place default few); apart = k.apart; many = k.many }
 
--- ---- what is named in a tree is decided
+-- ---- which names a tree has is decided
 
 -- an entry of a unit of this name stands at the path
 pub record IsEntryAt (tree : Tree) (x path : List ℕ) : Type 0 where
@@ -159,7 +159,7 @@ module _ (tree : ReadTree) (x : List ℕ) where
             inr (inr (inl (kind, among_kinds kind, (holder, names_cover.1 holder (names_of_link tree.entries kind holder x links).0, links))))
         from_named (model.extra more) = inr (inr (inr more))
 
--- ---- what is known is decided, where a list has just what is named besides the tree
+-- ---- which units are known is decided, if a list has just the names besides the tree's
 
 module _ (tree : ReadTree) (Extra : List ℕ → Type 0) (extras : List (List ℕ)) where
   -- among those, or a unit name
@@ -203,7 +203,7 @@ module _ (tree : ReadTree) (Extra : List ℕ → Type 0) (extras : List (List �
     known_or_not =
         reached_or_not (IsNamed tree Extra) (Mentions tree) (extras ++ names_cover.0) known_covered (λ x. named_or_not tree x Extra (extra_or_not x)) (mentions_or_not tree)
 
-    -- a list has just what is known
+    -- a list has just the known names
     pub known_list : (xs : List (List ℕ)) × IsListOf (IsKnown tree Extra) xs
     known_list = list_of (IsKnown tree Extra) known_or_not (extras ++ names_cover.0) known_covered
 

@@ -1,4 +1,4 @@
--- What happens never raises the weight of the state, and is never refused.
+-- A happening never raises the weight of the state, and is never refused.
 use Rattle.std.proofs.Common.{ℕ, ◌≡◌, ◌∙◌, ◌+◌, ◌*◌, ◌≤◌, List, refl, subst, inl, arith}
 use Rattle.um_model.specs.declared.profile.Profile.{Profile}
 use Rattle.um_model.specs.Dependencies.{KnowsSoMany, CountsFor, extra}
@@ -21,7 +21,7 @@ use Rattle.um_model.proofs.WeightLaws.{without_run_light}
 
 -- ---- fewer units are known
 
--- where all that the one names besides the tree is named by the other
+-- if all that the one names besides the tree is named by the other
 module _ (Fewer Extra : List ℕ → Type 0) (within : (x : List ℕ) → Fewer x → Extra x) where
   fewer_known : (tree : ReadTree) (m n : ℕ) → KnowsSoMany tree Fewer m → KnowsSoMany tree Extra n → m ≤ n
   fewer_known tree m n h k =
@@ -47,7 +47,7 @@ module _ (Fewer Extra : List ℕ → Type 0) (within : (x : List ℕ) → Fewer 
       let least = k.greater in
       omega (arith, held, lasting, most, least)
 
--- ---- and no more is weighed
+-- ---- and the state weighs no more
 
 lighter : (a b c d m n : ℕ) → a ≤ b → c ≤ d → m ≤ n → 256 + a + c + 2048 * m ≤ 256 + b + d + 2048 * n
 lighter a b c d m n e f g = omega arith
@@ -66,7 +66,7 @@ booted_light boot s m n h k =
     lighter (tree_weight (without_run s.tree)) (tree_weight s.tree) (tree_weight (without_run s.loaded.entries)) (tree_weight s.loaded.entries) m n (without_run_light s.tree) (without_run_light s.loaded.entries)
     (fewer_after_boot (IsHeld (booted boot s)) (IsHeld s) (λ x is. absurd (booted_none boot s x is)) s.loaded m n h k)
 
--- and one after whatever happens
+-- and one after any happening
 follows_light : (t : ℕ) (s : State) (happening : Happening) (actions : List Action) (v : State) → Follows t s happening actions v → WeighsNoMore v s
 follows_light t s happening actions v (Follows.ends {number = number} {end = end} {first = x} {more = y} {u = u} unit is h k) =
     let event = end_of (state_of_unit s.units unit) number end in
@@ -90,7 +90,7 @@ happening_light size s moment happening reply actions t (Step.crowded_out h heav
 happening_light size s moment happening reply actions t (Step.idle e) = same_light s
 happening_light size s moment happening reply actions t (Step.taken {u = u} h light) = takes_light (moment_of s moment) s happening actions u h
 
--- and what happens is never refused
+-- and a happening is never refused
 pub happening_done : {profile : Profile} (size : ℕ) (s : State) (moment : ℕ) (happening : Happening) (reply : Reply) (actions : List Action) (t : State)
     → Step size s (record { profile = profile; moment = moment; event = Happened happening }) reply actions t → reply ≡ Done
 happening_done size s moment happening reply actions t (Step.crowded_out h heavy) = absurd heavy

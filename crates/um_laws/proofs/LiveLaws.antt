@@ -83,7 +83,7 @@ left_of_none : (ends : Bool) (o : Option JobState) → o ≡ None → cond ends 
 left_of_none true o e = ap unless_running e
 left_of_none false o e = e
 
--- what is left of a unit and its jobs after a change fits
+-- a unit and the jobs left to it after a change fit
 left_fits : (c : Change) (j : UnitJobs) → HasItsProcess c.unit → (j.start ≡ Some Running → StartFits c) → (j.stop ≡ Some Running → StopFits c)
     → (j.start ≡ Some Running → j.stop ≡ None) → Fits c.unit (jobs_left c.start c.stop_ends j)
 left_fits c j held starting stopping apart = record {
@@ -180,7 +180,7 @@ plan_fits s named demand after plan fits unit =
     subst (Fits u) (sym (plan.jobs unit c.0 c.1))
     (command_fits u j (jobs_for c.0 (active_state_of u.sub) j) (counted_keeps c.0 (active_state_of u.sub) j) (fits unit))
 
--- what a command does leaves all fitting
+-- a command's change leaves all fitting
 changed_fits : {profile : Profile} (s : State) (command : Command) (u : State) → Changes profile s command u → AllFit s → AllFit u
 changed_fits s command u (puts e) fits = fits
 changed_fits s command u (links e) fits = fits
@@ -200,7 +200,7 @@ restarted_fits : (s : State) (unit : List ℕ) (v : State) → Restarts s unit v
 restarted_fits s unit v (Restarts.puts none free) fits = planned_fits s unit (jobs None (Some Waiting)) (restart_keeps (jobs_of_unit s.pending unit) none) fits
 restarted_fits s unit v (isnt_put why) fits = fits
 
--- what a failed start takes along leaves all fitting
+-- a failed start with those that it takes along leaves all fitting
 along_fits : (s : State) (failed : List ℕ) (v : State) → TakesAlong s failed v → AllFit s → AllFit v
 along_fits s failed v a fits unit =
     elim (taken_along_or_not s failed unit) as (λ _. Fits (state_of_unit v.units unit) (jobs_of_unit v.pending unit)) [
@@ -256,7 +256,7 @@ nothing_ready Before units j ready = none_waits j.kind (sym (ap (job_of j.kind) 
 
 -- ---- a run
 
--- what isn't a stop job that begins
+-- a bound stop isn't a stop job that begins
 bound_apart : BoundStop ≡ StopBegins → ⊥
 bound_apart e = cc
 
@@ -275,7 +275,7 @@ end_apart false e = λ is. cc
 
 -- the table keeps the process of a unit
 module _ (keeps : (s : ServiceSettings) (c : Around) (u : UnitState) (e : UnitEvent) → HasItsProcess u → HasItsProcess (transition s c u e).unit) where
-  -- what happens to a unit leaves all fitting
+  -- an event of a unit leaves all fitting
   carried_fits : (t : ℕ) (unit : List ℕ) (event : UnitEvent) (s : State) (actions : List Action) (v : State) → event ≢ StopBegins → Carries t unit event s actions v
       → AllFit s → AllFit v
   carried_fits t unit event s actions v isnt h fits =
@@ -306,7 +306,7 @@ module _ (keeps : (s : ServiceSettings) (c : Around) (u : UnitState) (e : UnitEv
   begun_here : (s : State) (j : Job) → jobs_of_unit (begun s j).pending j.unit ≡ with_running j.kind (jobs_of_unit s.pending j.unit)
   begun_here s j = jobs_here s.pending j.unit (with_running j.kind (jobs_of_unit s.pending j.unit))
 
-  -- a job begins: what its unit, now with the job running, becomes
+  -- a job begins: its unit, now with the job running, fits after its change
   begun_fits : (kind : JobKind) (unit : List ℕ) (s : State) (c : Around) (settings : ServiceSettings) → IsReady (IsBefore s.loaded) s.units s.pending (record { unit = unit; kind = kind }) → AllFit s
       → Fits (transition settings c (state_of_unit s.units unit) (begins kind)).unit (jobs_left (transition settings c (state_of_unit s.units unit) (begins kind)).start (transition settings c (state_of_unit s.units unit) (begins kind)).stop_ends (with_running kind (jobs_of_unit s.pending unit)))
   begun_fits job.Start unit s c settings ready fits =
@@ -332,7 +332,7 @@ module _ (keeps : (s : ServiceSettings) (c : Around) (u : UnitState) (e : UnitEv
       (subst (λ k. Fits c.unit (jobs_left c.start c.stop_ends k)) (sym (begun_here s j))
       (begun_fits j.kind j.unit s (around t (begun s j) j.unit) (settings_in s.loaded j.unit) ready fits)))
 
-  -- where jobs have begun until none is ready
+  -- all fits after jobs have begun until none is ready
   settled_fits : (t : ℕ) (s : State) (actions : List Action) (v : State) → Settles t s actions v → AllFit s → AllFit v × IsStill v
   settled_fits t s actions v (Settles.rests none) fits = (fits, none)
   settled_fits t s actions v (begins_next {u = w} {more = late} j n (Happens.happens {falling = falling} {u = u} {first = first} {more = more} carries falls later) k) fits =
@@ -450,7 +450,7 @@ module _ (s : State) (fits : AllFit s) (still : IsStill s) where
     ]
 
   module _ (free : IsFree s) where
-    -- where a job waits, a job before which none comes waits for a live process
+    -- if a job waits, a job before which none comes waits for a live process
     waiting_not_stuck : (j : Job) → state_of_job s.pending j ≡ Some Waiting → (other : Job) × (number : ℕ) × WaitsFor s other number
     waiting_not_stuck j waits =
         let a = a_first_job (IsBefore s.loaded) (before_or_not s.loaded) s.pending free j waits in

@@ -1,4 +1,4 @@
--- What outlives a crash: the state that the last image stands for comes of what was kept, and that holds all that was answered.
+-- What outlives a crash: the last image stands for the state that the kept inputs lead to, and these hold all that were answered.
 use Rattle.std.proofs.Common.{◌≡◌, ℕ, List, [], ◌∷◌, ◌++◌, refl, sym, subst}
 use Rattle.um_model.specs.Disk.{Image}
 use Rattle.um_model.specs.Machine.{State, Input, Run, rests, goes}
@@ -12,7 +12,7 @@ use Rattle.um_laws.proofs.StandsLaws.{one_state}
 
 -- ---- one life
 
--- the image that a life left is of a store of the state that a run over what was kept comes to
+-- the image that a life left is a store of the state at the end of a run over the inputs kept
 pub one_life : (layout : Layout) (s : State) (offers : List Offer) (image : Image) → MayLeave layout s offers image
     → (b : List Input) × (t : State) × RunsOver (body_limit layout) s offers b t × IsStoreOf layout image t
 one_life layout s offers image (holds store none_answered) = ([], s, stays none_answered, store)
@@ -23,7 +23,7 @@ one_life layout s (offer ∷ offers) image (turns_away leaves) =
     let (b, t, run, store) = one_life layout s offers image leaves in
     (b, t, leaves_out run, store)
 
--- what it runs over is kept, and it is a run
+-- the inputs that it runs over are kept, and it is a run
 pub kept_of : {size : ℕ} {s t : State} {offers : List Offer} {b : List Input} → RunsOver size s offers b t → IsKept offers b
 kept_of (stays none_answered) = no_more none_answered
 kept_of (steps reply actions may step run) = keeps reply may (kept_of run)
@@ -36,7 +36,7 @@ run_of (leaves_out run) = run_of run
 
 -- ---- all lives
 
--- All lives are one run over what was kept of them, from the state on that the first image stands for, and the last image stands for its end.
+-- All lives are one run over the inputs kept of them, from the state that the first image stands for; the last image stands for its end.
 pub lives_run : (layout : Layout) (first last : Image) (lives : List Life) (s : State) → IsStoreOf layout first s → Lived layout first lives last
     → (b : List Input) × (t : State) × RunsThrough (body_limit layout) s lives b t × IsStoreOf layout last t
 lives_run layout first last [] s store ended = ([], s, at_end, store)
@@ -54,14 +54,14 @@ pub whole_run_of : {size : ℕ} {s t : State} {lives : List Life} {b : List Inpu
 whole_run_of at_end = rests
 whole_run_of (and_on run later) = run-append _ _ _ _ _ _ (run_of run) (whole_run_of later)
 
--- so the last image stands for the state that what was kept comes to
+-- so the last image stands for the state that the kept inputs lead to
 pub lives_from : (layout : Layout) (first last : Image) (lives : List Life) (s : State) → IsStoreOf layout first s → Lived layout first lives last
     → (b : List Input) × AreKept lives b × (t : State) × Run (body_limit layout) s b t × IsStoreOf layout last t
 lives_from layout first last all s store led =
     let (b, t, run, stands) = lives_run layout first last all s store led in
     (b, all_kept_of run, t, whole_run_of run, stands)
 
--- ---- what was answered is kept
+-- ---- answered inputs are kept
 
 -- nothing was answered
 none_had : (offers : List Offer) → AreUnanswered offers → answered_in offers ≡ []
@@ -69,13 +69,13 @@ none_had [] none = refl
 none_had (_ ∷ offers) (turned more) = none_had offers more
 none_had (_ ∷ offers) (lost more) = none_had offers more
 
--- two such lists, one behind the other
+-- two such lists, one after the other
 in_order_both : (a b c d : List Input) → HasInOrder a b → HasInOrder c d → HasInOrder (a ++ c) (b ++ d)
 in_order_both a b c d no_others more = more
 in_order_both a b c d (has {some = some} {all = all} rest) more = has (in_order_both some all c d rest more)
 in_order_both a b c d (between {all = all} rest) more = between (in_order_both a all c d rest more)
 
--- What is kept of a life holds all that was answered in it, in its order.
+-- The inputs kept of a life hold all that were answered in it, in their order.
 pub life_has_answered : (offers : List Offer) (b : List Input) → IsKept offers b → HasInOrder (answered_in offers) b
 life_has_answered offers [] (no_more none_answered) = subst (λ l. HasInOrder l []) (sym (none_had offers none_answered)) no_others
 life_has_answered (offer ∷ offers) (_ ∷ b) (keeps reply may kept) = by offer.outcome (life_has_answered offers b kept)
@@ -86,7 +86,7 @@ life_has_answered (offer ∷ offers) (_ ∷ b) (keeps reply may kept) = by offer
     by unanswered rest = between rest
 life_has_answered (offer ∷ offers) b (passes kept) = life_has_answered offers b kept
 
--- What is kept of all lives holds all that was answered, in its order.
+-- The inputs kept of all lives hold all that were answered, in their order.
 pub has_answered : (all : List Life) (b : List Input) → AreKept all b → HasInOrder (all_answered all) b
 has_answered all b all_kept = no_others
 has_answered all b (and_life {life = life} {lives = more_lives} {here = here} {more = more} kept rest) =

@@ -1,4 +1,4 @@
--- What the log says: its records have one reading, what isn't read doesn't count, and a record that is being written is there whole or not at all.
+-- The log: its records have one reading, unread sectors don't count, and a record that is being written is there whole or not at all.
 use Rattle.std.specs.Prelude.{◌≡◌, ◌⊎◌, ◌+◌, ◌-◌, ◌*◌, ◌<◌, ◌≤◌, min, ℕ, zero, suc, List, [], ◌∷◌, ◌++◌, length, take, drop, refl}
 use Rattle.std.proofs.Common.{sym, ◌∙◌, ap, subst, inl, inr, ⊎_elim, arith}
 use Rattle.std.proofs.lemmas.Bool.{cases_eq}
@@ -17,13 +17,13 @@ use Rattle.um_laws.proofs.StoreLaws.{log_size, log_payload, longest_few, same_re
 pub length-part : (bytes : List ℕ) (part : ℕ) → length (part_of bytes part) ≡ min 480 (length bytes - 480 * part)
 length-part bytes part = omega (arith, length-take 480 (drop (480 * part) bytes), length-drop (480 * part) bytes)
 
--- the next part is the first of what is behind
+-- a later part is an earlier part of the bytes after the first part
 pub next_part : (bytes : List ℕ) (part : ℕ) → part_of bytes (suc part) ≡ part_of (drop 480 bytes) part
 next_part bytes part =
     let moved : 480 * suc part ≡ 480 + 480 * part = omega arith in
     ap (take 480) (ap (λ (n : ℕ). drop n bytes) moved ∙ sym (drop-drop (480 * part) 480 bytes))
 
--- the parts tell the bytes
+-- the parts determine the bytes
 same_parts : (n : ℕ) (x y : List ℕ) → length x ≤ 480 * n → length y ≤ 480 * n → ((part : ℕ) → part < n → part_of x part ≡ part_of y part) → x ≡ y
 same_parts zero x y fx fy same = nil_from_length x (omega (arith, fx)) ∙ sym (nil_from_length y (omega (arith, fy)))
 same_parts (suc n) x y fx fy same =
@@ -32,7 +32,7 @@ same_parts (suc n) x y fx fy same =
     (λ part below. sym (next_part x part) ∙ same (suc part) (omega (arith, below)) ∙ next_part y part) in
     sym (take-append-drop 480 x) ∙ (λ i. front i ++ rest i) ∙ take-append-drop 480 y
 
--- a record's first sector tells its length
+-- a record's first sector holds its length
 pub record_size : {format : Format} {layout : Layout} {generation number at : ℕ} {image : Image} {bytes : List ℕ} → IsRecord format layout generation image number at bytes → big_number 4 (drop 28 (image at)) ≡ length bytes
 record_size {format} {generation} {number} {at} {image} {bytes} is =
     let here : at ≡ at + 0 = omega arith in
@@ -40,7 +40,7 @@ record_size {format} {generation} {number} {at} {image} {bytes} is =
     let short = is.short in
     ap (λ (s : Sector). big_number 4 (drop 28 s)) (ap image here ∙ is.parts 0 (omega (arith, some))) ∙ log_size generation number 0 (length bytes) (part_of bytes 0) (omega (arith, short, longest_few format))
 
--- a part's sector tells its bytes
+-- a part's sector holds its bytes
 pub part_bytes : {format : Format} {layout : Layout} {generation number at : ℕ} {image : Image} {bytes : List ℕ} → IsRecord format layout generation image number at bytes
     → (part n : ℕ) → part < part_count (length bytes) → min 480 (length bytes - 480 * part) ≡ n → take n (drop 32 (image (at + part))) ≡ part_of bytes part
 part_bytes {generation} {number} {at} {image} {bytes} is part n below long =
@@ -65,7 +65,7 @@ same_list {format} {layout} {generation} {image} number at (x ∷ xs) (y ∷ ys)
     let tail = same_list (suc number) (at + part_count (length x)) xs ys rest (subst (λ (b : List ℕ). AreRecords format layout generation image (suc number) (at + part_count (length b)) ys) (sym same) behind_it) in
     λ i. same i ∷ tail i
 
--- ---- what the reading of the records doesn't look at
+-- ---- sectors that the reading of the records doesn't look at
 
 -- a record's sector is one of its parts
 is_part : {format : Format} {layout : Layout} {generation number at : ℕ} {image : Image} {bytes : List ℕ} → IsRecord format layout generation image number at bytes → (part : ℕ) → part < part_count (length bytes)
@@ -83,7 +83,7 @@ module _ (format : Format) (layout : Layout) (generation : ℕ) (a b : Image) wh
   record_read {number} {at} {bytes} is same (suc part) below =
       same (at + suc part) (part_behind (length bytes) part is.short below is.within (λ i low. is_part is i (omega (arith, low, below))))
 
-  -- and where the other image has a record, it was read to its end
+  -- and if the other image has a record, it was read to its end
   read_along : {number at : ℕ} {bytes : List ℕ} → IsRecord format layout generation b number at bytes → ((j : ℕ) → IsLogRead format layout generation a number at j → b j ≡ a j)
       → (most part : ℕ) → part ≤ most → part < part_count (length bytes) → a (at + part) ≡ b (at + part)
   read_along {number} {at} {bytes} is same most zero low below =
@@ -123,7 +123,7 @@ all_or_one (suc n) P Q each = ⊎_elim
     (λ found. inr (found.0, omega (arith, found.1), found.2))
     (all_or_one n P Q (λ i below. each i (omega (arith, below))))
 
--- what agrees up to the end of records has them, and behind them what it has there
+-- an image that agrees up to the end of records has them, and after them the records that it has there
 pub records_front : {format : Format} {layout : Layout} {generation : ℕ} {a b : Image} (number at : ℕ) (records : List (List ℕ)) (more : List (List ℕ)) (count next : ℕ) → AreRecords format layout generation a number at records
     → ((j : ℕ) → at ≤ j → j < at + sectors_of records → b j ≡ a j) → count ≡ number + length records → next ≡ at + sectors_of records
     → AreRecords format layout generation b count next more → AreRecords format layout generation b number at (records ++ more)
@@ -139,7 +139,7 @@ pub sectors_push : (records : List (List ℕ)) (bytes : List ℕ) → sectors_of
 sectors_push [] bytes = omega arith
 sectors_push (x ∷ records) bytes = omega (arith, sectors_push records bytes)
 
--- one record more has its place behind the others
+-- one record more has its place after the others
 pub placed_push : (at : ℕ) (records : List (List ℕ)) (bytes : List ℕ) → placed at (records ++ bytes ∷ []) ≡ placed at records ++ (at + sectors_of records, bytes) ∷ []
 placed_push at [] bytes = let here : at ≡ at + 0 = omega arith in ap (λ (n : ℕ). (n, bytes) ∷ []) here
 placed_push at (x ∷ records) bytes =

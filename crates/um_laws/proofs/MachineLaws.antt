@@ -46,7 +46,7 @@ use Rattle.um_model.proofs.TimersLaws.{one_due_first, same_name, names_one_way}
 abbrev AreOneBut : (Refused → Type 0) → Type 0
 AreOneBut Cause = (r q : Refused) → Cause r → Cause q → (r ≡ q) ⊎ (NamesACycle r × NamesACycle q)
 
--- so they are for the first of two causes, where they are for each
+-- so they are for the first of two causes, if they are for each
 first_but : (A B : Refused → Type 0) → AreOneBut A → AreOneBut B → AreOneBut (FirstCause A B)
 first_but A B one other r q (at_first h) (at_first k) = one r q h k
 first_but A B one other r q (at_first h) (at_second none k) = absurd (none r h)
@@ -56,7 +56,7 @@ first_but A B one other r q (at_second none h) (at_second neither k) = other r q
 names_a_cycle : (Before : List ℕ → List ℕ → Type 0) (pending : ByUnit UnitJobs) (r : Refused) → NamesCycle Before pending r → NamesACycle r
 names_a_cycle Before pending r h = (units_of h.cycle, h.refusal)
 
--- ---- what happens to a unit
+-- ---- events of a unit
 
 -- a change of a unit has one end
 pub one_becomes : (s : State) (unit : List ℕ) (c : Change) (v w : State) → Becomes s unit c v → Becomes s unit c w → v ≡ w
@@ -65,7 +65,7 @@ one_becomes s unit c v w (alone holds) (along fails h) = absurd (holds fails)
 one_becomes s unit c v w (along fails h) (alone holds) = absurd (holds fails)
 one_becomes s unit c v w (along fails h) (along too k) = one_along _ unit v w h k
 
--- what happens to a unit is carried out in one way
+-- an event of a unit is carried out in one way
 pub one_carried : (t : ℕ) (unit : List ℕ) (event : UnitEvent) (s : State) (a b : List Action) (v w : State)
     → Carries t unit event s a v → Carries t unit event s b w → (a ≡ b) × (v ≡ w)
 one_carried t unit event s a b v w h k = (
@@ -79,7 +79,7 @@ one_carried t unit event s a b v w h k = (
 pub one_falling : (s u : State) (unit : List ℕ) (xs ys : List (List ℕ)) → AreByName (FallsWith s u unit) xs → AreByName (FallsWith s u unit) ys → xs ≡ ys
 one_falling s u unit xs ys h k = one_list_by_name (FallsWith s u unit) xs ys h.each k.each h.sorted k.sorted
 
--- they are told to stop to one end, with one list of actions
+-- their bound stops have one end, with one list of actions
 pub one_fall : (t : ℕ) (units : List (List ℕ)) (s : State) (a b : List Action) (v w : State)
     → FallDown t units s a v → FallDown t units s b w → (a ≡ b) × (v ≡ w)
 one_fall t units s a b v w all_told all_told = (refl, refl)
@@ -91,7 +91,7 @@ one_fall t (unit ∷ units) s a b v w (told_next {falling = falling} {u = u} {fi
     (subst (λ y. FallDown t (y ++ units) u rest w) same (subst (λ y. FallDown t (others ++ units) y rest w) (sym both.1) l)) in
     (ap (λ q. q ++ more) both.0 ∙ ap (λ q. other ++ q) later.0, later.1)
 
--- and so what happens to a unit has one end, with all that fall with it
+-- and so an event of a unit has one end, with all units that fall with it
 pub one_happened : (t : ℕ) (unit : List ℕ) (event : UnitEvent) (s : State) (a b : List Action) (v w : State)
     → Happens t unit event s a v → Happens t unit event s b w → (a ≡ b) × (v ≡ w)
 one_happened t unit event s a b v w (happens {falling = falling} {u = u} {first = first} {more = more} h are k)
@@ -103,7 +103,7 @@ one_happened t unit event s a b v w (happens {falling = falling} {u = u} {first 
 
 -- ---- which jobs begin
 
--- of two jobs not each is told before the other
+-- of two jobs not each is named before the other
 pub told_one_way : (j k : Job) → IsToldBefore j k → IsToldBefore k j → ⊥
 told_one_way j k (by_name l) (by_name m) = names_one_way j.unit k.unit l m
 told_one_way j k (by_name l) (stop_first {unit = unit}) = names_one_way unit unit l l
@@ -154,7 +154,7 @@ one_restart s unit v w (Restarts.puts none free) (isnt_put not) = absurd (not (n
 one_restart s unit v w (isnt_put not) (Restarts.puts none free) = absurd (not (none, free))
 one_restart s unit v w (isnt_put not) (isnt_put too) = refl
 
--- what comes of a deadline has one end, with one list of actions
+-- a deadline that is due has one end, with one list of actions
 pub one_come_due : (t : ℕ) (s : State) (unit : List ℕ) (a b : List Action) (v w : State) → ComesDue t s unit a v → ComesDue t s unit b w → (a ≡ b) × (v ≡ w)
 one_come_due t s unit a b v w (restarts is h) (restarts too k) = (refl, one_restart s unit v w h k)
 one_come_due t s unit a b v w (restarts is h) (ComesDue.passes isnt k) = absurd (isnt is)
@@ -308,7 +308,7 @@ one_reply_to s query r q (tells_enabling {asked = asked} {answer = a} h) (tells_
 one_reply_to s query r q (lists_units {names = xs} h) (lists_units {names = ys} k) = ap (λ names. Listed (each (unit_listed s) names)) (one_list_of_known s xs ys h k)
 one_reply_to s query r q lists_jobs lists_jobs = refl
 
--- ---- what happens has one outcome
+-- ---- a happening has one outcome
 
 -- it has one end, with one list of actions
 pub one_followed : (t : ℕ) (s : State) (happening : Happening) (a b : List Action) (v w : State)
@@ -330,7 +330,7 @@ one_followed t s happening a b v w (ticks timers are h) (ticks others too k) =
     let same = one_deadlines s.units others timers too are in
     one_fired t timers s a b v w h (subst (λ i. Fires t i s b w) same k)
 
--- a tick that asks for something or changes the state has an effect
+-- a tick that gives an action or changes the state has an effect
 pub tick_has_effect : (t : ℕ) (s : State) (actions : List Action) (v : State) → Follows t s Tick actions v → ¬ ((actions ≡ []) × (v ≡ s)) → ¬ HasNoEffect t s Tick
 tick_has_effect t s actions v follows differs (is_idle quiet) = differs (one_followed t s Tick actions [] v s follows quiet)
 

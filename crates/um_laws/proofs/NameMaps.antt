@@ -24,7 +24,7 @@ module _ {X : Type 0} where
   find_lookup q [] = refl
   find_lookup q (e ∷ es) = ap (cond (eq_by_cmp (slice_cmp nat_cmp) q e.0) (Some e.1)) (find_lookup q es)
 
-  -- what stands at a text
+  -- the value at a text
   pub get_seen : (m : BTreeMap (List ℕ) X) (q : List ℕ) → map.get (seen m) q ≡ tree.get (slice_cmp nat_cmp) m q
   get_seen m q = map.get-from_entries nat_list_cmp_total m.entries q ∙ find_lookup q m.entries
 

@@ -78,7 +78,7 @@ named_by_name tree asked is = by_resolution (resolution_of tree asked) (resoluti
     by_resolution (AtMask unit) named = named
     by_resolution Nowhere named = is
 
--- ---- what is named in Also=
+-- ---- the names in Also=
 
 read_name : (fits : List ℕ → Bool) (text name : List ℕ) (b : Bool) (warning : WarningKind) → fits text ≡ b → result_ok (cond b (Ok text) (Err warning)) ≡ Some name → fits name ≡ true
 read_name fits text name true warning e f = subst (λ t. fits t ≡ true) (same_Some text name f) e
@@ -90,7 +90,7 @@ name_of_word fits unit word name (Err warning) e f =
 name_of_word fits unit word name (Ok text) e f =
     read_name fits text name (fits text) UnreadableValue refl (sym (ap (λ r. result_ok (r and_then read_if fits)) e) ∙ f)
 
--- what is named fits
+-- each name passes the test
 names_fit : (fits : List ℕ → Bool) (unit : List ℕ) (values : List (List ℕ)) (name : List ℕ) → Among (names_of fits unit values) name → fits name ≡ true
 unfolding names_reading
 names_fit fits unit values name is =

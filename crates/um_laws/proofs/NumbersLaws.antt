@@ -31,7 +31,7 @@ counts_rise : (a b : ℕ) (ns : List ℕ) → CountsUp a ns b → a ≤ b
 counts_rise a b ns no_more = omega arith
 counts_rise a b ns (one_more {ns = rest} k) = omega (arith, counts_rise (a + 1) b rest k)
 
--- what stands at a place is that many more than the first, and less than the next one
+-- the number at a place is the first plus the place, and below the next one
 counted_at : (a b : ℕ) (ns : List ℕ) → CountsUp a ns b → (i n : ℕ) → slice_get ns i ≡ Some n → (n ≡ a + i) × (n < b)
 counted_at a b ns no_more i n e = absurd (none-some n e)
 counted_at a b ns (one_more {ns = rest} k) zero n e =
@@ -97,7 +97,7 @@ settled_counts t s actions v (Settles.rests none) = no_more
 settled_counts t s actions v (begins_next {u = u} {first = first} {more = more} j n h k) =
     both_count s u v first more (happens_counts t j.unit (begins j.kind) (begun s j) first u h) (settled_counts t u more v k)
 
--- what happens to a unit, and the jobs that begin by that
+-- an event of a unit, and the jobs that begin by it
 happened_counts : (t : ℕ) (unit : List ℕ) (event : UnitEvent) (s u v : State) (first more : List Action) → Happens t unit event s first u → Settles t u more v → Counts s (first ++ more) v
 happened_counts t unit event s u v first more h k = both_count s u v first more (happens_counts t unit event s first u h) (settled_counts t u more v k)
 
@@ -115,7 +115,7 @@ fired_counts t timers s actions v (Fires.fires_next {more = z} d n first due (Fi
     both_count s p v (x ++ y) z (both_count s u p x y (due_counts t s n x u h) (settled_counts t u y p k)) (fired_counts t (maps.remove timers n) p z v l)
 fired_counts t timers s actions v (Fires.fires_next {more = z} d n first due (FiresOne.is_gone isnt) l) = fired_counts t (maps.remove timers n) s z v l
 
--- what a command changes starts nothing by itself
+-- a command's change starts nothing by itself
 same_next : {profile : Profile} (s : State) (command : Command) (u : State) → Changes profile s command u → u.next ≡ s.next
 same_next s command u (puts e) = refl
 same_next s command u (links e) = refl

@@ -6,7 +6,7 @@ use Rattle.um_laws.proofs.AmongLaws.{among_or_not, among_contained, contains_amo
 use Rattle.um_model.proofs.LeastLaws.{IsDecided, Among}
 
 module _ {A : Type 0} where
-  -- what stands at a place is among the list
+  -- the element at a place is among the list
   pub among_at : (xs : List A) (k : ℕ) (d : A) → k < length xs → Among xs (get_or xs k d)
   among_at xs k d few = among_contained xs (get_or xs k d) (Contains-get_or xs k d few)
 

@@ -1,5 +1,5 @@
--- Cycles under another order, and turned round; where numbers ascend there is none. Of finitely many nodes there is a cycle or none,
--- and where there is none some node is first.
+-- Cycles under another order, and turned round; if numbers ascend there is none. Of finitely many nodes there is a cycle or none,
+-- and if there is none some node is first.
 use Rattle.std.proofs.Common.{◌≡◌, ◌<◌, ◌⊎◌, ℕ, List, [], ◌∷◌, ◌++◌, All, refl, sym, ap, subst, inl, inr, arith}
 use Rattle.std.proofs.lemmas.List.Elements.{All-nil, All-cons, All-head, All-tail, All-append}
 use Rattle.um_model.specs.Order.{IsCycle, LeadsTo}
@@ -45,12 +45,12 @@ leads_up : (f : ℕ → ℕ) (P : ℕ → ℕ → Type 0) → ((x y : ℕ) → P
 leads_up f P up x [] y h = up x y h
 leads_up f P up x (z ∷ zs) y h = omega (arith, up x z h.0, leads_up f P up z zs y h.1)
 
--- where nodes have numbers that ascend, there is no cycle
+-- if nodes have numbers that ascend, there is no cycle
 pub no_cycle : (f : ℕ → ℕ) (P : ℕ → ℕ → Type 0) → ((x y : ℕ) → P x y → f x < f y) → (c : List ℕ) → IsCycle P c → ⊥
 no_cycle f P up [] h = h
 no_cycle f P up (x ∷ xs) h = omega (arith, leads_up f P up x xs x h)
 
--- ---- what leads to what
+-- ---- ways from node to node
 
 module _ {U : Type 0} (P : U → U → Type 0) where
   -- a way leads from the one to the other
@@ -75,7 +75,7 @@ module _ {U : Type 0} (P : U → U → Type 0) where
   leads_further : (x y z : U) → LeadsOn x y → LeadsOn y z → LeadsOn x z
   leads_further x y z r s = let way = way_of y z s in goes_on x y z way.0 r way.1
 
-  -- what leads on comes before something
+  -- a node from which a way leads comes before some node
   pub sets_out : (x y : U) → LeadsOn x y → (z : U) × P x z
   sets_out x y (first h) = (y, h)
   sets_out x y (next {a = z} r h) = sets_out x z r
@@ -94,7 +94,7 @@ module _ {U : Type 0} (P : U → U → Type 0) where
     pub free : (x : U) → ¬ (P x b)
     pub leads : (b ≡ a) ⊎ LeadsOn b a
 
-  -- where a list has all that comes before another or after one
+  -- if a list has all nodes that come before another or after one
   module _ (nodes : List U) (covers : (x y : U) → P x y → Among nodes x × Among nodes y) (decided : (x y : U) → IsDecided (P x y)) where
     leads_within : (x y : U) → LeadsOn x y → Among nodes x × Among nodes y
     leads_within x y (first h) = covers x y h
@@ -143,7 +143,7 @@ module _ {U : Type 0} (P : U → U → Type 0) where
               (found.0, record { free = found.1.free; leads = inr (by_start found.0 r found.1.leads) })
           by_leads (inr isnt) others = others a (without_first x xs a before isnt)
 
-      -- where there is no cycle, each node is first or something that is first leads to it
+      -- if there is no cycle, each node is first or something that is first leads to it
       pub first_of_all : (a : U) → Among nodes a → (b : U) × Among nodes b × IsFirstOf a b
       first_of_all a is =
           let found = first_among nodes a (λ y r. (leads_within y a r).0) in
@@ -153,7 +153,7 @@ module _ {U : Type 0} (P : U → U → Type 0) where
           by_start b (inl same) = subst (Among nodes) (sym same) is
           by_start b (inr r) = (leads_within b a r).0
 
--- ---- told from the least node on
+-- ---- from the least node on
 
 -- the first of the list is at most each
 abbrev pub BeginsWithLeastBy : {U : Type 0} → (U → U → Type 0) → List U → Type 0

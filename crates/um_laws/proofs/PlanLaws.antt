@@ -1,5 +1,5 @@
--- Scenes that say the same of the units that are known: what is demanded in the one is what is demanded in the other, a plan of the one
--- is a plan of the other, and both are refused for the same causes.
+-- Scenes that say the same of the units that are known: the same is demanded in both, a plan of the one is a plan of the other, and both
+-- are refused for the same causes.
 use Rattle.std.proofs.Common.{◌≡◌, ◌↔◌, ◌∙◌, ℕ, List, Option, Some, refl, sym, subst, inl, inr}
 use Rattle.um_model.specs.Jobs.{Job, ComesBefore, DropsOne, GoesBefore, starts, stops, stops_then_starts, stops_then_starts_before, of_one_unit, jobs_of_unit, jobs_for}
 use Rattle.um_model.specs.Least.{IsLeast, IsNamedBefore, NamesLeast}
@@ -59,7 +59,7 @@ comes_same P Q after f j k c = record { pends = c.pends; waits = c.waits; goes =
 -- ---- one way; the other way is the same with the scenes changed about
 module _ (IsKnown : List ℕ → Type 0) (root : Demand × List ℕ) (known : IsKnown root.1) where
   module _ (s t : Scene) (a : AreAlike IsKnown s t) where
-    -- what is demanded is known, and demanded in the other scene
+    -- each demanded unit is known, and demanded in the other scene
     pub demands_same : (p : Demand × List ℕ) → Demands s root p → IsKnown p.1 × Demands t root p
     demands_same p d =
         demanded_forth (λ x. x) IsKnown s.Depends t.Depends (λ x. s.activity x ≡ Active) (λ x. t.activity x ≡ Active) s.IsLoadable t.IsLoadable
@@ -104,7 +104,7 @@ module _ (IsKnown : List ℕ → Type 0) (root : Demand × List ℕ) (known : Is
     counts_same x o (stopped nr ns sp) = stopped (λ r. nr (there _ r)) (λ r. ns (there _ r)) (here _ sp)
     counts_same x o (left nr ns np) = left (λ r. nr (there _ r)) (λ r. ns (there _ r)) (λ r. np (there _ r))
 
-    -- what counts for a unit makes the same of its jobs
+    -- the demand that counts for a unit gives the same jobs
     jobs_same : (x : List ℕ) (o : Option Demand) → Counts s root x o → jobs_for o (s.activity x) (jobs_of_unit s.pending x) ≡ jobs_for o (t.activity x) (jobs_of_unit t.pending x)
     jobs_same x o (restarted r) = let k = (demands_same s t a _ r).0 in λ i. jobs_for (Some Restart) (a.activity x k i) (a.pending x i)
     jobs_same x o (started nr st) = let k = (demands_same s t a _ st).0 in λ i. jobs_for (Some Start) (a.activity x k i) (a.pending x i)

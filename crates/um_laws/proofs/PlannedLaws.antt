@@ -1,5 +1,5 @@
--- A transaction has one plan, and is refused for one cause or none: where finitely many units depend on one another and what a scene says
--- is decided.
+-- A transaction has one plan, and is refused for one cause or none, if finitely many units depend on one another and the relations of its
+-- scene are decided.
 use Rattle.std.proofs.Common.{◌≡◌, ◌≢◌, ◌⊎◌, ◌∙◌, ℕ, List, ◌∷◌, ◌++◌, Option, Some, None, refl, sym, ap, inl, inr}
 use Rattle.std.proofs.lemmas.Option.{none-some}
 use Rattle.std.specs.FinMap as map
@@ -31,7 +31,7 @@ use Rattle.um_model.proofs.SameUnits.{same_job_state}
 use Rattle.um_model.proofs.TimersLaws.{among_keys, named_trans, one_named_first, same_name, same_option}
 use Rattle.um_model.proofs.UnitLaws.{same_tidy}
 
--- finitely many units depend on one another, what the scene says of them is decided, and a unit can't be started for one reason or none
+-- finitely many units depend on one another, the scene's relations of them are decided, and a unit can't be started for one reason or none
 pub record IsFinite (scene : Scene) (units : List (List ℕ)) : Type 0 where
   pub within : (kind : DependencyKind) (x y : List ℕ) → scene.Depends kind x y → Among units x × Among units y
   pub depends : (kind : DependencyKind) (x y : List ℕ) → IsDecided (scene.Depends kind x y)
@@ -151,7 +151,7 @@ cycle_or_no_refusal Before decided pending = by_cycle (jobs_cycle_or_none Before
     by_cycle (inl found) = named found.0 found.1
     by_cycle (inr none) = inr (λ r h. none h.cycle h.closed)
 
--- where no cause refuses the plan, its jobs have no cycle
+-- if no cause refuses the plan, its jobs have no cycle
 pub free_of_causes : (scene : Scene) (root : Demand × List ℕ) (mode : JobMode) (after : ByUnit UnitJobs) → ((r : Refused) → ¬ (CausesOfPlan scene root mode after r))
     → (cycle : List Job) → ¬ (IsCycle (ComesBefore scene.IsBefore after) cycle)
 free_of_causes scene root mode after none cycle c = none (ordering_cycle (units_of turned.0)) (last (record { cycle = turned.0; closed = turned.1; least = turned.2; refusal = refl }))
@@ -197,7 +197,7 @@ module _ (scene : Scene) (units : List (List ℕ)) (finite : IsFinite scene unit
       same_jobs : (unit : List ℕ) → jobs_of_unit u unit ≡ jobs_of_unit v unit
       same_jobs unit = let c = counts_some unit in p.jobs unit c.0 c.1 ∙ sym (q.jobs unit c.0 c.1)
 
-  -- what the demand that counts for the unit makes of its jobs
+  -- the jobs of the unit after the demand that counts for it
   planned_jobs : List ℕ → UnitJobs
   planned_jobs unit = jobs_for (counts_some unit).0 (scene.activity unit) (jobs_of_unit scene.pending unit)
 

@@ -1,4 +1,4 @@
--- Where a list has all that is reached, and each step of the rule is decided, it is decided what is reached; and a list has just that.
+-- If a list has all that are reached, and each step of the rule is decided, then it is decided which are reached; and a list has just these.
 use Rattle.std.proofs.Common.{◌⊎◌, List, [], ◌∷◌, subst, inl, inr}
 use Rattle.um_model.specs.Reached.{Reached, first, next}
 use Rattle.um_laws.proofs.AmongLaws.{both_decided, either_decided, decided_as, AnyOf, any_decided, IsListOf, list_of}
@@ -18,7 +18,7 @@ module _ {A : Type 0} (First : A → Type 0) (Next : A → A → Type 0) where
   straight [] a b step = step
   straight (k ∷ ks) a b step = inl (straight ks a b step)
 
-  -- what leads to one over itself leads to it without
+  -- a way to one over itself gives a way without that
   to_itself : (ks : List A) (a k : A) → Via (k ∷ ks) a k → Via ks a k
   to_itself ks a k (inl way) = way
   to_itself ks a k (inr ways) = ways.0
@@ -27,7 +27,7 @@ module _ {A : Type 0} (First : A → Type 0) (Next : A → A → Type 0) where
   from_itself ks k b (inl way) = way
   from_itself ks k b (inr ways) = ways.1
 
-  -- two ways that meet in one of the list are a way
+  -- two ways joined at one of the list are a way
   joined : (ks : List A) (a b c : A) → Among ks b → Via ks a b → Via ks b c → Via ks a c
   joined [] a b c none way more = absurd none
   joined (k ∷ ks) a b c (inl is) way more =
@@ -37,7 +37,7 @@ module _ {A : Type 0} (First : A → Type 0) (Next : A → A → Type 0) where
   joined (k ∷ ks) a b c (inr later) (inr ways) (inl more) = inr (ways.0, joined ks k b c later ways.1 more)
   joined (k ∷ ks) a b c (inr later) (inr ways) (inr more) = inr (ways.0, more.1)
 
-  -- where a way leads from what is reached is reached
+  -- the end of a way from one that is reached is reached
   reached_via : (ks : List A) (a b : A) → Reached First Next a → Via ks a b → Reached First Next b
   reached_via [] a b reached step = next reached step
   reached_via (k ∷ ks) a b reached (inl way) = reached_via ks a b reached way
@@ -67,6 +67,6 @@ module _ {A : Type 0} (First : A → Type 0) (Next : A → A → Type 0) where
           decided_as (back b) (led b)
           (either_decided (begins b) (any_decided (λ a. First a × Via cover a b) (λ a. both_decided (begins a) (via_decided leads cover a b)) cover))
 
-      -- a list has just what is reached
+      -- a list has just those that are reached
       pub reached_list : (xs : List A) × IsListOf (Reached First Next) xs
       reached_list = list_of (Reached First Next) reached_or_not cover covers

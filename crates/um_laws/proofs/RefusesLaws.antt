@@ -27,7 +27,7 @@ by_cause : (b : Bool) (q : Refused) → IsOfCommand q → (r : Refused) → caus
 by_cause true q of r e = subst IsOfCommand (same_Some q r e) of
 by_cause false q of r e = absurd (none-some r e)
 
--- those of what is put into the tree
+-- those of a file that is put into the tree
 by_causes : (a b c d : Bool) (path : List ℕ) (r : Refused)
     → cond a (Some (bad_path path)) (cond b (Some (exists_at path)) (cond c (Some (too_large Text)) (cond d (Some (too_large Entries)) None))) ≡ Some r → IsOfCommand r
 by_causes true b c d path r e = by_cause true (bad_path path) (inl (omega arith)) r e

@@ -1,4 +1,4 @@
--- Which request the bytes of a frame are, from what is known of them.
+-- The request that the bytes of a frame are, by the parts that were read of them.
 use Rattle.std.proofs.Common.{◌≡◌, ℕ, List, Bool, true, false, Option, None, Some, Err, cond, refl}
 use Rattle.std.specs.Str.{IsUtf8, is_utf8}
 use Rattle.std.proofs.lemmas.Str.{IsUtf8-from_is_utf8, is_utf8-from_IsUtf8}

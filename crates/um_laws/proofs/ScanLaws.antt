@@ -7,7 +7,7 @@ use Rattle.um_model.specs.declared.service.UnitState.{UnitState}
 
 -- ---- process numbers
 
--- what has a number is held
+-- a unit that has a number is held
 number_is_held : (o : Option UnitState) (number : ℕ) → HasNumber (unwrap_or o dead_unit) number → is_some o ≡ true
 number_is_held (Some u) number has = refl
 number_is_held None number (inl e) = cc

@@ -1,4 +1,4 @@
--- What a plan for a unit is made from is finite; and the known units are listed and counted in one way.
+-- The scene of a plan is finite; and the known units are listed and counted in one way.
 use Rattle.std.proofs.Common.{◌≡◌, ◌≢◌, ◌∙◌, ◌↔◌, ℕ, suc, max, Bool, true, false, true≢false, List, [], ◌∷◌, ◌++◌, AllPairs, Contains, Option, Some, None, is_some, refl, sym, ap, subst, inl, inr, arith}
 use Rattle.std.proofs.lemmas.Option.{none-some}
 use Rattle.std.specs.FinMap as map
@@ -79,9 +79,9 @@ held_or_list s named =
     covers unit (inl h) = inr (held_among s unit h)
     covers unit (inr is) = inl is
 
--- ---- what a plan is made from
+-- ---- the scene of a plan
 
--- a plan for a unit is made from finitely many units, and what it is made from is decided
+-- a plan for a unit is made from finitely many units, and the relations of its scene are decided
 pub finite_scene : (s : State) (named : List ℕ) → (units : List (List ℕ)) × IsFinite (scene_at s named) units
 finite_scene s named =
     let extras = held_or_list s named in

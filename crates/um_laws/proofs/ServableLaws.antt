@@ -39,7 +39,7 @@ pub servable_once : (size : ℕ) (s : State) → IsProp (IsServable size s)
 unfolding of_parts
 servable_once size s p q = ap (of_parts size s) (parts_once size s (p.light, p.few, p.free) (q.light, q.few, q.free))
 
--- ---- a state is servable where it has room and a load of its loaded tree isn't refused
+-- ---- a state is servable if it has room and a load of its loaded tree isn't refused
 
 pub loads_servable : (size : ℕ) (s : State) → ((r : Refused) → ¬ CausesOfLoad s s.loaded r) → ¬ IsTooHeavy size s → IsServable size s
 loads_servable size s none light = record { light = light; few = λ r crowded. none r (at_first crowded); free = loads_free s s.loaded none }
@@ -50,7 +50,7 @@ refused_unservable size s r (at_second none circle) h = h.free circle.cycle circ
 
 -- ---- a state in which nothing is held
 
--- no unit counts for an empty tree where nothing is held
+-- no unit counts for an empty tree if nothing is held
 module _ (tree : ReadTree) (empty : tree.entries ≡ map.empty) (Extra : List ℕ → Type 0) (none : (x : List ℕ) → ¬ Extra x) where
   none_long : (n : ℕ) → KnowsSoMany tree Extra n → n ≡ 0
   none_long n k = sym k.long ∙ by k.names (λ x is. (k.whole x).0 is)
@@ -85,7 +85,7 @@ blank_servable size s room blank = record { light = blank_light size s room blan
 
 -- ---- a step
 
--- what happens leaves room: the state weighs no more after it
+-- a happening leaves room: the state weighs no more after it
 happening_keeps_light : {profile : Profile} (size : ℕ) (s : State) (moment : ℕ) (happening : Happening) (reply : Reply) (actions : List Action) (t : State)
     → Step size s (record { profile = profile; moment = moment; event = Happened happening }) reply actions t → ¬ IsTooHeavy size s → ¬ IsTooHeavy size t
 happening_keeps_light size s moment happening reply actions t step light h = by (a_count (IsHeld s) (held_list s).0 (held_list s).1 s.loaded)

@@ -1,4 +1,4 @@
--- What a session reads and puts out over its whole life.
+-- The readings and the output of a session over its whole life.
 use Rattle.std.proofs.Common.{◌≡◌, ℕ, List, [], ◌∷◌, ◌++◌, flat_map, Bool, true, false, Option, Err, refl, sym, ap, subst, ◌∙◌, append_assoc, append-nil}
 use Rattle.std.proofs.lemmas.Bool.{true≢false}
 use Rattle.um_model.specs.Frames.{frame_of, BeginsWith, BeginsTooLong}
@@ -9,7 +9,7 @@ use Rattle.um_model.specs.declared.refusals.Limit.TheVariants.{Frame}
 use Rattle.um_model.specs.declared.requests.Mode.TheVariants.{Service}
 use Rattle.um_model.proofs.Forms.{asked_in}
 
--- more bytes behind a stream leave its first frame
+-- more bytes after a stream leave its first frame
 begins_more : (stream bytes rest more : List ℕ) → BeginsWith stream bytes rest → BeginsWith (stream ++ more) bytes (rest ++ more)
 begins_more stream bytes rest more b = record {
   header = b.header;
@@ -120,7 +120,7 @@ read_frames : (s u : Session) (deeds : List Deed) → Lives s deeds u → More s
 read_frames s u [] rests = record { frames = []; behind = s.rest ++ []; are = none; read = whole; left = λ ok. append-nil s.rest }
 read_frames s u (deed ∷ deeds) (goes_on {t = t} does lives) = read_on s t u deed deeds s.failed refl does lives (read_frames t u deeds lives)
 
--- what is read are the requests of the frames of all that came, in their order
+-- a session reads the requests of the frames of all bytes that came, in their order
 pub session_reads : (s u : Session) (deeds : List Deed) → s.rest ≡ [] → s.failed ≡ false → Lives s deeds u
     → IsReadOf (flat_map bytes_fed deeds) (flat_map readings deeds) u
 session_reads s u deeds none_held ok lives =
@@ -149,7 +149,7 @@ put_out : (s u : Session) (deeds : List Deed) → Lives s deeds u → flat_map b
 put_out s u [] rests = sym (append-nil s.output)
 put_out s u (deed ∷ deeds) (goes_on {t = t} does lives) = put_on s t u deed deeds does (put_out t u deeds lives)
 
--- what is put out are the frames of the replies, in their order
+-- a session puts out the frames of the replies, in their order
 pub session_puts_out : (s u : Session) (deeds : List Deed) → s.output ≡ [] → Lives s deeds u
     → flat_map bytes_taken deeds ++ u.output ≡ flat_map frames_put deeds
 session_puts_out s u deeds none_put lives = put_out s u deeds lives ∙ ap (λ l. l ++ flat_map frames_put deeds) none_put

@@ -150,7 +150,7 @@ waits_or_not : (sub : SubState) → IsDecided (sub ≡ AutoRestart)
 waits_or_not AutoRestart = inl refl
 waits_or_not _ = inr (λ e. cc)
 
--- what comes of a deadline is carried out
+-- a deadline that is due is carried out
 a_due : (t : ℕ) (s : State) (unit : List ℕ) → HasOutcome (ComesDue t s unit)
 a_due t s unit = by_test (waits_or_not (state_of_unit s.units unit).sub)
   where

@@ -1,4 +1,4 @@
--- Runs and inputs of two lists, one behind the other: what both come to, and the state between them.
+-- Runs and inputs of two lists, one after the other: the result of both, and the state between them.
 use Rattle.std.specs.Prelude.{◌≡◌, ℕ, List, [], ◌∷◌, ◌++◌, Option, Some, None, refl}
 use Rattle.std.proofs.Common.{sym, ◌∙◌, ap}
 use Rattle.std.proofs.lemmas.Option.{same_Some}
@@ -29,7 +29,7 @@ pub record Parts (a b : List (List ℕ)) (all : List Input) : Type 0 where
   pub behind_are : inputs_of b ≡ Some behind
   pub all_are : all ≡ front ++ behind
 
--- What both lists of records spell is what the first spells, and then the second.
+-- Both lists of records spell the inputs of the first, and then those of the second.
 pub inputs_split : (a b : List (List ℕ)) (all : List Input) → inputs_of (a ++ b) ≡ Some all → Parts a b all
 inputs_split [] b all is = record { front = []; behind = all; front_are = refl; behind_are = is; all_are = refl }
 inputs_split (bytes ∷ a) b all is =

@@ -1,4 +1,4 @@
--- What an image of a store stands for is one state at most, of one layout; and what the sectors of a store say as its state.
+-- An image of a store stands for one state at most, of one layout; and the state of a store by its sectors.
 use Rattle.std.specs.Prelude.{drop, map}
 use Rattle.std.specs.List.{AllByRecursion}
 use Rattle.std.proofs.Common.{◌≡◌, ◌∙◌, ℕ, ◌≤◌, List, [], ◌∷◌, ◌++◌, Option, Some, None, refl, sym, ap, subst, arith}
@@ -46,7 +46,7 @@ one_state layout image s t one two =
 
 -- ---- one layout
 
--- what sizes a layout may have
+-- the sizes that a layout may have
 abbrev Bounds : ℕ → ℕ → Type 0
 Bounds slot log = (64 ≤ slot) × ((slot ≤ 1048576) × ((512 ≤ log) × (log ≤ 1048576)))
 
@@ -88,7 +88,7 @@ runs_exist size s (input ∷ inputs) =
     let (u, run) = runs_exist size t inputs in
     (u, goes reply actions step run)
 
--- so a state is the end of a run where no run ends elsewhere
+-- so a state is the end of a run if no run ends elsewhere
 pub run_to : {size : ℕ} {s t : State} {inputs : List Input} → ((u : State) → Run size s inputs u → u ≡ t) → Run size s inputs t
 run_to {size} {s} {t} {inputs} only = let (u, run) = runs_exist size s inputs in subst (Run size s inputs) (only u run) run
 
@@ -101,9 +101,9 @@ pub run_step : {size : ℕ} {s t u : State} {inputs : List Input} {input : Input
     → Run size s (inputs ++ input ∷ []) u
 run_step {size} {s} {t} {u} {inputs} {input} run step = run-append size s t u inputs (input ∷ []) run (goes _ _ step rests)
 
--- ---- what is spelled
+-- ---- spellings
 
--- what comes of both, where something does
+-- the two steps of a chain that gives a value
 pub bound : {A B : Type 0} (o : Option A) (f : A → Option B) (b : B) → (o >>= f) ≡ Some b → (a : A) × (o ≡ Some a) × (f a ≡ Some b)
 bound None f b e = absurd (none-some b e)
 bound (Some a) f b e = (a, refl, e)
@@ -136,7 +136,7 @@ inputs_push (bytes ∷ records) inputs input is fit =
 abbrev pub contents : Slot → ℕ → State → List Input → Contents
 contents slot generation start inputs = record { slot = slot; generation = generation; start = start; inputs = inputs }
 
--- A body spells the start and the records the inputs, and a run from there comes to the state.
+-- The body spells the start, the records spell the inputs, and a run over these from the start ends in the state.
 pub record ComesTo (size : ℕ) (body : List ℕ) (records : List (List ℕ)) (start : State) (inputs : List Input) (s : State) : Type 0 where
   pub start_is : nothing_left (state_at body) ≡ Some start
   pub inputs_are : inputs_of records ≡ Some inputs
@@ -151,7 +151,7 @@ module _ {format : Format} {layout : Layout} {image : Image} {slot : Slot} {gene
   pub records_told : all_records format layout generation image ≡ records
   records_told = sym store.records_are
 
-  -- what a store holds
+  -- the contents of the store
   pub contents_are : {start : State} {inputs : List Input} → nothing_left (state_at body) ≡ Some start → inputs_of records ≡ Some inputs
       → contents_of format layout image ≡ Some (contents slot generation start inputs)
   contents_are {start} {inputs} start_is inputs_are =
@@ -159,7 +159,7 @@ module _ {format : Format} {layout : Layout} {image : Image} {slot : Slot} {gene
       ∙ (λ k. start_is k >>= λ s. inputs_of (records_told k) >>= λ is. Some (contents slot generation s is))
       ∙ (λ k. inputs_are k >>= λ is. Some (contents slot generation start is))
 
-  -- A store whose sectors come to a state is a store of it.
+  -- A store whose body and records lead to a state is a store of it.
   pub store_of : {start : State} {inputs : List Input} {s : State} → ComesTo (body_limit layout) body records start inputs s → IsStoreOf layout image s
   store_of {start} {inputs} comes = record {
     stands = record {
@@ -173,7 +173,7 @@ module _ {format : Format} {layout : Layout} {image : Image} {slot : Slot} {gene
     none_later = store.none_later;
   }
 
--- what an image holds, told by its parts
+-- the contents of an image, by its parts
 pub record HasContents (format : Format) (layout : Layout) (image : Image) (c : Contents) : Type 0 where
   pub body : List ℕ
   pub newest : IsNewest layout image c.slot c.generation body
@@ -191,7 +191,7 @@ has_contents format layout image c is =
     let (inputs, are, same) = bound (inputs_of (all_records format layout n.generation image)) _ c others in
     subst (HasContents format layout image) (same_Some _ c same) (from_parts format layout image n s inputs newest start are)
 
--- The sectors of a store of a state, and what they come to.
+-- The body and the records of a store of a state, and how they lead to it.
 pub record IsHeld (format : Format) (layout : Layout) (image : Image) (s : State) : Type 0 where
   pub slot : Slot
   pub generation : ℕ
@@ -203,7 +203,7 @@ pub record IsHeld (format : Format) (layout : Layout) (image : Image) (s : State
   pub comes : ComesTo (body_limit layout) body records start inputs s
   pub holds : contents_of format layout image ≡ Some (contents slot generation start inputs)
 
--- ---- what a keeper makes of a store
+-- ---- how a keeper changes a store
 
 -- a record more is a step more
 pub comes_further : {size : ℕ} {body : List ℕ} {records : List (List ℕ)} {start : State} {inputs : List Input} {s t : State} {input : Input} {reply : Reply} {actions : List Action}
@@ -215,7 +215,7 @@ comes_further {records} {inputs} {input} comes fit step = record {
   run = run_step comes.run step;
 }
 
--- a state's own spelling comes to it without a record
+-- a state's own spelling leads to it without a record
 pub comes_anew : {size : ℕ} {s : State} → nothing_left (state_at (state_spelling s)) ≡ Some s → IsServable size s → ComesTo size (state_spelling s) [] s [] s
 comes_anew is may = record { start_is = is; inputs_are = refl; servable = may; run = rests }
 
@@ -241,7 +241,7 @@ empty_may layout = blank_servable (body_limit layout) empty_state (omega (arith,
 pub empty_store : {format : Format} {layout : Layout} {image : Image} {slot : Slot} {generation : ℕ} → IsStore format layout image slot generation (state_spelling empty_state) [] → IsStoreOf layout image empty_state
 empty_store {format} {layout} store = anew store empty_back (empty_may layout)
 
--- From what a keeper knows of an image without a run: no run over what it holds ends elsewhere.
+-- From the facts that a keeper has of an image without a run: no run over its contents ends elsewhere.
 pub stands_by_ends : (format : Format) {layout : Layout} {image : Image} {c : Contents} {s : State} → image 0 ≡ superblock format layout → contents_of format layout image ≡ Some c → IsServable (body_limit layout) c.start
     → ((t : State) → Run (body_limit layout) c.start c.inputs t → t ≡ s) → StandsFor layout image s
 stands_by_ends format {c} first holds may only = record { format = format; first = first; contents = c; holds = holds; servable = may; run = run_to only }
@@ -251,7 +251,7 @@ pub store_by_ends : (format : Format) {layout : Layout} {image : Image} {c : Con
 unfolding stands_by_ends
 store_by_ends format first holds may only free = record { stands = stands_by_ends format first holds may only; none_later = free }
 
--- and back: of whatever is told as its contents
+-- and back, for any contents that the function returns
 pub ends_of : (format : Format) {layout : Layout} {image : Image} {c : Contents} {s : State} → StandsFor layout image s → image 0 ≡ superblock format layout → contents_of format layout image ≡ Some c
     → IsServable (body_limit layout) c.start × ((t : State) → Run (body_limit layout) c.start c.inputs t → t ≡ s)
 ends_of format {layout} {image} {c} {s} one first holds =

@@ -200,7 +200,7 @@ whole_long s a b c f g tree loaded boot units pending =
       number_long 8 s.next,
     )
 
--- where so many units count as known by its loaded tree
+-- if its loaded tree counts for n units
 pub spelled_short : (s : State) (n : ℕ) → FitState s → CountsFor s.loaded (IsHeld s) n → length (state_spelling s) ≤ weight_of s.tree s.loaded.entries n
 spelled_short s n fit counts =
     let known = counts.by_tree in

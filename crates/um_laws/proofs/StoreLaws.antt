@@ -1,4 +1,4 @@
--- What the sectors of a store say: each header, body and record has one reading, and what isn't read doesn't count.
+-- The sectors of a store: each header, body and record has one reading, and unread sectors don't count.
 use Rattle.std.specs.Prelude.{◌≡◌, ◌⊎◌, ◌+◌, ◌-◌, ◌*◌, ◌%◌, ◌^◌, ◌<◌, ◌≤◌, ℕ, zero, suc, List, [], ◌∷◌, ◌++◌, length, take, drop, replicate, slice_index_or, codes, refl}
 use Rattle.std.proofs.Common.{sym, ◌∙◌, ap, subst, inl, inr, ⊎_elim, arith, append_assoc}
 use Rattle.std.proofs.Math.Seq.{take-append_seam}
@@ -15,7 +15,7 @@ use Rattle.um_model.specs.Store.{current, first_log_sector, area_sectors, area_s
 
 -- ---- the places of a format
 
--- of two generations one behind the other one is even
+-- of two successive generations one is even
 sides : (generation : ℕ) → ((generation % 2 ≡ 0) × ((generation + 1) % 2 ≡ 1)) ⊎ ((generation % 2 ≡ 1) × ((generation + 1) % 2 ≡ 0))
 sides zero = inl (refl, refl)
 sides (suc generation) = ⊎_elim (λ even. inr (subst (λ n. n % 2 ≡ 1) next even.1, omega (arith, even.0))) (λ odd. inl (subst (λ n. n % 2 ≡ 0) next odd.1, omega (arith, odd.0))) (sides generation)
@@ -33,7 +33,7 @@ odd_start layout generation odd =
     let one : first_log_sector layout + 1 * area_sectors Two layout ≡ first_log_sector layout + area_sectors Two layout = omega arith in
     ap (λ (n : ℕ). first_log_sector layout + n * area_sectors Two layout) odd ∙ one
 
--- two generations one behind the other have the two areas
+-- two successive generations have the two areas
 pub areas : (layout : Layout) (generation : ℕ)
     → ((area_start Two layout generation ≡ first_log_sector layout) × (area_start Two layout (generation + 1) ≡ first_log_sector layout + area_sectors Two layout))
     ⊎ ((area_start Two layout generation ≡ first_log_sector layout + area_sectors Two layout) × (area_start Two layout (generation + 1) ≡ first_log_sector layout))
@@ -59,7 +59,7 @@ longest_few Two = omega arith
 
 -- ---- headers
 
--- a header tells its generation
+-- a header holds its generation
 pub header_generation : (generation size : ℕ) → generation < 2 ^ 64 → big_number 8 (drop 8 (header_sector generation size)) ≡ generation
 unfolding header_sector filled
 header_generation generation size fits = big_number-reads_back 8 generation (big_bytes 8 size ++ replicate 488 0) fits
@@ -73,7 +73,7 @@ header_size generation size fits = big_number-reads_back 8 size (replicate 488 0
 size_fits : {layout : Layout} {sector : Sector} {generation size : ℕ} → IsHeader layout sector generation size → size < 2 ^ 64
 size_fits {layout} h = omega (arith, h.fits, layout.slot_most)
 
--- what a well-formed header says is read from it
+-- the fields of a well-formed header are read from it
 pub header_says : {layout : Layout} {sector : Sector} {generation size : ℕ} → IsHeader layout sector generation size
     → (big_number 8 (drop 8 sector) ≡ generation) × (big_number 8 (drop 16 sector) ≡ size)
 header_says {generation} {size} h = (
@@ -100,13 +100,13 @@ same_newest {layout} {image} {s} {t} {g} {h} {x} {y} one two =
     let both = same_header (subst (λ (k : Slot). IsHeader layout (image (slot_start layout k)) g one.size) slot one.header) two.header in
     (slot, both.0, one.body_is ∙ (λ i. body_at layout image (slot i) (both.1 i)) ∙ sym two.body_is)
 
--- and none where there is no header
+-- and none if there is no header
 pub no_newest : {layout : Layout} {image : Image} {s : Slot} {g : ℕ} {x : List ℕ} → IsNewest layout image s g x → HasNoHeader layout image → ⊥
 no_newest {s} {g} one none = none s g one.size one.header
 
 -- ---- bodies
 
--- what agrees there is the same joined
+-- sectors that agree are the same joined
 pub same_joined : (n : ℕ) (a b : Image) (at : ℕ) → ((i : ℕ) → i < n → b (at + i) ≡ a (at + i)) → joined n b at ≡ joined n a at
 same_joined zero a b at same = refl
 same_joined (suc n) a b at same =
@@ -116,17 +116,17 @@ same_joined (suc n) a b at same =
     (λ i below. let moved : suc at + i ≡ at + suc i = omega arith in ap b moved ∙ same (suc i) (omega (arith, below)) ∙ ap a (sym moved)) in
     λ k. first k ++ rest k
 
--- a whole sector has no zeros behind
+-- a whole sector is filled with no zeros
 pub filled_whole : (front : List ℕ) → length front ≡ 512 → filled front ≡ front
 unfolding filled
 filled_whole front is = let none : 512 - length front ≡ 0 = omega (arith, is) in ap (λ (n : ℕ). front ++ replicate n 0) none ∙ append-nil front
 
--- what fills a sector is read back from its front
+-- the bytes that a sector is filled from are read back from its front
 pub take-filled : (front rest : List ℕ) → take (length front) (filled front ++ rest) ≡ front
 unfolding filled
 take-filled front rest = ap (take (length front)) (append_assoc front (replicate (512 - length front) 0) rest) ∙ take-append_seam front (replicate (512 - length front) 0 ++ rest)
 
--- ---- what the reading of the newest body doesn't look at
+-- ---- sectors that the reading of the newest body doesn't look at
 
 module _ (layout : Layout) (a b : Image) (same : (j : ℕ) → IsSlotRead layout a j → b j ≡ a j) where
   -- Images that agree in all sectors that the reading looks at have the same newest body.
@@ -150,11 +150,11 @@ read_from_one layout image j (behind newest i below) = omega arith
 
 -- ---- log sectors
 
--- the zeros behind a part's bytes
+-- the zeros after a part's bytes
 abbrev zeros_behind : List ℕ → List ℕ
 zeros_behind payload = replicate (512 - length (replicate 32 0 ++ payload)) 0
 
--- a sector of the log tells its generation
+-- a sector of the log holds its generation
 pub log_generation : (generation number part size : ℕ) (payload : List ℕ) → generation < 2 ^ 64 → big_number 8 (drop 4 (log_sector generation number part size payload)) ≡ generation
 unfolding log_sector filled
 log_generation generation number part size payload fits =
@@ -183,7 +183,7 @@ pub apart : (layout : Layout) (slot : Slot) (j : ℕ) → slot_start layout slot
 apart layout A j low high = inl (omega (arith, high))
 apart layout B j low high = inr (omega (arith, low))
 
--- the log lies behind both
+-- the log lies past both
 pub behind_slot : (layout : Layout) (slot : Slot) (j : ℕ) → first_log_sector layout ≤ j → slot_start layout slot + layout.slot_sectors ≤ j
 behind_slot layout A j low = omega (arith, low)
 behind_slot layout B j low = omega (arith, low)
@@ -202,7 +202,7 @@ module _ {layout : Layout} {old image : Image} {slot : Slot} {generation : ℕ} 
   pub home_same : image (slot_start layout slot) ≡ old (slot_start layout slot)
   home_same = outside _ (apart layout slot (slot_start layout slot) (omega arith) (omega (arith, layout.slot_least)))
 
-  -- what changes in the other slot behind its header isn't read
+  -- a change in the other slot after its header isn't read
   pub kept_newest : image (slot_start layout (other slot)) ≡ old (slot_start layout (other slot)) → IsNewest layout image slot generation before
   kept_newest same = record {
     size = newest.size;
@@ -218,7 +218,7 @@ module _ {layout : Layout} {old image : Image} {slot : Slot} {generation : ℕ} 
 pub is_of : (generation number part size : ℕ) (payload : List ℕ) → generation < 2 ^ 64 → IsOf generation (log_sector generation number part size payload)
 is_of generation number part size payload last = record { name = log_name generation number part size payload; generation_is = log_generation generation number part size payload last }
 
--- where no sector is of a generation, no record of it begins
+-- if no sector is of a generation, no record of it begins
 none_from : {format : Format} {layout : Layout} {generation : ℕ} {image : Image} {next : ℕ}
     → ((j : ℕ) → next ≤ j → j < area_end format layout generation → IsOf generation (image j) → ⊥)
     → (number at : ℕ) (bytes : List ℕ) → next ≤ at → IsRecord format layout generation image number at bytes → ⊥
@@ -242,12 +242,12 @@ none_above format layout generation last image above none =
     (λ j low high is. let below : generation ≤ last = none generation j (omega (arith, low, within.0)) (omega (arith, high, within.1)) is in omega (arith, below, above))
     0 (area_start format layout generation) bytes (omega arith))
 
--- what agrees on a record's sectors has the record
+-- an image that agrees on a record's sectors has the record
 pub same_record : {format : Format} {layout : Layout} {generation number at : ℕ} {bytes : List ℕ} {a b : Image} → IsRecord format layout generation a number at bytes
     → ((i : ℕ) → i < part_count (length bytes) → b (at + i) ≡ a (at + i)) → IsRecord format layout generation b number at bytes
 same_record is same = record { last = is.last; some = is.some; short = is.short; within = is.within; parts = λ part below. same part below ∙ is.parts part below }
 
--- what agrees from a place on has the same records
+-- an image that agrees from a place on has the same records
 pub same_records : {format : Format} {layout : Layout} {generation : ℕ} {a b : Image} (number at : ℕ) (records : List (List ℕ))
     → ((j : ℕ) → at ≤ j → j < area_end format layout generation → b j ≡ a j)
     → AreRecords format layout generation a number at records → AreRecords format layout generation b number at records
@@ -277,7 +277,7 @@ blank_log generation is = no_name is.name
 
 -- ---- sector 0
 
--- sector 0 tells the layout's sizes
+-- sector 0 holds the layout's sizes
 pub superblock_says : (format : Format) (layout : Layout) → (big_number 4 (drop 8 (superblock format layout)) ≡ layout.slot_sectors) × (big_number 4 (drop 12 (superblock format layout)) ≡ layout.log_sectors)
 unfolding superblock filled
 superblock_says One layout = (
@@ -300,7 +300,7 @@ unfolding superblock filled
 superblock_name One layout = refl
 superblock_name Two layout = refl
 
--- which tells the format
+-- and the names of the formats differ
 names_differ : codes "UMDISK01" ≡ codes "UMDISK02" → ⊥
 names_differ e = let d : 49 ≡ 50 = ap (λ (l : List ℕ). slice_index_or l 7 0) e in absurd (omega (arith, d))
 

@@ -1,4 +1,4 @@
--- A unit is in start-pre only where the loaded profile serves ExecStartPre=: row by row of the table, and over all that an input has for its effect.
+-- A unit is in start-pre only if the loaded profile serves ExecStartPre=: row by row of the table, and over the effect of an input.
 use Rattle.std.proofs.Common.{ℕ, ◌≡◌, inl, inr, ◌∙◌, ◌+◌, Bool, true, false, true≢false, not, cond, ◌&&◌, List, [], nat_lt, Option, Some, None, unwrap_or, refl, sym, ap, subst, arith}
 use Rattle.std.proofs.lemmas.Bool.{ltb-true}
 use Rattle.std.specs.Cmp.Lexicographic.{slice_cmp}
@@ -48,7 +48,7 @@ use Rattle.um_laws.proofs.TransitionLaws.{by_cond}
 
 -- ---- settings
 
--- the settings have a command of ExecStartPre= only where the profile serves that
+-- the settings have a command of ExecStartPre= only if the profile serves that
 abbrev IsServed : Profile → ServiceSettings → Type 0
 IsServed p s = (i : ℕ) → has_place s.start_pre i ≡ true → serves_start_pre p ≡ true
 
@@ -252,7 +252,7 @@ module _ (p : Profile) (s : ServiceSettings) (c : Around) (served : IsServed p s
   row_may StopSigkill DeadlinePasses u may = rests_for_good_may (timed_out u)
   row_may sub event u may = may
 
-  -- what follows for a unit leaves it in a sub state of the profile
+  -- each change of a unit leaves it in a sub state of the profile
   pub transition_may : (u : UnitState) (e : UnitEvent) → is_sub_state_in p u.sub ≡ true → is_sub_state_in p (transition s c u e).unit.sub ≡ true
   transition_may u BoundStop may = by_cond Leaves (is_going (active_state_of u.sub)) (fails_start u.sub (row s c u (active_state_of u.sub) u.sub StopBegins)) (just u)
       (λ e. row_may u.sub StopBegins u may) (λ e. may)
@@ -298,12 +298,12 @@ carried_subs t unit event s actions v fit carries all =
     (changed_subs s unit (change_of t s unit event)
     (transition_may s.loaded.profile (settings_in s.loaded unit) (around t s unit) (settings_served s.loaded unit) (state_of_unit s.units unit) event (all unit)) all)
 
--- what the first profile has each has
+-- each profile has the sub states of the first
 each_may : (p : Profile) (sub : SubState) → is_sub_state_in One sub ≡ true → is_sub_state_in p sub ≡ true
 each_may p StartPre may = absurd (true≢false (sym may))
 each_may p _ may = refl
 
--- so a later one has what an earlier one has
+-- so a later profile has the sub states of an earlier one
 later_may : (earlier p : Profile) (sub : SubState) → is_sub_state_in earlier sub ≡ true → is_sub_state_in (later earlier p) sub ≡ true
 later_may One p sub may = each_may p sub may
 later_may Two p sub may = may
@@ -318,12 +318,12 @@ changes_subs profile s command u cancels all = all
 changes_subs profile s command u (demands_nothing is) all = all
 changes_subs profile s command u (plans is plan) all = all
 
--- no unit is in start-pre where none is held
+-- no unit is in start-pre if none is held
 pub none_in_pre : (s : State) → s.units ≡ map.empty → HaveSubStates s
 none_in_pre s none x =
     subst (λ units. is_sub_state_in s.loaded.profile (state_of_unit units x).sub ≡ true) (sym none)
     (ap (λ (o : Option UnitState). is_sub_state_in s.loaded.profile (unwrap_or o dead_unit).sub) (map.get-empty (slice_cmp nat_cmp) x))
 
--- what an input has for its effect keeps it so
+-- the effect of an input keeps it so
 pub takes_subs : {profile : Profile} (t : ℕ) (s : State) (event : Event) (actions : List Action) (v : State) → FitEvent event → TakesEffect profile t s event actions v → HaveSubStates s → HaveSubStates v
 takes_subs t = kept_taking t HaveSubStates (carried_subs t) (λ s j all. all) (λ s unit all. all) changes_subs (λ s boot all. none_in_pre (booted boot s) refl)

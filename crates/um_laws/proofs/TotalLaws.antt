@@ -1,4 +1,4 @@
--- Each state and input has a step: a command is refused or changes the state, and what happens has an effect or none.
+-- Each state and input has a step: a command is refused or changes the state, and a happening has an effect or none.
 use Rattle.std.proofs.Common.{ℕ, ◌≡◌, ◌≢◌, ◌⊎◌, ◌∙◌, Bool, true, false, true≢false, List, [], ◌∷◌, ◌++◌, Option, Some, None, Result, Ok, Err, refl, sym, ap, subst, inl, inr}
 use Rattle.std.proofs.lemmas.Option.{none-some, same_Some}
 use Rattle.std.specs.FinMap as map
@@ -77,15 +77,15 @@ there_or_not s verb asked = by_missing verb (missing_or_not s asked)
         restarts : (r : Refused) → ¬ IsNotThere s verbs.Restart asked r
         restarts r h = absurd (let b : ⊥ = elim h [ ] in b)
 
--- too many units are known with the jobs of the plan for what a command demands
+-- too many units are known with the jobs of the plan for a command's demand
 abbrev CrowdsByJobs : State → UnitVerb → List ℕ → Refused → Type 0
 CrowdsByJobs s verb asked r =
     (demand : Demand) × (after : ByUnit UnitJobs) × (demand_of verb (active_asked s asked) ≡ Some demand)
     × IsPlan (scene_at s (unit_asked s asked)) (demand, unit_asked s asked) after × IsCrowded s.loaded (IsHeld (record s { pending = after })) r
 
--- the plan of what a command demands
+-- the plan for a command's demand
 module _ (s : State) (verb : UnitVerb) (asked : List ℕ) (mode : JobMode) where
-  -- where it demands nothing, no plan is refused
+  -- if it demands nothing, no plan is refused
   nothing_planned : demand_of verb (active_asked s asked) ≡ None → (r : Refused) → ¬ (HasNoPlan s verb asked mode r)
   nothing_planned none r h = none-some h.demand (sym none ∙ h.demanded)
 
@@ -99,7 +99,7 @@ module _ (s : State) (verb : UnitVerb) (asked : List ℕ) (mode : JobMode) where
         by_scene : (units : List (List ℕ)) × IsFinite (scene_at s named) units → (after : ByUnit UnitJobs) × IsPlan (scene_at s named) (demand, named) after
         by_scene (units, finite) = a_plan (scene_at s named) units finite (demand, named)
 
-    -- what holds of one plan for what is demanded, holds of each
+    -- a property of one plan for the demand is one of each
     of_this_plan : (Holds : Demand → ByUnit UnitJobs → Type 0) (after : ByUnit UnitJobs) → IsPlan (scene_at s named) (demand, named) after
         → (d : Demand) (other : ByUnit UnitJobs) → demand_of verb (active_asked s asked) ≡ Some d → IsPlan (scene_at s named) (d, named) other
         → Holds d other → Holds demand after
@@ -173,7 +173,7 @@ module _ (s : State) (verb : UnitVerb) (asked : List ℕ) (mode : JobMode) where
       by_tests (inr few) (inl (r, (demand, after, is, plan, crowded))) = inl (r, by_jobs is plan crowded)
       by_tests (inr few) (inr fit) = inr (neither few fit)
 
-  -- one cause refuses what is demanded, or none does
+  -- one cause refuses the demand, or none does
   plan_or_none : OneOrNone (HasNoPlan s verb asked mode)
   plan_or_none = by_demand (demand_of verb (active_asked s asked)) refl
     where
@@ -181,7 +181,7 @@ module _ (s : State) (verb : UnitVerb) (asked : List ℕ) (mode : JobMode) where
       by_demand None e = inr (nothing_planned e)
       by_demand (Some demand) e = plan_refused_or_not demand e
 
-  -- where nothing refuses the command, a state follows
+  -- if nothing refuses the command, a state follows
   a_planned : (profile : Profile) → (u : State) × Changes profile s (ForUnit verb asked mode) u
   a_planned profile = by_demand (demand_of verb (active_asked s asked)) refl
     where
@@ -198,7 +198,7 @@ module _ (s : State) (verb : UnitVerb) (asked : List ℕ) (mode : JobMode) where
 -- ---- a command is refused or changes the state
 
 module _ (profile : Profile) where
-  -- what becomes of a command: it is refused, or changes the state
+  -- the outcome of a command: it is refused, or changes the state
   abbrev Becomes : State → Command → Type 0
   Becomes s command = ((r : Refused) × Refuses profile s command r) ⊎ (((r : Refused) → ¬ (Refuses profile s command r)) × ((u : State) × Changes profile s command u))
 
@@ -298,7 +298,7 @@ module _ (profile : Profile) where
 
   -- ---- a command is refused or obeyed
 
-  -- it is refused, or does what it does at the moment t
+  -- it is refused, or takes effect at the moment t
   abbrev IsAnswered : ℕ → State → Command → Type 0
   IsAnswered t s command = ((r : Refused) × Refuses profile s command r) ⊎ (((r : Refused) → ¬ (Refuses profile s command r)) × HasOutcome (Does profile t s command))
 
@@ -332,7 +332,7 @@ module _ (profile : Profile) where
   command_answered t s (ResetFailed (Some asked)) = reset_one t s asked (missing_or_not s asked)
   command_answered t s (Install verb unit) = by_change t s _ (install_becomes s verb unit)
 
--- ---- what happens has an effect or none
+-- ---- a happening has an effect or none
 
 -- a step from the state, by this input
 abbrev HasStep : ℕ → State → Profile → ℕ → Event → Type 0
@@ -404,7 +404,7 @@ same_or_not s v keeps = by_parts (same_units v.units s.units) (same_pending v.pe
     by_parts (inl units) (inr apart) next = inr (λ e. apart (ap (λ (x : State). x.pending) e))
     by_parts (inl units) (inl pending) (inr apart) = inr (λ e. apart (ap (λ (x : State). x.next) e))
 
--- a tick with these actions, that comes to this state, has an effect or none
+-- a tick with these actions that leads to this state has an effect or none
 effect_of : (t : ℕ) (s : State) (actions : List Action) (v : State) → IsDecided (v ≡ s) → Follows t s Tick actions v → HasEffect t s Tick
 effect_of t s [] v (inl same) follows = inl (is_idle (subst (Follows t s Tick []) same follows))
 effect_of t s [] v (inr apart) follows = inr (tick_has_effect t s [] v follows (λ both. apart both.1), ([], v, follows))
@@ -425,7 +425,7 @@ happening_has_effect t s (Booted boot) = a_boot t s boot (same_name boot s.boot)
 
 -- ---- a step
 
--- what comes of an event has room or not
+-- the state after an event has room or not
 room_or_not : (size : ℕ) (event : Event) (u : State) → IsDecided (HasNoRoom size event u)
 room_or_not size (Commanded command) u = heavy_or_not size u
 room_or_not size (Happened happening) u = inr (λ never. never)

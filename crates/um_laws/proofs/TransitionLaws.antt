@@ -113,7 +113,7 @@ module _ (s : ServiceSettings) (c : Around) (Known : ℕ → Type 0) (Held : Typ
   winds_down_good : (w : UnitState) (i : ℕ) → Old w → Good (winds_down s c w i)
   winds_down_good w i old = by_cond Good (has_place s.stop i) (stop_command s c w i) (terminates s c w) (λ e. stop_command_good w i old) (λ e. terminates_good w old)
 
-  -- what becomes of the Start job changes nothing of this
+  -- the fate of the Start job changes nothing of this
   started : (v : Change) → Good v → Good (start_ends v)
   started v g = record { held = g.held; fresh = g.fresh; below = g.below }
 
@@ -323,7 +323,7 @@ spawned_one : (a n : ℕ) → (a ≡ 0) ⊎ (n < process_limit) → a ≡ 1 → 
 spawned_one a n (inl e) f = omega arith
 spawned_one a n (inr e) f = e
 
--- where a process is started there is a number for it
+-- if a process is started there is a number for it
 pub has_room : (s : ServiceSettings) (c : Around) (u : UnitState) (e : UnitEvent) → spawned (transition s c u e).order ≡ 1 → c.next < process_limit
 has_room s c u e = spawned_one _ c.next (transition_good s c (HasNumber u) (HasItsProcess u) u e (λ n k. k) (λ q. q)).below
 

@@ -1,4 +1,4 @@
--- What a store's reading doesn't look at doesn't count: images that agree in all else stand for the same state, or for none.
+-- Sectors that a store's reading doesn't look at don't count: images that agree in all others stand for the same state, or for none.
 use Rattle.std.proofs.Common.{◌≡◌, ◌↔◌, ◌∙◌, ℕ, List, Option, Some, None, refl, sym, ap}
 use Rattle.um_model.specs.Bytes.{◌>>=◌, nothing_left}
 use Rattle.um_model.specs.Disk.{Image}
@@ -13,7 +13,7 @@ use Rattle.um_laws.proofs.CountedLaws.{unread_all}
 use Rattle.um_laws.proofs.ImageLaws.{newest_some, newest_none}
 use Rattle.um_laws.proofs.StoreLaws.{unread_newest, unread_none}
 
--- what the newest slot holds with these records
+-- the contents of the newest slot with these records
 abbrev held_with : Newest → List (List ℕ) → Option Contents
 held_with n records =
     nothing_left (state_at n.body) >>= λ s. inputs_of records >>= λ inputs. Some (record { slot = n.slot; generation = n.generation; start = s; inputs = inputs })

@@ -54,7 +54,7 @@ no_more (unit ∷ units) later earlier none =
     let others = no_more units later earlier none in
     omega arith
 
--- and of one of them fewer: fewer in all
+-- if of no unit more wait, and of one of these fewer, fewer wait in all
 fewer : (units : List (List ℕ)) (later earlier : ByUnit UnitJobs) (unit : List ℕ) → list_any (eq_by_cmp (slice_cmp nat_cmp) unit) units ≡ true
     → NoMoreWait later earlier → waits_in (jobs_of_unit later unit) < waits_in (jobs_of_unit earlier unit) → waiting units later < waiting units earlier
 fewer [] later earlier unit is none less = absurd (true≢false (sym is))
@@ -105,7 +105,7 @@ running_waits Start j is =
     let one = ap waits is in
     omega arith
 
--- where a start fails no more wait: what it takes along is gone
+-- after a failed start no more wait: the starts that it takes along are gone
 along_no_more : (s : State) (failed : List ℕ) (v : State) → TakesAlong s failed v → NoMoreWait v.pending s.pending
 along_no_more s failed v h unit =
     elim (cases_lt (waits_in (jobs_of_unit s.pending unit)) (waits_in (jobs_of_unit v.pending unit))) as (λ _. waits_in (jobs_of_unit v.pending unit) ≤ waits_in (jobs_of_unit s.pending unit)) [
@@ -143,12 +143,12 @@ carried_no_more t unit event s actions v h =
     let c = change_of t s unit event in
     then_no_more s.pending (changed s unit c).pending v.pending (changed_no_more s unit c) (becomes_no_more s unit c v h.state)
 
--- nor where units are told to stop at once
+-- nor after bound stops of units
 fallen_no_more : (t : ℕ) (units : List (List ℕ)) (s : State) (actions : List Action) (v : State) → FallDown t units s actions v → NoMoreWait v.pending s.pending
 fallen_no_more t =
     over_falls t (λ s actions v. NoMoreWait v.pending s.pending) (λ s. as_many s.pending) (λ s u v first more. then_no_more s.pending u.pending v.pending) (carried_no_more t)
 
--- nor after what happens to a unit, beyond that unit's own jobs
+-- nor after an event of a unit, beyond that unit's own jobs
 happens_no_more : (t : ℕ) (unit : List ℕ) (event : UnitEvent) (s : State) (actions : List Action) (v : State) → Happens t unit event s actions v
     → NoMoreWait v.pending (changed s unit (change_of t s unit event)).pending
 happens_no_more t unit event s actions v (Happens.happens {falling = falling} {u = u} {more = more} carries falls later) =

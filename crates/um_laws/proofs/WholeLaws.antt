@@ -46,7 +46,7 @@ use Rattle.um_laws.proofs.SceneLaws.{held_list}
 use Rattle.um_laws.proofs.StateLengthLaws.{spelled_short}
 use Rattle.um_model.proofs.Forms.{numbers, has_begun, FitJob}
 
--- ---- what holds of each entry holds of what stands at a text
+-- ---- a property of each entry is one of the value at a text
 
 module _ {X : Type 0} (P : List ℕ × X → Type 0) where
   found_each : (es : List (List ℕ × X)) → AllByRecursion P es → (k : List ℕ) (v : X) → find (slice_cmp nat_cmp) k es ≡ Some v → P (k, v)
@@ -147,7 +147,7 @@ Entries = List (List ℕ × UnitState)
 abbrev numbers_of : Entries → List ℕ
 numbers_of es = flat_map (λ e. live_numbers e.1) es
 
--- what is found behind the first entry, or is that
+-- this unit is found in the entries under this name
 abbrev IsFoundIn : Entries → List ℕ → UnitState → Type 0
 IsFoundIn es k u = find (slice_cmp nat_cmp) k es ≡ Some u
 
@@ -244,7 +244,7 @@ module _ (s : State) (fit : FitState s) where
       right_true
       (have_sub_states s.loaded.profile s.units && list_all (λ e. has_begun s.clock e.1.window) (map.entries s.units) && list_all (λ n. nat_lt n s.next) (numbers_in s.units)) _ fit.sound
 
-  -- what is found of a unit with a number
+  -- the state that is found of a unit with a number
   found_with : (unit : List ℕ) (n : ℕ) → HasNumber (state_of_unit s.units unit) n → map.get s.units unit ≡ Some (state_of_unit s.units unit)
   found_with unit n has = by (map.get s.units unit) refl
     where

@@ -20,7 +20,7 @@ const SHOW: &str = r#"{"verb":"show","unit":"a"}"#;
 
 const ACTIVE: &str = r#"{"ok":true,"value":"active"}"#;
 
-/// Starts the service. Where its process found no memory it has failed, and is started once more.
+/// Starts the service. If its process found no memory it has failed, and is started once more.
 fn start<D: Disk, C: Children>(alloc: Global, manager: &mut Manager<D, C>) -> Result<(), Refusal> {
     for _ in 0..2 {
         let _done = ask(alloc, manager, START)?;
@@ -76,7 +76,7 @@ fn begun<D: Disk + Drop, C: Children + Drop>(
     }
 }
 
-/// What is shown of the service, two turns later.
+/// The reply to `show` for the service, two turns later.
 fn shown<D: Disk, C: Children>(
     alloc: Global,
     manager: &mut Manager<D, C>,
@@ -86,7 +86,7 @@ fn shown<D: Disk, C: Children>(
     ask(alloc, manager, SHOW)
 }
 
-/// What the manager shows of the service that is opened over a disk and children.
+/// The reply to `show` for the service, by a manager that is opened over a disk and children.
 fn shown_again<D: Disk + Drop, C: Children + Drop>(
     alloc: Global,
     disk: D,

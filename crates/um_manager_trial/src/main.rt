@@ -1,6 +1,6 @@
 //! A trial in which memory may be wanting at any place: a manager over a disk and children in memory puts, loads, starts and shows a service,
-//! whose process ends before the manager is opened anew. What finds no memory is asked again, so that one want of memory, wherever it
-//! is, changes nothing of what is shown at last: `rt try --fail-alloc 1..` plays all of them.
+//! whose process ends before the manager is opened again. A call that finds no memory is repeated, so that one want of memory, wherever it
+//! is, changes nothing in the last reply: `rt try --fail-alloc 1..` plays all of them.
 #![tactic(auto)]
 
 mod life;

@@ -1,4 +1,4 @@
-//! Managers in memory, which are asked again where memory is wanting.
+//! Managers in memory, whose calls are repeated if memory is wanting.
 
 use std::alloc::Global;
 use um_children::Children;
@@ -9,7 +9,7 @@ use um_sector::{Disk, MemDisk};
 use um_state::BootId;
 use um_wire::Refusal;
 
-/// What finds no memory is asked so many times.
+/// How often a call that finds no memory is tried.
 const TIMES: usize = 4;
 
 /// The bytes of a frame's length.
@@ -29,7 +29,7 @@ fn store(alloc: Global) -> Result<MemDisk, Refusal> {
     Ok(disk)
 }
 
-/// A disk that holds a new store. A disk that finds no memory fails, and another one is taken.
+/// A disk that holds a new store. If a disk finds no memory it fails, and another one is taken.
 pub fn new_store(alloc: Global) -> Result<MemDisk, Refusal> {
     for _ in 1..TIMES {
         match store(alloc) {
@@ -40,7 +40,7 @@ pub fn new_store(alloc: Global) -> Result<MemDisk, Refusal> {
     store(alloc)
 }
 
-/// The boot, which is asked for again once.
+/// The id of the boot, which is made once more if the first try finds no memory.
 fn some_boot(alloc: Global) -> Result<BootId, Refusal> {
     match boot(alloc) {
         Err(Refusal::NoMemory) => boot(alloc),
@@ -79,7 +79,7 @@ pub fn opened<D: Disk + Drop, C: Children + Drop>(
     Err(Refusal::NoMemory)
 }
 
-/// What comes of a connection: the frame of this text, or nothing where there is none.
+/// The bytes from a connection: the frame of this text, or none if the text is empty.
 fn pieces(alloc: Global, connection: Connection, text: &str) -> Result<Pieces, Refusal> {
     let mut bytes = Vec::new(alloc);
     if !text.is_empty() {
@@ -92,7 +92,7 @@ fn pieces(alloc: Global, connection: Connection, text: &str) -> Result<Pieces, R
     Ok(pieces)
 }
 
-/// A turn in which this request comes of a connection, and the text of what is put out for it.
+/// A turn in which this request comes from a connection; returns the bytes that are put out for it.
 fn turn<D: Disk, C: Children>(
     alloc: Global,
     manager: &mut Manager<D, C>,
@@ -124,7 +124,7 @@ pub fn silent_turn<D: Disk, C: Children>(
     Err(Refusal::NoMemory)
 }
 
-/// The reply to a request, which is asked on another connection where it finds no memory.
+/// The reply to a request, which is sent on another connection if it finds no memory.
 pub fn ask<D: Disk, C: Children>(
     alloc: Global,
     manager: &mut Manager<D, C>,

@@ -27,7 +27,7 @@ IsBytes-take n bytes h i = elim (cases_lt i n) [
 pub IsBytes-rest : (b : ℕ) (bytes : List ℕ) → IsBytes (b ∷ bytes) → IsBytes bytes
 IsBytes-rest b bytes h i = h (suc i)
 
--- what stands behind bytes is bytes
+-- the rest of bytes after a front is bytes
 IsBytes-behind : (front rest : List ℕ) → IsBytes (front ++ rest) → IsBytes rest
 IsBytes-behind [] rest h = h
 IsBytes-behind (b ∷ front) rest h = IsBytes-behind front rest (λ i. h (suc i))
@@ -127,9 +127,9 @@ canonical32 = canonical_number 4 read_back4
 pub canonical64 : IsCanonical (λ n. n < 2 ^ 64) (big_bytes 8) (number_at 8)
 canonical64 = canonical_number 8 read_back8
 
--- ---- one behind the other
+-- ---- one after the other
 
--- what is behind what was read is bytes
+-- the rest after a value that was read is bytes
 behind : {V : Type 0} {fits : V → Type 0} {spelling : Spelling V} {reading : Decoder V} → IsCanonical fits spelling reading → (bytes : List ℕ) (v : V) (rest : List ℕ)
     → IsBytes bytes → reading bytes ≡ Some (v, rest) → IsBytes rest
 behind {spelling = spelling} law bytes v rest h e = IsBytes-behind (spelling v) rest (subst IsBytes (law.takes bytes v rest h e).0 h)
@@ -156,7 +156,7 @@ module _ {A B : Type 0} {fits_a : A → Type 0} {spelling_a : Spelling A} {readi
 -- ---- another form, a test, a mark, a choice, an option, a list
 
 module _ {A B : Type 0} {fits_a : A → Type 0} {fits_b : B → Type 0} {spelling : Spelling A} {reading : Decoder A} where
-  -- another form, in which a value is told back only where it fits, on either side
+  -- another form, in which a value is given back only if it fits, on either side
   pub canonical_form : (to : A → B) (from : B → A) → ((a : A) → fits_a a → fits_b (to a) × (from (to a) ≡ a)) → ((b : B) → fits_b b → fits_a (from b) × (to (from b) ≡ b))
       → IsCanonical fits_a spelling reading → IsCanonical fits_b (λ b. spelling (from b)) (as_at to reading)
   canonical_form to from back forth law = record { takes = form_takes; again = form_again } where
@@ -180,7 +180,7 @@ module _ {A : Type 0} {fits_a fits_b : A → Type 0} {spelling : Spelling A} {re
   }
 
 module _ {A B : Type 0} {fits : A → Type 0} {spelling : Spelling A} {reading : Decoder A} where
-  -- those that fit in another form, which tells the same
+  -- those that fit, in another form that says the same
   pub canonical_where : (to : A → B) (from : B → A) → ((a : A) → fits a → from (to a) ≡ a) → ((b : B) → to (from b) ≡ b) → IsCanonical fits spelling reading
       → IsCanonical (λ b. fits (from b)) (λ b. spelling (from b)) (as_at to reading)
   canonical_where to from back forth law = record { takes = as_takes; again = as_again } where
@@ -195,7 +195,7 @@ module _ {A B : Type 0} {fits : A → Type 0} {spelling : Spelling A} {reading :
     as_again : (v : B) (rest : List ℕ) → fits (from v) → as_at to reading (spelling (from v) ++ rest) ≡ Some (v, rest)
     as_again v rest h = rw (law.again (from v) rest h) (ap (λ (b : B). some (b, rest)) (forth v))
 
-  -- the same where each value has the other form
+  -- the same if each value has the other form
   pub canonical_as : (to : A → B) (from : B → A) → ((a : A) → from (to a) ≡ a) → ((b : B) → to (from b) ≡ b) → IsCanonical fits spelling reading
       → IsCanonical (λ b. fits (from b)) (λ b. spelling (from b)) (as_at to reading)
   canonical_as to from back forth law = canonical_where to from (λ a h. back a) forth law
@@ -214,7 +214,7 @@ module _ {A : Type 0} {fits : A → Type 0} {spelling : Spelling A} {reading : D
     only_again : (v : A) (rest : List ℕ) → fits v × (test v ≡ true) → only_at test reading (spelling v ++ rest) ≡ Some (v, rest)
     only_again v rest h = rw (law.again v rest h.0, h.1) refl
 
-  -- behind a byte that always stands there
+  -- after a fixed byte
   pub canonical_marked : (mark : ℕ) → IsCanonical fits spelling reading → IsCanonical fits (λ a. mark ∷ spelling a) (marked_at mark reading)
   canonical_marked mark law = record { takes = marked_takes; again = marked_again } where
     marked_takes : (bytes : List ℕ) (v : A) (rest : List ℕ) → IsBytes bytes → marked_at mark reading bytes ≡ Some (v, rest) → (bytes ≡ (mark ∷ spelling v) ++ rest) × fits v
@@ -288,7 +288,7 @@ module _ {A : Type 0} {fits : A → Type 0} {spelling : Spelling A} {reading : D
     list_again v rest h =
         ap (list_at reading) (append_assoc (big_bytes 4 (length v)) (flat_map spelling v) rest) ∙ rw (canonical32.again (length v) (flat_map spelling v ++ rest) h.0) (many_again law v rest h.1)
 
--- a choice without fields, told by its tag
+-- a choice without fields, by its tag
 pub canonical_tag : {A : Type 0} (tag : A → ℕ) (of : ℕ → Option A) → ((a : A) → of (tag a) ≡ Some a) → ((n : ℕ) (a : A) → of n ≡ Some a → tag a ≡ n)
     → IsCanonical (λ (a : A). ⊤) (λ a. tag a ∷ []) (tag_at of)
 canonical_tag {A} tag of again back = record { takes = takes; again = λ v rest h. rw (again v) refl } where
@@ -298,7 +298,7 @@ canonical_tag {A} tag of again back = record { takes = takes; again = λ v rest 
       let a = bind_some (of b) (λ a. Some (a, bytes)) (v, rest) e in
       subst (λ (x : A × List ℕ). ((b ∷ bytes) ≡ (tag x.0 ∷ []) ++ x.1) × ⊤) (some_is (a.0, bytes) (v, rest) a.2) (ap (λ (n : ℕ). n ∷ bytes) (sym (back b a.0 a.1)), tt)
 
--- a choice with fields: what each arm reads is a value of that tag, spelled so behind it
+-- a choice with fields: each arm reads a value of its tag, whose fields are spelled after the tag
 pub canonical_choice : {A : Type 0} {fits : A → Type 0} (tag : A → ℕ) (fields : Spelling A) (arm : ℕ → Decoder A)
     → ((n : ℕ) (bytes : List ℕ) (v : A) (rest : List ℕ) → IsBytes bytes → arm n bytes ≡ Some (v, rest) → (n ≡ tag v) × (bytes ≡ fields v ++ rest) × fits v)
     → ((v : A) (rest : List ℕ) → fits v → arm (tag v) (fields v ++ rest) ≡ Some (v, rest))
@@ -322,7 +322,7 @@ arm_is {A} {B} {reading = reading} law to P bytes v rest h e holds =
 pub just_is : {B : Type 0} (b : B) (P : B → List ℕ → Type 0) (bytes : List ℕ) (v : B) (rest : List ℕ) → just_at b bytes ≡ Some (v, rest) → P b bytes → P v rest
 just_is {B} b P bytes v rest e holds = subst (λ (x : B × List ℕ). P x.0 x.1) (some_is (b, bytes) (v, rest) e) holds
 
--- what an arm reads is a value of the tag, spelled so behind it
+-- an arm reads only values of the tag, whose fields are spelled after the tag
 pub record Tells {A : Type 0} (tag : A → ℕ) (fields : Spelling A) (fits : A → Type 0) (n : ℕ) (arm : Decoder A) : Type 0 where
   pub is : (bytes : List ℕ) (v : A) (rest : List ℕ) → IsBytes bytes → arm bytes ≡ Some (v, rest) → (n ≡ tag v) × (bytes ≡ fields v ++ rest) × fits v
 
@@ -488,11 +488,11 @@ module _ {V : Type 0} {fits : V → Type 0} {spelling : Spelling V} {reading : D
       let both = some_is (v, r) (w, s) (sym (law.again v r fv) ∙ ap reading e ∙ law.again w s fw) in
       (ap (λ (x : V × List ℕ). x.0) both, ap (λ (x : V × List ℕ). x.1) both)
 
-  -- there is no reading only where no front of the bytes spells a value
+  -- there is no reading only if no front of the bytes spells a value
   pub none_spelled : IsCanonical fits spelling reading → (bytes : List ℕ) → reading bytes ≡ None → (v : V) (rest : List ℕ) → fits v → bytes ≡ spelling v ++ rest → ⊥
   none_spelled law bytes absent v rest fv e = none_some (v, rest) (sym absent ∙ ap reading e ∙ law.again v rest fv)
 
-  -- the whole of the bytes is read exactly where they are a spelling
+  -- the whole of the bytes is read exactly if they are a spelling
   pub whole_spelled : IsCanonical fits spelling reading → (bytes : List ℕ) (v : V) → IsBytes bytes → (nothing_left (reading bytes) ≡ Some v) ↔ ((bytes ≡ spelling v) × fits v)
   whole_spelled law bytes v h = (to, from) where
     to : nothing_left (reading bytes) ≡ Some v → (bytes ≡ spelling v) × fits v
@@ -503,9 +503,9 @@ module _ {V : Type 0} {fits : V → Type 0} {spelling : Spelling V} {reading : D
     from : (bytes ≡ spelling v) × fits v → nothing_left (reading bytes) ≡ Some v
     from t = ap (λ l. nothing_left (reading l)) (t.0 ∙ sym (append-nil (spelling v))) ∙ ap nothing_left (law.again v [] t.1)
 
--- ---- what a call tells, as a reading
+-- ---- the result of a call as a reading
 
--- what a call found, as its reading says it
+-- the value that a call found, as its reading says it
 pub at_some : {X V : Type 0} (value : X → V) (bytes : List ℕ) (r : Option (V × List ℕ)) (found : Option (X × ℕ)) (x : X) (n : ℕ) → r ≡ option_map (λ y. (value y.0, drop y.1 bytes)) found
     → found ≡ Some (x, n) → r ≡ Some (value x, drop n bytes)
 at_some value bytes r found x n e is = e ∙ ap (option_map (λ y. (value y.0, drop y.1 bytes))) is

@@ -1,4 +1,4 @@
--- Settings and warnings read values alike: a value counts in all that it says exactly where it gives no warning.
+-- Settings and warnings read values alike: a value counts in full exactly if it gives no warning.
 use Rattle.std.proofs.Common.{◌≡◌, ◌∙◌, ℕ, List, [], ◌∷◌, Result, Ok, Err, is_none, refl}
 use Rattle.std.specs.Result.{result_err}
 use Rattle.um_model.specs.Readings.{all_read}
@@ -17,7 +17,7 @@ all_or_err [] = refl
 all_or_err (Ok a ∷ others) = all_or_err others ∙ with_first a (all_read others)
 all_or_err (Err w ∷ others) = refl
 
--- a value counts exactly where it gives no warning
+-- a value counts exactly if it gives no warning
 pub a_value_counts_or_warns : (unit : List ℕ) (k : ValueKind) (value : List ℕ) → counts unit k value ≡ is_none (value_warning unit k value)
 unfolding value_warning
 a_value_counts_or_warns unit k value = all_or_err (value_readings unit k value)

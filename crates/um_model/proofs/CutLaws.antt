@@ -1,4 +1,4 @@
--- What std cuts off a text, in the words of the definitions.
+-- The cuts of texts by std, in the terms of the definitions.
 use Rattle.std.proofs.Common.{◌≡◌, ℕ, ◌+◌, ◌-◌, ◌<◌, ◌≤◌, true, false, not, cond, List, length, get_or, take, drop, ◌==◌, length-drop, subst, Option, Some, None, option_map, MatchOption, Bor, ap, ◌∙◌, arith, lit<}
 use Rattle.std.specs.List.{after_last, suffix_len}
 use Rattle.std.specs.Str.Pattern.{FindsTextPrefix, FindsTextSuffix, RFindsChar, StripsPrefix, StripsSuffix, SplitsAroundMatch}
@@ -32,7 +32,7 @@ within j l k low high = omega arith
 left_of : (j l n : ℕ) → j ≤ l → n ≡ l - j → j ≡ l - n
 left_of j l n fits e = omega arith
 
--- what follows the last `/`, at which the text was split
+-- the text after the last `/`, at which it was split
 pub after_last_from_split : (s front back : List ℕ) → SplitsAroundMatch (RFindsChar 47) s front back → back ≡ after_last is_slash s
 after_last_from_split s front back (i, j, found, front_is, back_is, rises, front_len, back_len) =
     let fits : j ≤ length s = omega arith in

@@ -1,4 +1,4 @@
--- What holds of each entry of a map by texts holds of each of its values, and back; and where an entry is put.
+-- A property of each entry of a map by texts is one of each of its values, and back; and where an entry is put.
 use Rattle.std.proofs.Common.{◌≡◌, ℕ, Bool, true, false, cond, ◌&&◌, List, [], ◌∷◌, Some, None, refl, sym, ap, ◌∙◌, T, is_eq}
 use Rattle.std.specs.List.{list_all}
 use Rattle.std.specs.Ordering.{nat_cmp, eq_by_cmp}
@@ -54,7 +54,7 @@ module _ {X : Type 0} where
           absurd (none_some v (sym (below_none e.0 es (left_holds _ _ sorted)) ∙ (ap (λ (l : List ℕ). find (slice_cmp nat_cmp) l es) (sym (tells_apart exact_bytes k e.0 t)) ∙ is)))
       apart k v is false t = t
 
-  -- where each entry passes a test, what stands at a text passes it with that text
+  -- if each entry passes a test, the value at a text passes it with that text
   pub at_each : (test : List ℕ × X → Bool) (m : ByText X) → list_all test (map.entries m) ≡ true → (k : List ℕ) (v : X) → map.get m k ≡ Some v → test (k, v) ≡ true
   at_each test m all k v is = all_found test (map.entries m) all k v (sym (map.get-entries m k) ∙ is)
 

@@ -12,7 +12,7 @@ use Rattle.um_model.specs.Pieces.{done, piece}
 use Rattle.um_model.proofs.Forms.{first_escape_of}
 use Rattle.um_model.specs.Specifiers.{StandsForBytes}
 
--- What an escape stands for.
+-- The meaning of an escape.
 
 is_hex_digit-digit_char : (d : ℕ) → d < 16 → is_hex_digit (digit_char d) ≡ true
 is_hex_digit-digit_char d small = agree_below_at (λ n. is_hex_digit (digit_char n)) (λ n. true) 16 d refl small
@@ -70,7 +70,7 @@ escaped-stands [] small = done
 escaped-stands (b ∷ bs) small =
     first_escape_of-stands b (flat_map escape_of bs) bs (All-head (λ b. b < 256) b bs small) (flat_map-stands bs (All-tail (λ b. b < 256) b bs small))
 
--- What an escaped text is made of.
+-- The bytes of an escaped text.
 
 escape_of-bytes : (b : ℕ) → b < 256 → list_all is_prefix_byte (escape_of b) ≡ true
 escape_of-bytes b small = agree_below_at (λ n. list_all is_prefix_byte (escape_of n)) (λ n. true) 256 b refl small

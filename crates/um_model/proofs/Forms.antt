@@ -26,19 +26,19 @@ use Rattle.um_model.specs.Weight.{text_of_entry}
 abbrev pub found_unless : Option (List ℕ) → LoadedUnit → Loading
 found_unless reason u = option_map_or (BadSetting u.name) reason (Found u)
 
--- what a `$` before a name in braces stands for, where there is one
+-- the meaning of a `$` before a name in braces, if there is one
 abbrev pub variable_front : List Variable → Option (List ℕ) → Front ℕ
 variable_front environment name = option_map_or (λ n. Gives (value_of environment n) (length n + 3)) name (Gives (36 ∷ []) 1)
 
--- the bytes, where they are a text
+-- the bytes, if they are a text
 abbrev pub as_text : Option (List ℕ) → Option (List ℕ)
 as_text bytes = option_and_then (λ text. if is_utf8 text then Some text else None) bytes
 
--- the other name, where it is of the unit's type
+-- the other name, if it is of the unit's type
 abbrev pub of_same_type : List ℕ → Option (List ℕ) → Option (List ℕ)
 of_same_type unit other = option_and_then (λ o. if is_of_same_type unit o then Some o else None) other
 
--- the drop-in that an entry is, where it has a name in the folder
+-- the drop-in that an entry is, if it has a name in the folder
 abbrev pub drop_in_named : Option (List ℕ) → List ℕ × Entry → List (List ℕ × UnitFile)
 drop_in_named file (path, File text) = option_map_or (λ name. (name, record { path = path; text = text }) ∷ []) file []
 drop_in_named file (path, Link target) = []
@@ -47,7 +47,7 @@ drop_in_named file (path, Link target) = []
 abbrev pub where_fit : PathParts → Option PathParts
 where_fit p = if is_fit_place p.unit p.place then Some p else None
 
--- what stands at the path, if anything, may stand there
+-- the entry at the path, if any, may stand there
 abbrev pub is_fit_at : List ℕ → Option Entry → Bool
 is_fit_at path entry = option_map_or (is_fit_entry path) entry true
 
@@ -55,11 +55,11 @@ is_fit_at path entry = option_map_or (is_fit_entry path) entry true
 abbrev pub ends_in : List ℕ → Suffix → Bool
 ends_in text s = ends_with nat_eq text (suffix_text s)
 
--- what stands before that suffix, or all
+-- the text before that suffix, or all
 abbrev pub stem_before : List ℕ → Option Suffix → List ℕ
 stem_before text suffix = option_map_or (λ s. take (length text - length (suffix_text s)) text) suffix text
 
--- what is read next, as a list
+-- the next reading, as a list
 abbrev pub asked_in : Option Asked → List Asked
 asked_in asked = option_to_list asked
 
@@ -79,15 +79,15 @@ has_begun clock window = option_map_or (λ c. nat_le c.began clock) window true
 abbrev pub FitJob : JobShown → Type 0
 FitJob j = FitUnitName j.unit
 
--- a cause of refusal: that refusal, where the test holds
+-- a cause of refusal: that refusal, if the test holds
 abbrev pub cause : Bool → Refused → Option Refused
 cause b r = if b then Some r else None
 
--- the job comes before the next one, where there is one
+-- the job comes before the next one, if there is one
 abbrev pub is_before_next : JobShown → List JobShown → Bool
 is_before_next j more = option_map_or (is_job_before j) (slice_get more 0) true
 
--- what stands behind the tag of an entry
+-- the fields after the tag of an entry
 abbrev pub entry_fields : Spelling Entry
 entry_fields e = text_spelling (text_of_entry e)
 
@@ -95,7 +95,7 @@ entry_fields e = text_spelling (text_of_entry e)
 abbrev pub instance_text : Option (List ℕ) → List ℕ
 instance_text instance = option_map_or (λ text. 64 ∷ text) instance []
 
--- where there is an instance, it has its bytes alone
+-- if there is an instance, it has its bytes alone
 abbrev pub is_fit_instance : Option (List ℕ) → Bool
 is_fit_instance instance = option_map_or (list_all is_instance_byte) instance true
 

@@ -107,7 +107,7 @@ all_arms = (
 
 -- ---- the law
 
--- what is spelled behind a moment is read again in its arm
+-- the fields that are spelled after a moment are read back by their arm
 reads : {A : Type 0} {fits : A → Type 0} {spelling : Spelling A} {reading : Decoder A} (to : A → Event) (law : IsCanonical fits spelling reading) (t : ℕ) (f : A) (rest : List ℕ) → FitTimed (t, to f) → fits f
     → comes_at to reading ((big_bytes 8 t ++ spelling f) ++ rest) ≡ Some ((t, to f), rest)
 reads {spelling = spelling} to law t f rest h fit = rw ((canonical_pair canonical_moment law).again (t, f) rest (h.0, fit)) refl

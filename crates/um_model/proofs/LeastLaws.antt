@@ -1,4 +1,4 @@
--- At most one thing is the least; and of those in a list one is, where any has the property.
+-- At most one thing is the least; and of those in a list one is, if any has the property.
 use Rattle.std.proofs.Common.{◌≡◌, ◌≢◌, ◌⊎◌, ◌∙◌, List, [], ◌∷◌, sym, subst, inl, inr}
 use Rattle.um_model.specs.Least.{IsLeast}
 
@@ -71,7 +71,7 @@ module _ {A : Type 0} (Before : A → A → Type 0) (Has : A → Type 0) (same :
     least_of [] = inl (λ a none has. none)
     least_of (x ∷ xs) = with_first x xs (decided x) (least_of xs)
 
-    -- where the list has all that have the property, none has it or one is the least
+    -- if the list has all that have the property, none has it or one is the least
     pub a_least : (xs : List A) → ((a : A) → Has a → Among xs a) → ((a : A) → ¬ (Has a)) ⊎ ((a : A) × IsLeast Before Has a)
     a_least xs all = elim (least_of xs) as (λ _. ((a : A) → ¬ (Has a)) ⊎ ((a : A) × IsLeast Before Has a)) [
       | inl none ↦ inl (λ a has. none a (all a has) has)

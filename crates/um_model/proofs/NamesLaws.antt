@@ -1,4 +1,4 @@
--- The laws of unit names: a text is a unit name by the test exactly where it is the name of some parts, and of one alone.
+-- The laws of unit names: a text is a unit name by the test exactly if it is the name of some parts, and these parts are unique.
 use Rattle.std.proofs.Common.{option_map, ◌≡◌, ◌≢◌, ◌-◌, ◌<◌, ◌≤◌, ℕ, suc, Bool, true, false, not, ◌&&◌, ◌==◌, nat_eq, nat_lt, List, [], ◌∷◌, ◌++◌, Option, Some, None, is_some, length, take, drop, get_or, reverse, find, cond, refl, sym, ap, ◌∙◌, subst, append_assoc, append-nil, take-append-drop, take_at, eq-eqb, arith, ⊎_elim, length-append}
 use Rattle.std.specs.List.{list_all, ends_with}
 use Rattle.std.proofs.lemmas.List.Folds.{list_all-append}
@@ -27,7 +27,7 @@ find-same : {X : Type 0} (p q : X → Bool) (xs : List X) → ((x : X) → p x �
 find-same p q [] same = refl
 find-same p q (x ∷ xs) same = ap (λ b. cond b (Some x) (find p xs)) (same x) ∙ ap (λ r. cond (q x) (Some x) r) (find-same p q xs same)
 
--- How a text ends, seen from behind.
+-- How a text ends, read from its end.
 
 abbrev begins : List ℕ → List ℕ → Bool
 begins [] ys = true
@@ -87,7 +87,7 @@ suffix_of-append front s =
     (λ t. ends_with-begins (front ++ suffix_text s) (suffix_text t) ∙ ap (begins (reverse (suffix_text t))) (reverse-append front (suffix_text s)))
     ∙ suffix_behind s (reverse front)
 
--- what stands before a suffix is the stem
+-- the text before a suffix is the stem
 pub stem_of-append : (front : List ℕ) (s : Suffix) → stem_of (front ++ suffix_text s) ≡ front
 unfolding stem_of
 stem_of-append front s =
@@ -149,7 +149,7 @@ after_at-instance : (i : Option (List ℕ)) → after_at (instance_text i) ≡ i
 after_at-instance None = refl
 after_at-instance (Some i) = refl
 
--- a stem is what stands before its first `@` and what follows it
+-- a stem is the text before its first `@` and the text after it
 pub before_at-append : (xs : List ℕ) → xs ≡ before_at xs ++ instance_text (after_at xs)
 before_at-append [] = refl
 before_at-append (x ∷ xs) =

@@ -1,4 +1,4 @@
--- What a unit says is said by its own name, so dependencies and the order of known units don't ask what else is known.
+-- A unit says the same by its own name, so the dependencies and the order of known units don't depend on the other names that are known.
 use Rattle.std.proofs.Common.{◌≡◌, ◌⊎◌, ◌∙◌, ℕ, zero, suc, Bool, true, false, cond, List, [], ◌∷◌, Option, Some, None, refl, sym, ap, inl, inr}
 use Rattle.std.specs.Option.{option_map_or}
 use Rattle.std.proofs.lemmas.Option.{none-some, same_Some}
@@ -30,17 +30,17 @@ same_type unit other same =
     sym (suffix_of_text (suffix_of unit))
     ∙ (ap suffix_of ((bytes_eq-Decides (suffix_text_of (suffix_of unit)) (suffix_text_of (suffix_of other))).0 same) ∙ suffix_of_text (suffix_of other))
 
--- the unit has the name that was asked for, or a unit name
+-- the unit has the given name, or a unit name
 abbrev pub AskedOrName : List ℕ → List ℕ → Type 0
 AskedOrName asked unit = (unit ≡ asked) ⊎ (is_unit_name unit ≡ true)
 
--- a unit to which the asked name leads has that name's type, is led to the same by its own name in however many hops, and is named so or by a unit name
+-- a unit to which the given name leads has that name's type; its own name leads to the same in any number of hops, and is the given name or a unit name
 record Stays (tree : Tree) (asked unit : List ℕ) (r : Resolution) : Type 0 where
   type : suffix_of asked ≡ suffix_of unit
   stays : (hops : ℕ) → resolved hops tree unit ≡ r
   is_name : AskedOrName asked unit
 
--- so does the unit of where a name leads, where there is one
+-- so does the unit to which a name leads, if there is one
 abbrev Returns : Tree → List ℕ → Resolution → Type 0
 Returns tree asked (AtFile unit path text) = Stays tree asked unit (AtFile unit path text)
 Returns tree asked (AtNoFile unit) = Stays tree asked unit (AtNoFile unit)
@@ -62,7 +62,7 @@ returns_before tree asked other (AtMask unit) same named s = stays_before tree a
 returns_before tree asked other Nowhere same named s = tt
 
 module _ (tree : Tree) (unit : List ℕ) where
-  -- what holds the unit leads there, wherever its hops go on
+  -- the entry that holds the unit leads there, wherever its hops go on
   stays_by : (o : Option (List ℕ × Entry)) (r : Resolution) → held tree unit ≡ o → ((follow : List ℕ → Resolution) → resolution_at unit o follow ≡ r) → Stays tree unit unit r
   stays_by o r at leads = record { type = refl; stays = by_hops; is_name = inl refl }
     where
@@ -99,12 +99,12 @@ returns : (hops : ℕ) (tree : Tree) (unit : List ℕ) → Returns tree unit (re
 returns zero tree unit = returns_at tree unit (λ other. Nowhere) (λ other. tt) (held tree unit) refl
 returns (suc hops) tree unit = returns_at tree unit (resolved hops tree) (returns hops tree) (held tree unit) refl
 
--- the unit's own name leads to the same in all hops that are allowed, and is the asked one or a unit name
+-- the unit's own name leads to the same in all hops that are allowed, and is the given name or a unit name
 record OwnName (tree : Tree) (asked unit : List ℕ) (r : Resolution) : Type 0 where
   leads : resolution_of tree unit ≡ r
   is_name : AskedOrName asked unit
 
--- so does that of the unit to which the asked name leads, where it leads to one
+-- the unit to which the given name leads, if it leads to one, has such an own name
 abbrev HasOwn : Tree → List ℕ → Resolution → Type 0
 HasOwn tree asked (AtFile unit path text) = OwnName tree asked unit (AtFile unit path text)
 HasOwn tree asked (AtNoFile unit) = OwnName tree asked unit (AtNoFile unit)
@@ -141,7 +141,7 @@ name_at_file tree asked unit path text =
     let sources = sources_at tree.entries (AtFile unit path text) in
     name_by_reason asked (unit_by tree.profile unit (Some path) sources) (reason_of tree.profile unit (assignments_in (suffix_of unit) sources))
 
--- the name that counts is that of what was found
+-- the name that counts is that of the unit that was found
 pub named_by_loading : (tree : ReadTree) (asked : List ℕ) → unit_named tree.entries asked ≡ name_in asked (load tree asked)
 unfolding load
 named_by_loading tree asked = by_resolution (resolution_of tree.entries asked)
@@ -152,7 +152,7 @@ named_by_loading tree asked = by_resolution (resolution_of tree.entries asked)
     by_resolution (AtMask unit) = refl
     by_resolution Nowhere = refl
 
--- the name that counts for one that was asked for is that one or a unit name
+-- the name that counts for a given name is that name or a unit name
 pub named_or_asked : (tree : Tree) (asked : List ℕ) → AskedOrName asked (unit_named tree asked)
 named_or_asked tree asked = by_resolution (resolution_of tree asked) (own_resolution tree asked)
   where
@@ -177,7 +177,7 @@ found_by_own tree asked l found = by_resolution (resolution_of tree.entries aske
     by_resolution (AtMask unit) own is = cc
     by_resolution Nowhere own is = cc
 
--- what can be loaded is found
+-- a unit that can be loaded is found
 pub loadable_found : (o : Loading) (l : LoadedUnit) → loadable_of o ≡ Some l → o ≡ Found l
 loadable_found (Found u) l loadable = by_template (is_template u.name) loadable
   where
@@ -188,7 +188,7 @@ loadable_found (Masked unit) l loadable = absurd (none-some l loadable)
 loadable_found NotFound l loadable = absurd (none-some l loadable)
 loadable_found (BadSetting unit reason) l loadable = absurd (none-some l loadable)
 
--- and where it can be loaded, it can by its own name
+-- and if it can be loaded, it can by its own name
 pub loadable_by_own : (tree : ReadTree) (asked : List ℕ) (l : LoadedUnit) → loadable_in tree asked ≡ Some l → loadable_in tree l.name ≡ Some l
 loadable_by_own tree asked l loadable =
     let found = loadable_found (load tree asked) l loadable in
@@ -198,7 +198,7 @@ loadable_by_own tree asked l loadable =
 pub name_of_loadable : (tree : ReadTree) (asked : List ℕ) (l : LoadedUnit) → loadable_in tree asked ≡ Some l → unit_named tree.entries asked ≡ l.name
 name_of_loadable tree asked l loadable = named_by_loading tree asked ∙ ap (name_in asked) (loadable_found (load tree asked) l loadable)
 
--- ---- what a known unit says, whatever else is known
+-- ---- the statements of a known unit, whatever else is known
 
 module _ (tree : ReadTree) (Other Extra : List ℕ → Type 0) where
   gives_anyhow : (name : List ℕ) (kind : DependencyKind) (x y : List ℕ) → IsKnown tree Extra x → Gives tree name kind x y
@@ -207,7 +207,7 @@ module _ (tree : ReadTree) (Other Extra : List ℕ → Type 0) where
   gives_anyhow name _ _ _ known (model.linked links) = (name, first (model.holder links), model.linked links)
   gives_anyhow name _ _ _ known (model.ends {l = l} loadable defaults) = (l.name, known, model.ends (loadable_by_own tree name l loadable) defaults)
 
-  -- a known unit depends on all on which it does where other names are known
+  -- a known unit depends on each unit on which it depends when other names are known
   pub depends_by_known : (kind : DependencyKind) (x y : List ℕ) → IsKnown tree Extra x → Depends tree Other kind x y → Depends tree Extra kind x y
   depends_by_known kind x y known d =
       let own = gives_anyhow d.name kind x y known d.gives in
@@ -221,7 +221,7 @@ module _ (tree : ReadTree) (Other Extra : List ℕ → Type 0) where
   declares_anyhow name _ _ known too (model.precedes {l = l} loadable names) = (l.name, known, model.precedes (loadable_by_own tree name l loadable) names)
   declares_anyhow name _ _ known too (model.follows {l = l} loadable names) = (l.name, too, model.follows (loadable_by_own tree name l loadable) names)
 
-  -- of two known units the one is declared before the other where it is when other names are known
+  -- of two known units the one is declared before the other if it is when other names are known
   pub declared_anyhow : (x y : List ℕ) → IsKnown tree Extra x → IsKnown tree Extra y → IsDeclared tree Other x y → IsDeclared tree Extra x y
   declared_anyhow x y known too d =
       let own = declares_anyhow d.name x y known too d.declares in
@@ -261,6 +261,6 @@ module _ (tree : ReadTree) (Other Extra : List ℕ → Type 0) where
       (λ d. isnt (declared_anyhow tree Extra Other x y (pulled_known tree Other x y p).0 (pulled_known tree Other x y p).1 d))
   orders_anyhow _ _ known too (model.ending {a = a} {l = l} other loadable defaults) = ending_anyhow tree Other Extra a l known loadable defaults
 
-  -- of two known units the one goes before the other where it does when other names are known
+  -- of two known units the one goes before the other if it does when other names are known
   pub precedes_anyhow : (x y : List ℕ) → IsKnown tree Extra x → IsKnown tree Extra y → Precedes tree Other x y → Precedes tree Extra x y
   precedes_anyhow x y known too p = record { orders = orders_anyhow x y known too p.orders; apart = p.apart }

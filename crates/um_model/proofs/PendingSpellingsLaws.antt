@@ -1,4 +1,4 @@
--- The list of the pending jobs in the bytes and their map in the state tell the same.
+-- The list of the pending jobs in the bytes and their map in the state say the same.
 use Rattle.std.proofs.Common.{◌≡◌, ℕ, Bool, true, false, ◌||◌, List, [], ◌∷◌, ◌++◌, Option, Some, None, is_some, unwrap_or, refl, sym, ap, subst, ◌∙◌, Ordering, Less, Equal, Greater, T, is_eq}
 use Rattle.std.specs.List.{list_all, flat_map}
 use Rattle.std.specs.Ordering.{nat_cmp, is_lt, ordering_then}
@@ -30,7 +30,7 @@ Entries = List (List ℕ × UnitJobs)
 abbrev cmp : List ℕ → List ℕ → Ordering
 cmp = slice_cmp nat_cmp
 
--- the jobs of such entries, told
+-- the jobs of such entries, as they are shown
 abbrev told : Entries → List JobShown
 told es = flat_map (λ e. jobs_shown_of e.0 e.1) es
 
@@ -67,7 +67,7 @@ have_jobs pending tidy = from_each (λ e. has_job e.1) pending (λ unit j here. 
 
 -- ---- from the list to the map and back
 
--- a job of a unit that stands below all is told in front
+-- a job of a unit that stands below all is shown in front
 in_front : (unit : List ℕ) (kind : JobKind) (state : JobState) (es : Entries) → T (below_all cmp unit es) → told (with_more (record { unit = unit; kind = kind; state = state }) es) ≡ record { unit = unit; kind = kind; state = state } ∷ told es
 in_front unit kind state es low =
     ap told (below_put unit (with_job kind state (unwrap_or (find cmp unit es) no_jobs)) es low)
@@ -77,12 +77,12 @@ in_front unit kind state es low =
     alone Stop = refl
     alone Start = refl
 
--- a stop job of the unit in front, of which a start job alone is pending, is told in front
+-- a stop job of the unit in front, of which a start job alone is pending, is shown in front
 beside : (unit : List ℕ) (state start : JobState) (unit' : List ℕ) (es : Entries) → cmp unit unit' ≡ Equal → unit ≡ unit'
     → told (with_more (record { unit = unit; kind = Stop; state = state }) ((unit', jobs None (Some start)) ∷ es)) ≡ record { unit = unit; kind = Stop; state = state } ∷ told ((unit', jobs None (Some start)) ∷ es)
 beside unit state start unit' es tied same = rw tied (ap (λ (u : List ℕ). record { unit = u; kind = Stop; state = state } ∷ record { unit = unit'; kind = Start; state = start } ∷ told es) (sym same))
 
--- what stands before the next is told in front
+-- a job that stands before the next is shown in front
 module _ (j : JobShown) (unit : List ℕ) (es : Entries) (sorted : T (below_all cmp unit es)) where
   below_less : cmp j.unit unit ≡ Less → (e : UnitJobs) → T (below_all cmp j.unit ((unit, e) ∷ es))
   below_less less e = both_hold _ _ (subst (λ r. T (is_lt r)) (sym less) tt) (lower_all j.unit unit es less sorted)

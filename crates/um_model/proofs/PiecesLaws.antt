@@ -9,7 +9,7 @@ pub use Rattle.um_model.specs.Pieces.{reading}
 use Rattle.um_model.specs.FileForms.{with_front}
 use Rattle.um_model.specs.Pieces.{BeginsWith, StandsForText, done, stops, piece}
 
--- these, and then what is read
+-- these, and then the reading
 abbrev pub prefixed : {A : Type 0} → List A → Option (List A) → Option (List A)
 prefixed found r = option_map (λ rest. found ++ rest) r
 
@@ -32,13 +32,13 @@ enough front (suc n) (suc m) (b ∷ bs) small low =
     same_later (front b bs) (b ∷ bs) (λ k. begun_in n front (drop k bs)) (λ k. begun_in m front (drop k bs))
     (λ k. enough front n m (drop k bs) (omega (arith, length-drop k bs)) (omega (arith, length-drop k bs)))
 
--- a text begins as its front says, and then as what follows it begins
+-- a text begins as its front says, and then as the rest after that begins
 pub begun_step : {A : Type 0} (front : ℕ → List ℕ → Front A) (b : ℕ) (bs : List ℕ) → begun front (b ∷ bs) ≡ by_front (front b bs) (b ∷ bs) (λ n. begun front (drop n bs))
 begun_step front b bs =
     same_later (front b bs) (b ∷ bs) (λ k. begun_in (length bs) front (drop k bs)) (λ k. begun front (drop k bs))
     (λ k. enough front (length bs) (length (drop k bs)) (drop k bs) (omega (arith, length-drop k bs)) (omega arith))
 
--- a first piece, and then what is found behind it
+-- a first piece, and then the values found after it
 pub begun_first : {A : Type 0} (front : ℕ → List ℕ → Front A) (b n : ℕ) (bs : List ℕ) (gives : List A) → front b bs ≡ Gives gives n
     → begun front (b ∷ bs) ≡ with_front gives (begun front (drop (n - 1) bs))
 begun_first front b n bs gives e = begun_step front b bs ∙ ap (λ f. by_front f (b ∷ bs) (λ k. begun front (drop k bs))) e
@@ -83,7 +83,7 @@ pub BeginsWith-begun : {A : Type 0} (front : ℕ → List ℕ → Front A) (text
     → BeginsWith front text found left
 BeginsWith-begun front text found left e = BeginsWith-sized front (length text) text found left (omega arith) e
 
--- what the function finds is how a text begins
+-- the function finds exactly the beginnings of a text
 pub begun_is : {A : Type 0} (front : ℕ → List ℕ → Front A) (text : List ℕ) (found : List A) (left : List ℕ) → (begun front text ≡ Some (found, left)) ↔ BeginsWith front text found left
 begun_is front text found left = (BeginsWith-begun front text found left, begun-BeginsWith front text found left)
 
@@ -101,14 +101,14 @@ nothing_left None found e = absurd (none-some found e)
 nothing_left (Some (f, [])) found e = ap (λ w. Some (w, [])) (same_Some f found e)
 nothing_left (Some (f, b ∷ left)) found e = absurd (none-some found e)
 
--- what the function finds is a reading
+-- each value that the function finds is a reading
 pub StandsForText-reading : {A : Type 0} (front : ℕ → List ℕ → Front A) (text : List ℕ) (bytes : List A) → reading front text ≡ Some bytes → StandsForText front text bytes
 StandsForText-reading front text bytes e = BeginsWith-begun front text bytes [] (nothing_left (begun front text) bytes e)
 
 pub reading_is : {A : Type 0} (front : ℕ → List ℕ → Front A) (text : List ℕ) (found : List A) → (reading front text ≡ Some found) ↔ StandsForText front text found
 reading_is front text found = (StandsForText-reading front text found, reading-StandsForText front text found)
 
--- where it finds none there is none
+-- if it finds none there is none
 pub no_reading : {A : Type 0} (front : ℕ → List ℕ → Front A) (text : List ℕ) (bytes : List A) → reading front text ≡ None → ¬ (StandsForText front text bytes)
 no_reading front text bytes e stands = none-some bytes (sym e ∙ reading-StandsForText front text bytes stands)
 
@@ -131,12 +131,12 @@ whole_front found None = refl
 whole_front found (Some (more, [])) = refl
 whole_front found (Some (more, b ∷ left)) = refl
 
--- a first piece, and then what is read of the rest
+-- a first piece, and then the reading of the rest
 pub reading_first : {A : Type 0} (front : ℕ → List ℕ → Front A) (b n : ℕ) (bs : List ℕ) (gives : List A) → front b bs ≡ Gives gives n
     → reading front (b ∷ bs) ≡ prefixed gives (reading front (drop (n - 1) bs))
 reading_first front b n bs gives e = ap whole (begun_first front b n bs gives e) ∙ whole_front gives (begun front (drop (n - 1) bs))
 
--- one piece more: what is done, and then what is read of the text, is what is done with the piece and then what is read of the rest
+-- one piece more: bytes in front of the reading of a text are the same bytes and the piece, in front of the reading of the rest
 pub reading_more : {A : Type 0} (front : ℕ → List ℕ → Front A) (b n : ℕ) (bs : List ℕ) (gives bytes : List A) → front b bs ≡ Gives gives n
     → prefixed bytes (reading front (b ∷ bs)) ≡ prefixed (bytes ++ gives) (reading front (drop (n - 1) bs))
 reading_more front b n bs gives bytes e =
@@ -163,7 +163,7 @@ has_reading_sized front reads (suc size) (b ∷ bs) small =
     let later = has_reading_sized front reads size (drop (here.1 - 1) bs) (omega (arith, length-drop (here.1 - 1) bs)) in
     (here.0 ++ later.0, piece b here.1 bs here.0 later.0 [] here.2 later.1)
 
--- where each front can be read, each text can
+-- if each front can be read, each text can
 pub has_reading : {A : Type 0} (front : ℕ → List ℕ → Front A) → ((b : ℕ) (bs : List ℕ) → IsRead (front b bs)) → (text : List ℕ) → (bytes : List A) × StandsForText front text bytes
 has_reading front reads text = has_reading_sized front reads (length text) text (omega arith)
 
@@ -185,22 +185,22 @@ reading_more_after front b n run bs gives bytes plain e =
     ∙ prefixed-prefixed bytes run (reading front (b ∷ bs))
     ∙ reading_more front b n bs gives (bytes ++ run) e
 
--- what is in front of the rest of a text
+-- the rest stands at the end of the text, after some front
 abbrev pub Follows : List ℕ → List ℕ → Type 0
 Follows text rest = (front : List ℕ) × (text ≡ front ++ rest)
 
--- behind a piece that takes all but the rest, the rest is left
+-- after a piece that takes all but the rest, the rest is left
 pub past_piece : (b : ℕ) (bs rest : List ℕ) → Follows bs rest → drop (length (b ∷ bs) - length rest - 1) bs ≡ rest
 past_piece b bs rest at =
     let place : length (b ∷ bs) - length rest - 1 ≡ length at.0 = omega (arith, ap length at.1, length-append at.0 rest) in
     ap (λ n. drop n bs) place ∙ ap (drop (length at.0)) at.1 ∙ drop-append_seam at.0 rest
 
--- what is left of an end of a text is left of the text
+-- the end of an end of a text is an end of the text
 pub follows_more : (bs rest : List ℕ) (n : ℕ) → Follows (drop n bs) rest → Follows bs rest
 follows_more bs rest n later =
     (take n bs ++ later.0, sym (take-append-drop n bs) ∙ ap (λ x. take n bs ++ x) later.1 ∙ sym (append_assoc (take n bs) later.0 rest))
 
--- what is left stands at the end of the text
+-- the bytes left stand at the end of the text
 pub left_follows : {A : Type 0} (front : ℕ → List ℕ → Front A) (text : List ℕ) (found : List A) (left : List ℕ) → BeginsWith front text found left → Follows text left
 left_follows front text found left done = ([], refl)
 left_follows front text found left (stops b bs e) = ([], refl)

@@ -1,4 +1,4 @@
--- What `==` says of the states of units; and states and jobs by the names of units are the same or not.
+-- The meaning of `==` on the states of units; and states and jobs by the names of units are the same or not.
 use Rattle.std.proofs.Common.{◌≡◌, ◌&&◌, ◌==◌, ℕ, Bool, true, false, true≢false, List, [], ◌∷◌, Option, Some, None, refl, sym, ap, subst, inl, inr}
 use Rattle.std.specs.Bool.{Decides}
 use Rattle.std.specs.Cmp.{unsigned_Decides, booleans_Decides}
@@ -122,7 +122,7 @@ same_job_state Running Running = inl refl
 same_job_state Waiting Running = inr (λ e. cc)
 same_job_state Running Waiting = inr (λ e. cc)
 
--- a test that decides tells whether
+-- a test that decides it shows which
 by_test : {P : Type 0} (b : Bool) → Decides b P → IsDecided P
 by_test true decides = inl (decides.0 refl)
 by_test false decides = inr (λ is. true≢false (sym (decides.1 is)))
@@ -147,7 +147,7 @@ module _ {A : Type 0} (same_value : (a b : A) → IsDecided (a ≡ b)) where
       by_parts (inr apart) others = inr (λ is. apart (cc))
       by_parts (inl first) (inr apart) = inr (λ is. apart (cc))
 
-  -- maps by name are the same or not, where their values are
+  -- maps by name are the same or not, if their values are
   pub same_by_name : (m n : ByUnit A) → IsDecided (m ≡ n)
   same_by_name m n = elim (same_rows (map.entries m) (map.entries n)) as (λ _. IsDecided (m ≡ n)) [
     | inl is ↦ inl (map.same_entries_map m n is)

@@ -32,7 +32,7 @@ unescaped_as escaped (Some bytes) e =
           true≢false (sym (is_utf8-from_IsUtf8 more utf8) ∙ ap is_utf8 (one_reading unescape_front escaped more bytes means stands) ∙ other))
     ]
 
--- the function tells what an instance's escapes stand for
+-- the function returns the text that an instance's escapes stand for
 pub IsUnescaped-unescaped_of : (escaped : List ℕ) → IsUnescaped escaped (unescaped_of escaped)
 IsUnescaped-unescaped_of escaped = unescaped_as escaped (reading unescape_front escaped) refl
 
@@ -44,7 +44,7 @@ expanded_of-IsExpanded name text expanded is =
     let same = one_unescaped instance (unescaped_of instance) is.unescaped (IsUnescaped-unescaped_of instance) is.instance in
     ap (λ u. reading (specifier_front name u) text) same ∙ reading-StandsForText (specifier_front name is.unescaped) text expanded is.pieces
 
--- what the function finds is an expansion
+-- each text that the function finds is an expansion
 pub IsExpanded-expanded_of : (name text expanded : List ℕ) → expanded_of name text ≡ Some expanded → IsExpanded name text expanded
 unfolding expanded_of
 IsExpanded-expanded_of name text expanded e =
@@ -55,7 +55,7 @@ IsExpanded-expanded_of name text expanded e =
       pieces = StandsForText-reading (specifier_front name (unescaped_of instance)) text expanded e;
     }
 
--- the function finds what the relation tells
+-- the function finds what the relation says
 pub finds_expanded : (name text : List ℕ) → Finds (expanded_of name text) (IsExpanded name text)
 finds_expanded name text = λ expanded. (IsExpanded-expanded_of name text expanded, expanded_of-IsExpanded name text expanded)
 
@@ -70,7 +70,7 @@ plain_front name unescaped b bs differ = cond-false _ _ _ (ne_eqb b 37 differ)
 same_test : (a c : ℕ) → a ≡ c → not (eqb a c) ≡ false
 same_test a c e = ap not (eq-eqb a c e)
 
--- what follows the last one, and none follows that
+-- the text after the last one, with none after it
 pub after_last-found : (c : ℕ) (xs : List ℕ) (k : ℕ) → k < length xs → get_or xs k 0 ≡ c → ((i : ℕ) → k < i → i < length xs → get_or xs i 0 ≢ c) → after_last (λ b. eqb b c) xs ≡ drop (k + 1) xs
 after_last-found c xs k below is later =
     let back : k + 1 - 1 ≡ k = omega arith in
@@ -80,7 +80,7 @@ after_last-found c xs k below is later =
     let place : length xs - suffix_len (λ b. not (eqb b c)) xs ≡ k + 1 = omega (arith, rest) in
     ap (λ n. drop n xs) place
 
--- all, where there is none
+-- all, if there is none
 pub after_last-absent : (c : ℕ) (xs : List ℕ) → ((i : ℕ) → i < length xs → get_or xs i 0 ≢ c) → after_last (λ b. eqb b c) xs ≡ xs
 after_last-absent c xs apart =
     let rest : suffix_len (λ b. not (eqb b c)) xs ≡ length xs - 0 = suffix_len_is (λ b. not (eqb b c)) xs 0 0 (omega arith) (λ i _ high. ap not (ne_eqb _ c (apart i high))) (λ some. absurd (omega arith)) in

@@ -28,7 +28,7 @@ canonical_entry = canonical_arms entry_arms all again where
   again (File text) rest h = rw (canonical_text.again text rest h) refl
   again (Link target) rest h = rw (canonical_text.again target rest h) refl
 
--- the test of a tree tells what a tree is
+-- a tree passes the test of a tree
 tree_passes : (tree : Tree) → IsTree tree → is_tree tree ≡ true
 tree_passes tree is =
     both_true _ _ (from_each (λ e. is_fit_entry e.0 e.1) tree (λ path entry here. ap (is_fit_at path) (sym here) ∙ is.fit path)) (le-leb (map.len tree) entry_limit is.few)

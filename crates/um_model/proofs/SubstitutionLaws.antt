@@ -21,7 +21,7 @@ use Rattle.um_model.specs.FileForms.{word_values}
 pub plain_piece : (environment : List Variable) (b : ℕ) (bs : List ℕ) → b ≢ 36 → piece_front environment b bs ≡ Gives (b ∷ []) 1
 plain_piece environment b bs differ = cond-false _ _ _ (ne_eqb b 36 differ)
 
--- what a word becomes is one list at most
+-- a word becomes at most one list of words
 pub same_becomes : (environment : List Variable) (word : List ℕ) (a b : List (List ℕ)) → Becomes environment word a → Becomes environment word b → a ≡ b
 same_becomes environment word a b (splits w name words whole are) (splits v other more same others) =
     let name_is : name ≡ other = same_Some name other (sym whole ∙ same) in
@@ -38,7 +38,7 @@ first_becomes : (environment : List Variable) (word : List ℕ) (words b : List 
     → (some : List (List ℕ)) × (more : List (List ℕ)) × Becomes environment word some × AllBecome environment words more × (some ++ more ≡ b)
 first_becomes environment word words b (one_more w ws some more becomes rest) = (some, more, becomes, rest, refl)
 
--- and so is what several words become
+-- and so do several words
 pub same_all : (environment : List Variable) (words a b : List (List ℕ)) → AllBecome environment words a → AllBecome environment words b → a ≡ b
 same_all environment words a b no_more others = no_words_become environment b others
 same_all environment words a b (one_more word ws some more becomes rest) others =

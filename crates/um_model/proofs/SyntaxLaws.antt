@@ -1,4 +1,4 @@
--- The reading of a unit file, told as a relation and as functions; its lines rise.
+-- The reading of a unit file, as a relation and as functions; its lines rise.
 use Rattle.std.proofs.Common.{◌≡◌, ◌<◌, ◌≤◌, ℕ, ◌+◌, ◌-◌, zero, suc, Bool, true, false, not, ◌&&◌, ◌||◌, cond, eqb, List, [], ◌∷◌, ◌++◌, length, get_or, take, drop, map, append_assoc, length-append, Option, Some, None, refl, sym, ap, ◌∙◌, subst, inl, inr, arith}
 use Rattle.std.specs.List.{AllPass, list_all, prefix_len, position_or_len, before_first, after_first, take_while, slice_index}
 use Rattle.std.specs.List.Sorted.{IsStrictlyIncreasing}
@@ -19,7 +19,7 @@ use Rattle.um_model.specs.FileForms.{trim_end, items_of, is_head, items_in, sect
 use Rattle.um_model.specs.FileForms.{physical_line, joined_line, before_bracket, has_equals, pair_of}
 use Rattle.um_model.specs.SyntaxSpellings.{IsHeadOf, has_no_equals, Says, AreKept, AreJoined, Give, IsReading, stands_well, says_nothing, says_head, says_pair, says_no_pair, kept_none, drops_comment, keeps_blank, keeps_text, joined_none, stands_alone, goes_on, ends, gives_none, gives_line}
 
--- What a text says as a relation, line by line
+-- The reading of a text as a relation, line by line
 
 -- Lines that count
 
@@ -51,7 +51,7 @@ kept_is n all kept (keeps_text m l ls later plain is more) = ap (λ k. physical_
 
 -- Joined lines
 
--- there is a joined line where there is a line
+-- there is a joined line if there is a line
 joined_some : (l : Line) (ls : List Line) → (j : Line) × (js : List Line) × (joined (l ∷ ls) ≡ j ∷ js)
 joined_some l ls = by_test (continues l.text)
   where
@@ -83,7 +83,7 @@ joined_is all js (goes_on l j ls later is more) =
     ap (λ k. joined_line l (first_text k) ∷ drop 1 k) same ∙ sym (rw is refl)
 joined_is all js (ends l is) = sym (rw is refl)
 
--- What a line says
+-- The statement of a line
 
 last_at : (xs : List ℕ) (c : ℕ) → eqb (get_or (xs ++ c ∷ []) (length (xs ++ c ∷ []) - 1) 0) c ≡ true
 last_at xs c =
@@ -105,7 +105,7 @@ ends_in line c positive e =
       | inr empty ↦ absurd (omega (arith, e, get_or_past line (length line - 1) 0 (omega arith)))
     ]
 
--- a name in brackets is what `in_brackets` finds, and nothing else is
+-- `in_brackets` finds a name in brackets, and nothing else
 in_brackets-head : (text name : List ℕ) → text ≡ 91 ∷ name ++ 93 ∷ [] → in_brackets text ≡ Some name
 in_brackets-head text name is = ap in_brackets is ∙ before_bracket-push name
 
@@ -146,7 +146,7 @@ not_blank (b ∷ before) after = by_test (is_space b) (not_blank before after)
     by_test true later = later
     by_test false later = refl
 
--- where each passes, the prefix that passes is all, and the other way round
+-- if each passes, the prefix that passes is all, and the other way round
 passing_prefix : (q : ℕ → Bool) (xs : List ℕ) → list_all q xs ≡ true → prefix_len q xs ≡ length xs
 passing_prefix q [] all = refl
 passing_prefix q (x ∷ xs) all = by_test (q x) all (λ more. passing_prefix q xs more)
@@ -163,7 +163,7 @@ prefix_passes q (x ∷ xs) = ap (list_all q) (take_while-cons q x xs) ∙ by_tes
     by_test true is later = rw is later
     by_test false is later = refl
 
--- the first `=` stands behind what has none
+-- the first `=` stands after a text that has none
 first_equals : (before after : List ℕ) → has_no_equals before ≡ true → position_or_len (λ b. eqb b 61) (before ++ 61 ∷ after) ≡ length before
 first_equals before after fit =
     let q : ℕ → Bool = λ b. not (eqb b 61) in
@@ -232,7 +232,7 @@ give_is begun all items (gives_line b l ls statement later says more) =
 
 -- The reading
 
--- what a line gives, and then what the others do
+-- the items of a line, and then those of the others
 line_placed : (l : Line) (ls : List Line) (statement : Statement) (section : Option (List ℕ)) → ((later : Option (List ℕ)) → placed_in later ls ≡ in_sections later (items_in (is_some later) ls))
     → placed_of statement section l ++ placed_in (section_after statement section) ls ≡ in_sections section (items_of statement (is_some section) l.number l.whole ++ items_in (is_some section || is_head statement) ls)
 line_placed l ls Blank None rest = rest None
@@ -244,7 +244,7 @@ line_placed l ls (Pair key value) (Some s) rest = ap (λ k. record { section = S
 line_placed l ls Stray None rest = ap (λ k. record { section = None; item = Warned NoEqualsSign l.number } ∷ k) (rest None)
 line_placed l ls Stray (Some s) rest = ap (λ k. record { section = Some s; item = Warned NoEqualsSign l.number } ∷ k) (rest (Some s))
 
--- the items with their sections are what the lines give in them
+-- the items with their sections are those that the lines give in them
 pub placed_is : (section : Option (List ℕ)) (ls : List Line) → placed_in section ls ≡ in_sections section (items_in (is_some section) ls)
 placed_is section [] = refl
 placed_is section (l ∷ ls) = line_placed l ls (statement_of l.text) section (λ later. placed_is later ls)
@@ -338,7 +338,7 @@ lines_rise text reading r =
 abbrev AllStandWell : List Placed → Type 0
 AllStandWell placed = list_all (λ p. stands_well p.section p.item) placed ≡ true
 
--- what a line gives stands well, if a section has begun exactly where there is one, and if what follows does
+-- the items of a line stand well, if a section has begun exactly when there is one, and if the items that follow stand well
 one_stands_well : (statement : Statement) (begun whole : Bool) (section : Option (List ℕ)) (k : ℕ) (later : Bool → List Item) → begun ≡ is_some section
     → ((next : Bool) (after : Option (List ℕ)) → next ≡ is_some after → AllStandWell (in_sections after (later next)))
     → AllStandWell (in_sections section (items_of statement begun k whole ++ later (begun || is_head statement)))

@@ -1,4 +1,4 @@
--- One timer is due first where any is set; a timer that is taken away is one fewer; and names are one another or not.
+-- One timer is due first if any is set; a timer that is taken away is one fewer; and names are the same or not.
 use Rattle.std.proofs.Common.{ℕ, zero, suc, ◌-◌, ◌<◌, ◌≤◌, ◌≡◌, ◌≢◌, ◌⊎◌, ◌∙◌, cond, List, [], ◌∷◌, Option, Some, None, is_some, unwrap_or, ◌||◌, true, false, true≢false, Less, Equal, Greater, refl, sym, ap, inl, inr, arith}
 use Rattle.std.specs.FinMap as map
 use Rattle.std.specs.List.{list_any}
@@ -66,7 +66,7 @@ no_earlier : (t deadline later : ℕ) (unit other : List ℕ) → t < deadline �
 no_earlier t deadline later unit other low (earlier le) = omega arith
 no_earlier t deadline later unit other low (by_name same le) = omega arith
 
--- where the first deadline is past the moment, each is
+-- if the first deadline is past the moment, each is
 pub first_is_late : (t : ℕ) (timers : Timers) (deadline : ℕ) (unit : List ℕ) → IsDueFirst timers deadline unit → t < deadline
     → (later : ℕ) (other : List ℕ) → map.get timers other ≡ Some later → t < later
 first_is_late t timers deadline unit first low later other at = elim (same_name other unit) as (λ _. t < later) [
@@ -86,7 +86,7 @@ fewer_timers timers later deadline unit is set =
     let some = some_set timers deadline unit set (map.len timers) refl in
     omega arith
 
--- ---- one timer is due first where any is set
+-- ---- one timer is due first if any is set
 
 pub named_trans : (a b c : List ℕ) → IsNamedBefore a b → IsNamedBefore b c → IsNamedBefore a c
 named_trans = nat_list_cmp_total.trans

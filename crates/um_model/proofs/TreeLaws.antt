@@ -1,4 +1,4 @@
--- Laws of the tree: what each change keeps, and that a served path has its parts and no others.
+-- Laws of the tree: each change keeps it a tree, and a served path has its parts and no others.
 use Rattle.std.proofs.Common.{◌≡◌, ℕ, ◌+◌, ◌-◌, ◌<◌, ◌≤◌, nat_eq, nat_le, nat_lt, Bool, true, false, not, ◌&&◌, ◌||◌, cond, T, List, [], ◌∷◌, ◌++◌, length, take, drop, get_or, codes, Option, Some, None, is_none, is_some, option_map, Ordering, Less, Equal, Greater, refl, sym, ap, ◌∙◌, subst, append_assoc, append-nil, take-append-drop, take_at, length-append, lit≤, arith}
 use Rattle.std.specs.Cmp.{tied_itself}
 use Rattle.std.specs.Cmp.Lexicographic.{slice_cmp, nat_list_cmp_total}
@@ -37,7 +37,7 @@ tied Greater e = cc
 same_order : (a b : List ℕ) → eq_by_cmp (slice_cmp nat_cmp) a b ≡ true → a ≡ b
 same_order a b e = slice_cmp-IsAntisymmetric nat_cmp-IsAntisymmetric a b (tied _ e)
 
--- where none of three causes is told, none of them holds
+-- if none of three causes is named, none of them holds
 pub none_of_three : (a b c : Bool) (r s t : Refused) → cond a (Some r) (cond b (Some s) (cond c (Some t) None)) ≡ None → (a ≡ false) × (b ≡ false) × (c ≡ false)
 none_of_three true b c r s t e = cc
 none_of_three false true c r s t e = cc
@@ -60,7 +60,7 @@ few_after : (o : Option Entry) (n m : ℕ) → (is_none o && nat_le entry_limit 
 few_after None n m full few e = let h = leb-false entry_limit n full in omega arith
 few_after (Some x) n m full few e = omega arith
 
--- an entry that may stand at its path, where the tree isn't full for it
+-- an entry that may stand at its path, if the tree isn't full for it
 pub insert_keeps : (tree : Tree) (path : List ℕ) (entry : Entry) → IsTree tree → is_fit_entry path entry ≡ true → is_full_for tree path ≡ false → IsTree (map.insert tree path entry)
 insert_keeps tree path entry is fit room = record {
   fit = fit_after tree path entry is fit;
@@ -87,7 +87,7 @@ fewer : (b : Bool) (n m : ℕ) → n ≤ entry_limit → m ≡ cond b (n - 1) n 
 fewer true n m h e = omega arith
 fewer false n m h e = omega arith
 
--- the tree without what stands at a path
+-- the tree without the entry at a path
 pub remove_keeps : (tree : Tree) (path : List ℕ) → IsTree tree → IsTree (map.remove tree path)
 remove_keeps tree path is = record {
   fit = λ q. ap (is_fit_at q) (map.get-remove nat_list_cmp_total tree path q) ∙ fit_or_none (eq_by_cmp (slice_cmp nat_cmp) q path) q (map.get tree q) (is.fit q);
@@ -161,7 +161,7 @@ same_value : (b : Bool) (o p : Option Entry) → (b ≡ true → o ≡ p) → co
 same_value true o p h = sym (h refl)
 same_value false o p h = refl
 
--- what stands at a path already, put there again
+-- an entry that stands at a path already, put there again
 pub insert-same : (tree : Tree) (path : List ℕ) (entry : Entry) → map.get tree path ≡ Some entry → map.insert tree path entry ≡ tree
 insert-same tree path entry is =
     map.same_map nat_list_cmp_total (slice_cmp-IsAntisymmetric nat_cmp-IsAntisymmetric) _ _
@@ -173,7 +173,7 @@ same_link None target h some = cc
 same_link (Some (File text)) target h some = cc
 same_link (Some (Link old)) target h some = ap (λ t. Some (Link t)) ((bytes_eq-Decides old target).0 (not-false (bytes_eq old target) h))
 
--- a link that nothing speaks against, where something stands: it is that link
+-- a link that no cause refuses, at a path with an entry: the entry is that link
 pub link-same : (tree : Tree) (path target : List ℕ) → link_cause tree path target ≡ None → is_some (map.get tree path) ≡ true → map.insert tree path (Link target) ≡ tree
 link-same tree path target none some =
     let all = none_of_three (not (is_fit_target (path_parts path) target)) (is_other_than_link (map.get tree path) target) (is_full_for tree path) _ _ _ none in
@@ -195,7 +195,7 @@ both_parts false b h = absurd h
 abbrev Fits : List (List ℕ × Entry) → Type 0
 Fits es = (q : List ℕ) → is_fit_at q (find (slice_cmp nat_cmp) q es) ≡ true
 
--- what is found behind an entry is found with it, or nothing is
+-- if entries with one more in front fit, so do those after it
 find-behind : (k : List ℕ) (entry : Entry) (es : List (List ℕ × Entry)) → T (below_all (slice_cmp nat_cmp) k es) → Fits ((k, entry) ∷ es) → Fits es
 find-behind k entry es below fits q =
     (elim (eq_by_cmp (slice_cmp nat_cmp) q k) as (λ b. eq_by_cmp (slice_cmp nat_cmp) q k ≡ b → is_fit_at q (cond b (Some entry) (find (slice_cmp nat_cmp) q es)) ≡ true → is_fit_at q (find (slice_cmp nat_cmp) q es) ≡ true) [
@@ -215,7 +215,7 @@ all_fit (e ∷ es) sorted fits =
 pub entries-fit : (tree : Tree) → IsTree tree → list_all (λ e. is_fit_entry e.0 e.1) (map.entries tree) ≡ true
 entries-fit tree is = all_fit (map.entries tree) (map.entries_sorted tree) (λ q. ap (is_fit_at q) (sym (map.get-entries tree q)) ∙ is.fit q)
 
--- ---- what is found in a text stands in it
+-- ---- parts found in a text stand in it
 
 cond_some : {A : Type 0} (b : Bool) (x y : A) → cond b (Some x) None ≡ Some y → (b ≡ true) × (x ≡ y)
 cond_some true x y e = (refl, same_Some x y e)
@@ -250,13 +250,13 @@ layer-parts path None (Some rest) lib e₁ e₂ e₃ q e = subst (λ p. path ≡
 layer-parts path None None (Some rest) e₁ e₂ e₃ q e = subst (λ p. path ≡ layer_text p.0 ++ p.1) (same_Some (Lib, rest) q e) (behind-parts (layer_text Lib) path rest e₃)
 layer-parts path None None None e₁ e₂ e₃ q e = cc
 
--- by what stands before the `.d`, `.wants` or `.requires` of the directory
+-- by the text before the `.d`, `.wants` or `.requires` of the directory
 abbrev place_among : Option (List ℕ) → Option (List ℕ) → Option (List ℕ) → List ℕ → Option (List ℕ × Place)
 place_among drop_in wants requires file =
     option_map_or (λ unit. option_map (λ name. (unit, DropIn name)) (before (codes ".conf") file)) drop_in
     (option_or (option_map (λ unit. (unit, Wants file)) wants) (option_map (λ unit. (unit, Requires file)) requires))
 
--- by what stands around the first `/` of what follows the layer
+-- by the texts around the first `/` after the layer
 abbrev place_around : List ℕ → Option (List ℕ × List ℕ) → Option (List ℕ × Place)
 place_around rest parts = option_map_or (λ p. place_in p.0 p.1) parts (Some (rest, Unit))
 
@@ -296,7 +296,7 @@ fit-parts layer rest (Some q) found p e =
     subst (IsPathOf (layer_text layer ++ rest)) both.1
     (record { fit = both.0; spelled = ap (λ x. layer_text layer ++ x) (unit-parts rest (around_slash rest) refl q found) })
 
--- the parts by the layer and what follows it
+-- the parts by the layer and the rest after it
 abbrev parts_behind : Option (Layer × List ℕ) → Option PathParts
 parts_behind o = o >>= λ l. unit_and_place l.1 >>= λ u. where_fit (parts_of l.0 u)
 
@@ -305,12 +305,12 @@ path-parts path None found p e = cc
 path-parts path (Some q) found p e =
     subst (λ text. IsPathOf text p) (sym (layer-parts path _ _ _ refl refl refl q found)) (fit-parts q.0 q.1 _ refl p e)
 
--- the parts that are told are those of the path
+-- the parts returned are those of the path
 pub path_of_parts : (path : List ℕ) (p : PathParts) → path_parts path ≡ Some p → IsPathOf path p
 unfolding path_parts
 path_of_parts path p e = path-parts path (layer_and_rest path) refl p e
 
--- ---- what stands in a text is found in it
+-- ---- parts that stand in a text are found in it
 
 pub before-append : (front end : List ℕ) → before end (front ++ end) ≡ Some front
 before-append front end =
@@ -318,7 +318,7 @@ before-append front end =
     ap (λ b. cond b (Some (take (length (front ++ end) - length end) (front ++ end))) None) ends
     ∙ ap Some (take_at front end _ (omega (arith, length-append front end)))
 
--- what a text ends in is seen from a tail that is long enough
+-- the end of a text is seen in a tail that is long enough
 before-other : (front tail end : List ℕ) → length end ≤ length tail → ends_with nat_eq tail end ≡ false → before end (front ++ tail) ≡ None
 before-other front tail end long other =
     let split : length (front ++ tail) - length end ≡ length front + (length tail - length end) = omega (arith, length-append front tail) in
@@ -448,13 +448,13 @@ unit-place unit (DropIn name) is = in_directory unit (codes ".d") (name ++ codes
 unit-place unit (Wants other) is = in_directory unit (codes ".wants") other _ is refl (in_wants unit other)
 unit-place unit (Requires other) is = in_directory unit (codes ".requires") other _ is refl (in_requires unit other)
 
--- the parts of a path of a unit name are told where they fit together
+-- the parts of a path of a unit name are returned if they fit together
 pub parts_at : (p : PathParts) → is_unit_name p.unit ≡ true → path_parts (path_text p) ≡ cond (is_fit_place p.unit p.place) (Some p) None
 unfolding path_parts
 parts_at p is =
     ap parts_behind (layer-text p.layer (p.unit ++ place_text p.place)) ∙ ap (λ o. o >>= λ u. where_fit (parts_of p.layer u)) (unit-place p.unit p.place is)
 
--- the parts of a path are told
+-- the parts of a path are returned
 pub parts_of_path : (path : List ℕ) (p : PathParts) → IsPathOf path p → path_parts path ≡ Some p
 parts_of_path path p of =
     ap path_parts of.spelled ∙ parts_at p (fit-name p.unit p.place of.fit) ∙ cond-true (is_fit_place p.unit p.place) (Some p) None of.fit

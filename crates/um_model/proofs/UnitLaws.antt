@@ -1,4 +1,4 @@
--- What the state holds of a unit after that unit, or its jobs, were put into it; and what it holds of the others.
+-- The state of a unit and its jobs after they were put into the state; and those of the other units.
 use Rattle.std.proofs.Common.{ℕ, ◌≡◌, ◌≢◌, ◌∙◌, ◌||◌, Bool, true, false, true≢false, cond, List, Option, Some, None, is_some, unwrap_or, refl, sym, ap}
 use Rattle.std.proofs.lemmas.Option.{none-some, same_Some}
 use Rattle.std.proofs.lemmas.Map.Views.{tells_apart}
@@ -40,7 +40,7 @@ module _ {A : Type 0} (nothing : A) where
   put_in true o x = refl
   put_in false o x = refl
 
-  -- with a value of one name, which isn't held where it is the empty one
+  -- with a value of one name, which isn't held if it is the empty one
   held_after : (m : ByUnit A) (k : List ℕ) (x : A) (b : Bool) → (b ≡ true → x ≡ nothing) → (q : List ℕ)
       → unwrap_or (map.get (cond b (map.remove m k) (map.insert m k x)) q) nothing ≡ cond (eq_by_cmp (slice_cmp nat_cmp) q k) x (unwrap_or (map.get m q) nothing)
   held_after m k x true e q =
@@ -57,7 +57,7 @@ unlike q k apart = elim (eq_by_cmp (slice_cmp nat_cmp) q k) as (λ b. eq_by_cmp 
   | false ↦ λ e. refl
 ] refl
 
--- after a unit is put into the units: what they hold of it
+-- the value of a unit after it is put into the units
 pub state_here : (units : ByUnit UnitState) (unit : List ℕ) (u : UnitState) → state_of_unit (with_unit units unit u) unit ≡ u
 state_here units unit u =
     held_after dead_unit units unit u (holds_nothing u) (nothing_held u) unit ∙ ap (λ b. cond b u (state_of_unit units unit)) (alike unit)
@@ -97,7 +97,7 @@ module _ {A : Type 0} (nothing : A) where
   same_held (Some x) None h k e = absurd (h (ap Some e))
   same_held (Some x) (Some y) h k e = ap Some e
 
-  -- tidy maps that tell the same of each name are the same
+  -- tidy maps that say the same of each name are the same
   pub same_tidy : (m n : ByUnit A) → IsTidy m → IsTidy n → ((k : List ℕ) → unwrap_or (map.get m k) nothing ≡ unwrap_or (map.get n k) nothing) → m ≡ n
   same_tidy m n h g e =
       map.same_map nat_list_cmp_total (map.slice_cmp-IsAntisymmetric map.nat_cmp-IsAntisymmetric) m n (λ k. same_held (map.get m k) (map.get n k) (h k) (g k) (e k))
@@ -126,7 +126,7 @@ not_dead u h e = true≢false (ap holds_nothing (sym e) ∙ h)
 pub not_jobless : (j : UnitJobs) → has_job j ≡ true → j ≢ no_jobs
 not_jobless j h e = true≢false (sym h ∙ ap has_job e)
 
--- what is put into tidy units leaves them so
+-- a unit put into tidy units leaves them tidy
 pub tidy_units : (units : ByUnit UnitState) (unit : List ℕ) (u : UnitState) → IsTidy dead_unit units → IsTidy dead_unit (with_unit units unit u)
 tidy_units units unit u h = by_test (holds_nothing u) refl
   where

@@ -86,7 +86,7 @@ part_follows (suc n) m b bs some =
 past_follows : (b : ℕ) (bs : List ℕ) → 0 < length (digits_of (b ∷ bs)) → Follows bs (past_part (b ∷ bs))
 past_follows b bs some = part_follows (length (digits_of (b ∷ bs))) (length (unit_of (b ∷ bs))) b bs some
 
--- what the times of a text add up to
+-- the sum of the times of a text
 abbrev sum_in : List ℕ → Option ℕ
 sum_in text = option_map sum (reading time_front text)
 
@@ -183,7 +183,7 @@ no_word_for_both lower (w ∷ words) apart h =
       | inr later ↦ no_word_for_both lower words t.1 later
     ]
 
--- a text is a word for this truth value where the function tells it
+-- the function returns the truth value that a text is a word for
 pub boolean_of-IsBoolean : (text : List ℕ) (b : Bool) → IsBoolean text b → boolean_of text ≡ Some b
 unfolding boolean_of
 boolean_of-IsBoolean text true is = cond-true _ _ _ is
@@ -199,7 +199,7 @@ pub IsBoolean-boolean_of : (text : List ℕ) (b : Bool) → boolean_of text ≡ 
 unfolding boolean_of
 IsBoolean-boolean_of text b e = boolean_by text _ _ b refl refl e
 
--- the function tells the number of a text
+-- the function returns the number of a text
 pub number_of-IsNumber : (text : List ℕ) (n : ℕ) → IsNumber text n → number_of text ≡ Some n
 unfolding number_of
 number_of-IsNumber text n is =
@@ -217,7 +217,7 @@ IsNumber-number_of text n e = elim (cases_Bool (is_decimal text && leb (decimal 
   | inr other ↦ absurd (none-some n (sym (cond-false _ _ _ other) ∙ e))
 ]
 
--- the function tells the set of the exits
+-- the function returns the set of the exits
 pub exits_of-IsExitSet : (text : List ℕ) (holds : End → Bool) → IsExitSet text holds → exits_of text ≡ Some holds
 unfolding exits_of
 exits_of-IsExitSet text holds is = cond-true _ _ _ is.readable ∙ ap Some (sym (fun_ext is.exact))
@@ -231,7 +231,7 @@ IsExitSet-exits_of text holds e = elim (cases_Bool (list_all is_exit (words_in t
   | inr other ↦ absurd (none-some holds (sym (cond-false _ _ _ other) ∙ e))
 ]
 
--- the function tells the policy of a name
+-- the function returns the policy of a name
 pub policy_named-restart_text : (policy : RestartPolicy) → policy_named (restart_text policy) ≡ Some policy
 unfolding policy_named
 policy_named-restart_text No = refl
@@ -260,7 +260,7 @@ not_endless : (text : List ℕ) (n : ℕ) → AddUpTo text n → bytes_eq text (
 not_endless text n sum =
     false_from_ne_true _ (λ e. no_sum n (subst (λ x. AddUpTo x n) ((bytes_eq-Decides text (codes "infinity")).0 e) sum))
 
--- the function tells the time span of a text
+-- the function returns the time span of a text
 pub span_of-IsSpan : (text : List ℕ) (span : Option ℕ) → IsSpan text span → span_of text ≡ Some span
 unfolding span_of
 span_of-IsSpan text None is = cond-true _ _ _ ((bytes_eq-Decides text (codes "infinity")).1 is)
@@ -289,7 +289,7 @@ pub IsSpan-span_of : (text : List ℕ) (span : Option ℕ) → span_of text ≡ 
 unfolding span_of
 IsSpan-span_of text span e = span_by text _ _ span refl refl e
 
--- each function finds what its relation tells
+-- each function finds what its relation says
 
 pub finds_boolean : (text : List ℕ) → Finds (boolean_of text) (IsBoolean text)
 finds_boolean text = λ b. (IsBoolean-boolean_of text b, boolean_of-IsBoolean text b)

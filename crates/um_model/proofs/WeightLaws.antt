@@ -1,4 +1,4 @@
--- What a tree weighs is bounded: a path is short, and so is what stands at it.
+-- The weight of a tree is bounded: a path is short, and so is the entry at it.
 use Rattle.std.proofs.Common.{◌≡◌, ℕ, ◌+◌, ◌*◌, ◌≤◌, ◌^◌, nat_le, Bool, true, false, not, cond, ◌&&◌, List, [], ◌∷◌, ◌++◌, length, codes, Option, Some, None, is_some, ap, ◌∙◌, refl, length-append, lit≤, arith}
 use Rattle.std.specs.Cmp.Lexicographic.{slice_cmp}
 use Rattle.std.specs.FinMap as map

@@ -1,4 +1,4 @@
--- A word read byte by byte, inside a quote or none, as code goes: it finds what the pieces of a word tell.
+-- A word read byte by byte, inside a quote or none, as code does it: the result is that of the word's pieces.
 use Rattle.std.proofs.Common.{◌≡◌, ◌≤◌, ℕ, zero, suc, ◌-◌, Bool, true, false, cond, eqb, List, [], ◌∷◌, ◌++◌, length, take, drop, Option, Some, None, refl, sym, ap, ◌∙◌, inl, inr, append_assoc, append-nil, arith}
 use Rattle.std.specs.Prelude.{◌&&◌, nat_lt, ◌==◌}
 use Rattle.std.specs.Option.{option_map_or}
@@ -85,9 +85,9 @@ escape_piece (b ∷ bs) =
     (either_piece _ (hex_spelling (hex_value bs)) _ (either_piece _ (Means (hex_value bs) 4) Bad refl refl)
     (either_piece (is_left_out b bs) Bad _ refl (either_piece (is_space b) (Kept 2) (Kept 1) refl refl)))
 
--- What is read behind a piece.
+-- The reading after a piece.
 
--- what is read by pieces in this form is read byte by byte
+-- a way to go on after pieces: no reading stays none, and the bytes read so far stay in front
 pub record Goes (rules : WordRules) (quote : Option ℕ) (front : ℕ → List ℕ → Front ℕ) (after : Option (List ℕ × List ℕ) → Option (List ℕ × List ℕ)) : Type 0 where
   pub none : after None ≡ None
   pub more : (xs : List ℕ) (r : Option (List ℕ × List ℕ)) → after (with_front xs r) ≡ with_front xs (after r)
@@ -111,7 +111,7 @@ by_piece rules quote front after size b bs (Turn other) goes agrees small is = a
 by_piece rules quote front after size b bs (Means meaning n) goes agrees small is = behind rules quote front after size (n - 1) bs (meaning ∷ []) goes agrees small
 by_piece rules quote front after size b bs (Kept n) goes agrees small is = behind rules quote front after size (n - 1) bs (b ∷ take (n - 1) bs) goes agrees small
 
--- where the code's spelling and the definition's front are the same piece
+-- if the code's spelling and the definition's front are the same piece
 same_piece : (rules : WordRules) (quote : Option ℕ) (front : ℕ → List ℕ → Front ℕ) (after : Option (List ℕ × List ℕ) → Option (List ℕ × List ℕ)) (size b : ℕ) (bs : List ℕ) (s : Spelling)
     → Goes rules quote front after → Agrees rules quote front after size → length bs ≤ size → is_piece s ≡ true → spelled_at rules quote b bs ≡ s → front b bs ≡ as_front b bs s
     → read rules 0 quote (b ∷ bs) ≡ after (begun front (b ∷ bs))
@@ -123,7 +123,7 @@ same_piece rules quote front after size b bs s goes agrees small is spelled same
 
 -- Inside a quote.
 
--- what is read behind a quote, where so much is found inside
+-- the reading after a quote, given the text found inside
 abbrev past_quote : WordRules → Option (List ℕ × List ℕ) → Option (List ℕ × List ℕ)
 past_quote rules None = None
 past_quote Plain (Some (found, [])) = Some (found, [])
@@ -174,7 +174,7 @@ closed_end Plain = refl
 closed_end Escaped = refl
 closed_end Names = refl
 
--- behind the closing quote the word goes on
+-- after the closing quote the word goes on
 closed : (rules : WordRules) (size b : ℕ) (bs : List ℕ) → Agrees rules None (piece_of_word rules) itself size → length bs ≤ size → (r : Option (List ℕ × List ℕ))
     → begun (quoted_front rules b) bs ≡ r → past_quote rules r ≡ by_front (quote_front rules (b ∷ bs) r) (b ∷ bs) (λ n. begun (piece_of_word rules) (drop n bs))
 closed rules size b bs agrees small None is = refl
@@ -220,6 +220,6 @@ outside rules (suc size) (b ∷ bs) small =
       ]
     ]
 
--- what is read byte by byte is what the pieces tell
+-- reading byte by byte gives the same as the pieces
 pub begun-read : (rules : WordRules) (text : List ℕ) → begun (piece_of_word rules) text ≡ read rules 0 None text
 begun-read rules text = sym (outside rules (length text) text (omega arith))

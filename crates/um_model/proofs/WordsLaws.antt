@@ -99,7 +99,7 @@ told_means rules text bs word rest later b meaning n quote whole e is two left t
     ∙ ap (λ f. with_front word (by_spelling f quote b bs (λ n other. read rules n other bs))) (sym is)
     ∙ ap (λ t. with_front word (read rules 0 quote t)) (sym e) ∙ told
 
--- bytes more that stay, and the run of plain bytes behind them
+-- more bytes that stay, and the run of plain bytes after them
 pub told_kept : (rules : WordRules) (text bs word rest later : List ℕ) (b n p : ℕ) (quote : Option ℕ) (whole : Option (List ℕ × List ℕ))
     → text ≡ b ∷ bs → spelled_at rules quote b bs ≡ Kept n → 1 ≤ n → p ≡ prefix_len (is_plain rules quote) (drop (n - 1) bs)
     → rest ≡ drop (n + p) text → later ≡ word ++ take (n + p) text
@@ -120,12 +120,12 @@ told_kept rules text bs word rest later b n p quote whole e is one run left then
     ∙ ap (λ f. with_front word (by_spelling f quote b bs (λ n other. read rules n other bs))) (sym is)
     ∙ ap (λ t. with_front word (read rules 0 quote t)) (sym e) ∙ told
 
--- what is in front of what was read
+-- a reading with a front, without that front
 taken_off : (front : List ℕ) (r : Option (List ℕ × List ℕ)) (w s : List ℕ) → with_front front r ≡ Some (w, s) → (v : List ℕ) × (r ≡ Some (v, s)) × (front ++ v ≡ w)
 taken_off front None w s e = absurd (none-some (w, s) e)
 taken_off front (Some p) w s e = let q = some_pair_parts (front ++ p.0) w p.1 s e in (p.0, ap (λ t. Some (p.0, t)) q.1, q.0)
 
--- what is spelled so is read
+-- a word that is spelled so is read
 pub read-InWord : (rules : WordRules) (quote : Option ℕ) (bs word rest : List ℕ) → InWord rules quote bs word rest → read rules 0 quote bs ≡ Some (word, rest)
 read-InWord rules quote bs word rest (ends q e) = cond-true _ _ _ e
 read-InWord rules quote bs word rest (stops q b more e) = ap (λ f. by_spelling f q b more (λ n other. read rules n other more)) e
@@ -138,7 +138,7 @@ read-InWord rules quote bs word rest (keeps q b n more w r e inside) =
     ap (λ f. by_spelling f q b more (λ n other. read rules n other more)) e
     ∙ ap (with_front (b ∷ take (n - 1) more)) (read_skip rules (n - 1) q more ∙ read-InWord rules q (drop (n - 1) more) w r inside)
 
--- what is read in texts of at most this size is spelled so
+-- a word that is read in a text of at most this size is spelled so
 abbrev FindsWords : WordRules → ℕ → Type 0
 FindsWords rules size = (quote : Option ℕ) (bs word rest : List ℕ) → length bs ≤ size → read rules 0 quote bs ≡ Some (word, rest) → InWord rules quote bs word rest
 
@@ -166,14 +166,14 @@ ended rules quote word rest e = elim (cases_Bool (may_end rules quote)) [
   | inr not_so ↦ absurd (none-some (word, rest) (sym (cond-false _ _ _ not_so) ∙ e))
 ]
 
--- what is read is spelled so
+-- a word that is read is spelled so
 pub InWord-read : (rules : WordRules) (size : ℕ) → FindsWords rules size
 InWord-read rules size quote [] word rest small e = ended rules quote word rest e
 InWord-read rules zero quote (b ∷ bs) word rest small e = absurd (omega arith)
 InWord-read rules (suc size) quote (b ∷ bs) word rest small e =
     by_case rules size (InWord-read rules size) (spelled_at rules quote b bs) quote b bs word rest (omega arith) refl e
 
--- what is read is what is spelled
+-- the words that are read are exactly those that are spelled
 pub word_spelled : (rules : WordRules) (quote : Option ℕ) (bs word rest : List ℕ) → (read rules 0 quote bs ≡ Some (word, rest)) ↔ InWord rules quote bs word rest
 word_spelled rules quote bs word rest = (λ e. InWord-read rules (length bs) quote bs word rest (omega arith) e, read-InWord rules quote bs word rest)
 
@@ -231,7 +231,7 @@ rest_follows_first rules b bs word rest apart (stands q c meaning n more w r e i
 rest_follows_first rules b bs word rest apart (keeps q c n more w r e inside) =
     follows_more more r (n - 1) (rest_follows rules q (drop (n - 1) more) w r inside)
 
--- a text that begins with whitespace is as many words as what follows
+-- a text that begins with whitespace reads as the same words as the rest after that
 pub space_read : (rules : WordRules) (b : ℕ) (bs : List ℕ) → is_space b ≡ true → reading (piece_of_words rules) (b ∷ bs) ≡ reading (piece_of_words rules) bs
 space_read rules b bs white = reading_first (piece_of_words rules) b 1 bs [] (cond-true _ _ _ white) ∙ prefixed-nil (reading (piece_of_words rules) bs)
 
@@ -256,13 +256,13 @@ word_read rules text rest later b value e apart found =
     ∙ first_read rules b later value rest apart (ap (read rules 0 None) (sym e) ∙ found)
     ∙ ap (λ t. option_map (λ words. first_word t rest value ∷ words) (reading (piece_of_words rules) rest)) (sym e)
 
--- where no word is read there are none
+-- if no word is read there are none
 pub none_read : (rules : WordRules) (text later : List ℕ) (b : ℕ) → text ≡ b ∷ later → is_space b ≡ false → read rules 0 None text ≡ None → reading (piece_of_words rules) text ≡ None
 none_read rules text later b e apart nothing =
     ap (reading (piece_of_words rules)) e
     ∙ reading_unreadable (piece_of_words rules) b later (cond-false _ _ _ apart ∙ ap (λ o. option_map_or (word_front (b ∷ later)) o Unreadable) (begun-read rules (b ∷ later) ∙ ap (read rules 0 None) (sym e) ∙ nothing))
 
--- the same of what the words stand for
+-- the same of the texts that the words stand for
 pub words_of-AreWords : (rules : WordRules) (text : List ℕ) (words : List (List ℕ)) → AreWords rules text words → words_of rules text ≡ Some words
 unfolding words_of
 words_of-AreWords rules text words are = ap (option_map word_values) (reading-StandsForText (piece_of_words rules) text are.0 are.1) ∙ ap Some are.2
@@ -284,7 +284,7 @@ AreCommands-commands_read text commands e =
     let t = mapped commands_among (reading (piece_of_words Escaped) text) commands e in
     (t.0, StandsForText-reading (piece_of_words Escaped) text t.0 t.1, t.2)
 
--- each function finds what its relation tells
+-- each function finds what its relation says
 
 pub finds_words : (rules : WordRules) (text : List ℕ) → Finds (words_of rules text) (AreWords rules text)
 finds_words rules text = λ words. (AreWords-words_of rules text words, words_of-AreWords rules text words)
@@ -300,13 +300,13 @@ same_words rules text = one_found (words_of rules text) (AreWords rules text) (f
 pub same_commands : (text : List ℕ) (a b : List Command) → AreCommands text a → AreCommands text b → a ≡ b
 same_commands text = one_found (commands_read text) (AreCommands text) (finds_commands text)
 
--- the commands of words, where these values stand before the first separator already
+-- the commands of words, if these values stand before the first separator already
 abbrev pub commands_after : List (List ℕ) → List Word → List Command
 commands_after part [] = command_of part
 commands_after part (word ∷ words) =
     cond (is_separator word) (command_of part ++ commands_after [] words) (commands_after (part ++ value_in_command word ∷ []) words)
 
--- the commands of parts, where these values stand before the first part
+-- the commands of parts, if these values stand before the first part
 abbrev parts_after : List (List ℕ) → List (List Word) → List Command
 parts_after part [] = command_of part
 parts_after part (first ∷ others) = command_of (part ++ map value_in_command first) ++ flat_map (λ p. command_of (map value_in_command p)) others

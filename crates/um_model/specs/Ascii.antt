@@ -1,6 +1,6 @@
 -- Classes of ASCII characters, by their codes. A text is the list of its bytes in UTF-8.
 -- Follows systemd.syntax(7) in what counts as whitespace: spaces and tabs.
--- Names, unit files and values stand on this file.
+-- Names, unit files and values depend on this file.
 use Rattle.std.specs.Prelude.{ℕ, Bool, ◌&&◌, ◌||◌, ◌==◌, nat_le}
 
 -- a space or a tab

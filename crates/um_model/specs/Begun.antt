@@ -24,7 +24,7 @@ begun_firing (Fires.none_due none) = []
 begun_firing (Fires.fires_next deadline unit first due (FiresOne.fires stands comes settles) more) = begun_settling settles ++ begun_firing more
 begun_firing (Fires.fires_next deadline unit first due (FiresOne.is_gone gone) more) = begun_firing more
 
--- those that begin by what follows from what happens
+-- those that begin by the effect of a happening
 abbrev pub begun_following : {t : ℕ} {s v : State} {happening : Happening} {actions : List Action} → Follows t s happening actions v → List Begun
 begun_following (Follows.ends unit of_it effect settles) = begun_settling settles
 begun_following (Follows.reports unit of_it awaits effect settles) = begun_settling settles
@@ -37,14 +37,14 @@ abbrev pub begun_taking : {profile : Profile} {t : ℕ} {s v : State} {event : E
 begun_taking (TakesEffect.obeys allowed does settles) = begun_settling settles
 begun_taking (TakesEffect.meets counts follows) = begun_following follows
 
--- those that begin in a step: none, where it is refused or without effect
+-- those that begin in a step: none, if it is refused or without effect
 abbrev pub begun_in : {size : ℕ} {s t : State} {input : Input} {reply : Reply} {actions : List Action} → Step size s input reply actions t → List Begun
 begun_in (Step.refused cause) = []
 begun_in (Step.crowded_out takes heavy) = []
 begun_in (Step.idle effectless) = []
 begun_in (Step.taken takes light) = begun_taking takes
 
--- these jobs alone
+-- the jobs alone, without the states
 abbrev pub jobs_of : List Begun → List Job
 jobs_of begun = each (λ (b : Begun). b.job) begun
 

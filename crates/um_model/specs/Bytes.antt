@@ -1,6 +1,6 @@
 -- Canonical bytes: how each kind of value is spelled, and how a value is read at the front of bytes.
 -- No manual page has this: it is the project's own format (docs/FORMATS.md, "Canonical bytes").
--- The bytes of inputs and states, slots and the log stand on this file.
+-- The bytes of inputs and states, slots and the log depend on this file.
 use Rattle.std.specs.Prelude.{◌≡◌, ℕ, zero, suc, ◌<◌, ◌≤◌, ◌^◌, nat_lt, nat_le, Bool, true, false, ◌&&◌, List, [], ◌∷◌, ◌++◌, length, take, drop}
 use Rattle.std.specs.Prelude.{slice_index, Option, Some, None, if◌then◌else◌}
 use Rattle.std.specs.List.{flat_map, list_all, AllByRecursion, slice_get}
@@ -15,7 +15,7 @@ use Rattle.byteorder.specs.Endian.{big_number, big_bytes}
 abbrev pub Spelling : Type 0 → Type 0
 Spelling V = V → List ℕ
 
--- how a value is read at the front of bytes: the value and the bytes behind it, where the front spells one
+-- how a value is read from the front of bytes: the value and the bytes after it, if the front spells one
 abbrev pub Decoder : Type 0 → Type 0
 Decoder V = List ℕ → Option (V × List ℕ)
 
@@ -23,7 +23,7 @@ Decoder V = List ℕ → Option (V × List ℕ)
 abbrev pub IsBytes : List ℕ → Type 0
 IsBytes bytes = (i : ℕ) → slice_index bytes i < 256
 
--- what is read is spelled so, and what is spelled is read again whatever follows
+-- the decoder reads only the spellings of values that fit, and it reads each of these back, whatever follows
 pub record IsCanonical {V : Type 0} (fits : V → Type 0) (spelling : Spelling V) (decoder : Decoder V) : Type 0 where
   pub takes : (bytes : List ℕ) (v : V) (rest : List ℕ) → IsBytes bytes → decoder bytes ≡ Some (v, rest) → (bytes ≡ spelling v ++ rest) × fits v
   pub again : (v : V) (rest : List ℕ) → fits v → decoder (spelling v ++ rest) ≡ Some (v, rest)
@@ -33,13 +33,13 @@ pub record IsInFront (front bytes : List ℕ) : Type 0 where
   pub behind : List ℕ
   pub parts : bytes ≡ front ++ behind
 
--- the value behind which nothing is left
+-- the value, if nothing is left after it
 abbrev pub nothing_left : {V : Type 0} → Option (V × List ℕ) → Option V
 nothing_left (Some (v, [])) = Some v
 nothing_left other = None
 
 infixl 10 ◌>>=◌
--- what the second makes of the first, where there is one
+-- the function's result for the value, or nothing if there is no value
 abbrev pub ◌>>=◌ : {A B : Type 0} → Option A → (A → Option B) → Option B
 (Some x) >>= f = f x
 None >>= f = None
@@ -51,7 +51,7 @@ abbrev pub byte_at : Decoder ℕ
 byte_at [] = None
 byte_at (b ∷ rest) = Some (b, rest)
 
--- a number of so many bytes
+-- a number of the given width in bytes
 abbrev pub number_at : ℕ → Decoder ℕ
 number_at width bytes = if nat_lt (length bytes) width then None else Some (big_number width bytes, drop width bytes)
 
@@ -63,28 +63,28 @@ is_between first last n = nat_le first n && nat_le n last
 abbrev pub FitBetween : ℕ → ℕ → ℕ → Type 0
 FitBetween first last n = (first ≤ n) × (n ≤ last)
 
--- ---- one behind the other
+-- ---- one after the other
 
--- the first value, and the second behind it
+-- the first value, then the second
 abbrev pub pair_spelling : {A B : Type 0} → Spelling A → Spelling B → Spelling (A × B)
 pair_spelling first second p = first p.0 ++ second p.1
 
--- the first value, and the second behind it, where both are there
+-- the first value and the second after it, if both are there
 abbrev pub pair_at : {A B : Type 0} → Decoder A → Decoder B → Decoder (A × B)
 pair_at first second bytes = first bytes >>= λ a. second a.1 >>= λ b. Some ((a.0, b.0), b.1)
 
--- a byte that always stands there, and the value behind it
+-- a fixed byte, and the value after it
 abbrev pub marked_at : {A : Type 0} → ℕ → Decoder A → Decoder A
 marked_at mark one [] = None
 marked_at mark one (b ∷ rest) = if nat_lt b mark then None else if nat_lt mark b then None else one rest
 
 -- ---- the same values in another form, and those that pass a test
 
--- a value that is read in one form and told in another
+-- a value that is read in one form and returned in another
 abbrev pub as_at : {A B : Type 0} → (A → B) → Decoder A → Decoder B
 as_at to one bytes = one bytes >>= λ a. Some (to a.0, a.1)
 
--- a value that is read, where it passes the test
+-- a value that is read, if it passes the test
 abbrev pub only_at : {A : Type 0} → (A → Bool) → Decoder A → Decoder A
 only_at test one bytes = one bytes >>= λ a. if test a.0 then Some a else None
 
@@ -92,7 +92,7 @@ only_at test one bytes = one bytes >>= λ a. if test a.0 then Some a else None
 abbrev pub between_at : ℕ → ℕ → Decoder ℕ
 between_at first last = only_at (is_between first last) (number_at 8)
 
--- ---- a choice, told by its tag
+-- ---- a choice, by its tag
 
 -- a choice without fields
 abbrev pub tag_at : {A : Type 0} → (ℕ → Option A) → Decoder A
@@ -120,7 +120,7 @@ just_at a bytes = Some (a, bytes)
 abbrev pub none_at : {A : Type 0} → Decoder A
 none_at bytes = None
 
--- the arm at this place of a table, from 0; behind its end there is none
+-- the arm at this place of a table, from 0; past its end there is none
 abbrev pub arm_in : {A : Type 0} → List (Decoder A) → ℕ → Decoder A
 arm_in [] tag = none_at
 arm_in (arm ∷ table) zero = arm
@@ -133,17 +133,17 @@ abbrev pub truth_tag : Bool → ℕ
 truth_tag false = 0
 truth_tag true = 1
 
--- by their tags
+-- the truth values by their tags
 abbrev pub truths : List Bool
 truths = false ∷ true ∷ []
 
 -- ---- an option: 0, or 1 and the value
 
--- 0 where there is no value; else 1 and the value
+-- 0 if there is no value, else 1 and the value
 abbrev pub option_spelling : {A : Type 0} → Spelling A → Spelling (Option A)
 option_spelling one o = option_map_or (λ x. 1 ∷ one x) o (0 ∷ [])
 
--- no value behind a 0, one behind a 1
+-- no value after a 0, one after a 1
 abbrev pub option_at : {A : Type 0} → Decoder A → Decoder (Option A)
 option_at one = choice_at (arm_in (just_at None ∷ as_at Some one ∷ []))
 
@@ -157,11 +157,11 @@ FitText text = (length text < 2 ^ 32) × (is_utf8 text ≡ true)
 abbrev pub text_spelling : Spelling (List ℕ)
 text_spelling text = big_bytes 4 (length text) ++ text
 
--- so many bytes, where they are there and a text
+-- the first n bytes, if that many are there and they are a text
 abbrev pub front_text : ℕ → List ℕ → Option (List ℕ)
 front_text n bytes = if nat_lt (length bytes) n then None else if is_utf8 (take n bytes) then Some (take n bytes) else None
 
--- a length, and a text of so many bytes
+-- a length, and a text of that many bytes
 abbrev pub text_at : Decoder (List ℕ)
 text_at bytes = number_at 4 bytes >>= λ n. front_text n.0 n.1 >>= λ text. Some (text, drop n.0 n.1)
 
@@ -171,16 +171,16 @@ text_at bytes = number_at 4 bytes >>= λ n. front_text n.0 n.1 >>= λ text. Some
 abbrev pub FitList : {A : Type 0} → (A → Type 0) → List A → Type 0
 FitList fits xs = (length xs < 2 ^ 32) × AllByRecursion fits xs
 
--- the count in four bytes, and the items one behind the other
+-- the count in four bytes, and the items one after the other
 abbrev pub list_spelling : {A : Type 0} → Spelling A → Spelling (List A)
 list_spelling one xs = big_bytes 4 (length xs) ++ flat_map one xs
 
--- so many items
+-- as many items as the count says
 abbrev pub many_at : {A : Type 0} → Decoder A → ℕ → Decoder (List A)
 many_at one zero bytes = Some ([], bytes)
 many_at one (suc n) bytes = one bytes >>= λ a. many_at one n a.1 >>= λ more. Some (a.0 ∷ more.0, more.1)
 
--- a count, and so many items
+-- a count, and that many items
 abbrev pub list_at : {A : Type 0} → Decoder A → Decoder (List A)
 list_at one bytes = number_at 4 bytes >>= λ n. many_at one n.0 n.1
 
@@ -195,7 +195,7 @@ abbrev pub all_ascend : {A : Type 0} → (A → A → Bool) → List A → Bool
 all_ascend is_below [] = true
 all_ascend is_below (a ∷ others) = option_map_or (is_below a) (slice_get others 0) true && all_ascend is_below others
 
--- so by their keys
+-- entries ascend by their keys
 abbrev pub ascends : {A : Type 0} → List (List ℕ × A) → Bool
 ascends entries = all_ascend (λ e next. is_lt (slice_cmp nat_cmp e.0 next.0)) entries
 

@@ -1,6 +1,6 @@
 -- Words as commands.
 -- Follows systemd.service(5), "Command lines".
--- The settings of units and the start of a process stand on this file.
+-- The settings of units and the start of a process depend on this file.
 use Rattle.std.specs.Prelude.{ℕ, Bool, false, not, ◌||◌, ◌==◌, if◌then◌else◌, List, [], ◌∷◌, length, map, drop, take_while, Option, option_map, bytes_eq}
 use Rattle.std.specs.List.{list_any, flat_map, slice_split}
 use Rattle.um_model.specs.Pieces.{reading}
@@ -33,7 +33,7 @@ command_of (first ∷ others) =
     let says = λ (sign : ℕ). list_any (λ b. b == sign) signs in
     record { words = drop (length signs) first ∷ others; ignores_failure = says 45; substitutes = not (says 58) } ∷ []
 
--- the commands that the text reads as, where it can be read: its words, parted at each separator
+-- the commands that the text reads as, if it can be read: its words, parted at each separator
 unfoldable pub commands_read : List ℕ → Option (List Command)
 commands_read text =
     option_map (λ words. flat_map (λ part. command_of (map value_in_command part)) (slice_split is_separator words)) (reading (piece_of_words Escaped) text)

@@ -1,6 +1,6 @@
--- What a demand on a unit brings with it: the required set, and the demanded set with what is wanted along.
+-- What a demand on a unit brings with it: the required set, and the demanded set with the units that are wanted along.
 -- Follows systemd.unit(5), "Requires=", "BindsTo=", "PartOf=", "Conflicts=" and "Wants=".
--- Transactions stand on this file.
+-- Transactions depend on this file.
 use Rattle.std.specs.Prelude.{◌≡◌}
 use Rattle.um_model.specs.Reached.{Reached}
 use Rattle.um_model.specs.declared.dependencies.Demand.{Demand}
@@ -13,7 +13,7 @@ pub data IsStarting : Demand → Type 0 where
   starts : IsStarting Start
   restarts : IsStarting Restart
 
--- by what depends on what, y leans on x: it requires x, binds itself to x or is part of x
+-- by these dependencies, y leans on x: it requires x, binds itself to x or is part of x
 pub data LeansOn {U : Type 0} (Depends : DependencyKind → U → U → Type 0) (y x : U) : Type 0 where
   requires : Depends Requires y x → LeansOn Depends y x
   binds : Depends BindsTo y x → LeansOn Depends y x
@@ -41,7 +41,7 @@ pub record IsStartable {U : Type 0} (Depends : DependencyKind → U → U → Ty
   pub loadable : (y : U) → IsRequired Depends IsActive (Start, w) (Start, y) → IsLoadable y
   pub apart : (y : U) → IsRequired Depends IsActive (Start, w) (Start, y) → ¬ IsRequired Depends IsActive (Start, w) (Stop, y)
 
--- a demand brings another, or what is wanted along
+-- a demand brings another, or the start of a unit that is wanted along
 pub data BringsAlong {U : Type 0} (Depends : DependencyKind → U → U → Type 0) (IsActive IsLoadable : U → Type 0) : Demand × U → Demand × U → Type 0 where
   needed : {p q : Demand × U} → Brings Depends IsActive p q → BringsAlong Depends IsActive IsLoadable p q
   -- x is started or restarted and wants w, which can be started along: w is started

@@ -1,6 +1,6 @@
 -- How units depend on one another by a tree, which of them are known, and which come before which.
 -- Follows systemd.unit(5), "Wants=" to "Conflicts=", "Before=", "After=" and "Default Dependencies".
--- Transactions, the job order and the limit of known units stand on this file.
+-- Transactions, the job order and the limit of known units depend on this file.
 use Rattle.std.specs.Prelude.{◌≡◌, ◌≢◌, ◌⊎◌, ◌↔◌, ℕ, ◌<◌, max, Bool, true, false, not, ◌&&◌, if◌then◌else◌, List, length, AllPairs, All, Contains, Option, Some, None, is_some}
 use Rattle.std.specs.Str.{bytes_eq}
 use Rattle.std.specs.FinMap as map
@@ -16,18 +16,18 @@ use Rattle.um_model.specs.declared.dependencies.DependencyKind.TheVariants as ki
 use Rattle.um_model.specs.declared.names.Suffix.TheVariants.{Target}
 use Rattle.um_model.specs.declared.tree.Layer.{Layer}
 
--- ---- what a tree says of names
+-- ---- names by a tree
 
--- a unit can be loaded where it is found and is no template
+-- a unit can be loaded if it is found and is no template
 abbrev pub loadable_of : Loading → Option LoadedUnit
 loadable_of (Found l) = if is_template l.name then None else Some l
 loadable_of other = None
 
--- the unit that the name leads to, where it can be loaded
+-- the unit that the name leads to, if it can be loaded
 abbrev pub loadable_in : ReadTree → List ℕ → Option LoadedUnit
 loadable_in tree name = loadable_of (load tree name)
 
--- what the settings name in the list of this kind
+-- the names in the settings' list of this kind
 abbrev pub names_in : DependencyKind → units.Dependencies → List (List ℕ)
 names_in kinds.Wants d = d.wants
 names_in kinds.Requires d = d.required
@@ -35,7 +35,7 @@ names_in kinds.BindsTo d = d.binds_to
 names_in kinds.PartOf d = d.part_of
 names_in kinds.Conflicts d = d.conflicts
 
--- the tree has a link in the directory of a unit for what it wants or requires, with the name of that
+-- the tree has a link in the directory of a unit for the units that it wants or requires, named after one of these
 pub data Links (tree : Tree) : DependencyKind → List ℕ → List ℕ → Type 0 where
   wants : (path target y : List ℕ) (p : PathParts) → map.get tree path ≡ Some (Link target) → path_parts path ≡ Some p → p.place ≡ Wants y
       → Links tree kinds.Wants p.unit y
@@ -52,7 +52,7 @@ pub record HasEntry (tree : Tree) (x : List ℕ) : Type 0 where
 abbrev pub has_defaults : LoadedUnit → Bool
 has_defaults l = l.settings.dependencies.default_dependencies && not (bytes_eq l.name shutdown_target)
 
--- ---- what a known name gives
+-- ---- dependencies and order by a known name
 
 -- by the name a, x depends on y
 pub data Gives (tree : ReadTree) : List ℕ → DependencyKind → List ℕ → List ℕ → Type 0 where
@@ -73,7 +73,7 @@ pub data Declares (tree : ReadTree) : List ℕ → List ℕ → List ℕ → Typ
   follows : {a y : List ℕ} {l : LoadedUnit} → loadable_in tree a ≡ Some l → Contains l.settings.dependencies.after y
       → Declares tree a (unit_named tree.entries y) l.name
 
--- what is known along with the name a: all names in its dependencies
+-- the names that are known along with the name a: all in its dependencies
 pub data Mentions (tree : ReadTree) : List ℕ → List ℕ → Type 0 where
   owner : {a x y : List ℕ} {kind : DependencyKind} → Gives tree a kind x y → Mentions tree a x
   other : {a x y : List ℕ} {kind : DependencyKind} → Gives tree a kind x y → Mentions tree a y
@@ -93,7 +93,7 @@ pub data IsNamed (tree : ReadTree) (Extra : List ℕ → Type 0) : List ℕ → 
 abbrev pub IsKnown : ReadTree → (List ℕ → Type 0) → List ℕ → Type 0
 IsKnown tree Extra = Reached (IsNamed tree Extra) (Mentions tree)
 
--- a manager knows at most so many units
+-- the most units that a manager knows
 abbrev pub unit_limit : ℕ
 unit_limit = 1024
 
@@ -104,14 +104,14 @@ pub record KnowsTooMany (tree : ReadTree) (Extra : List ℕ → Type 0) : Type 0
   pub apart : AllPairs (λ x y. x ≢ y) names
   pub many : unit_limit < length names
 
--- just so many units are known: a list of exactly these, none twice
+-- exactly `count` units are known: a list of just these, none twice
 pub record KnowsSoMany (tree : ReadTree) (Extra : List ℕ → Type 0) (count : ℕ) : Type 0 where
   pub names : List (List ℕ)
   pub whole : (x : List ℕ) → Contains names x ↔ IsKnown tree Extra x
   pub apart : AllPairs (λ x y. x ≢ y) names
   pub long : length names ≡ count
 
--- a tree counts for so many units: the greater of the counts by it and by it without its entries under `run/`
+-- a tree counts for `count` units: the greater of the counts by it and by it without its entries under `run/`
 pub record CountsFor (tree : ReadTree) (Extra : List ℕ → Type 0) (count : ℕ) : Type 0 where
   pub held : ℕ
   pub lasting : ℕ
@@ -138,7 +138,7 @@ pub record IsDeclared (tree : ReadTree) (Extra : List ℕ → Type 0) (x y : Lis
 abbrev pub Declines : ReadTree → List ℕ → Type 0
 Declines tree x = (unit : LoadedUnit) × (loadable_in tree x ≡ Some unit) × (unit.settings.dependencies.default_dependencies ≡ false)
 
--- the target x wants or requires y, and neither declines what follows from that
+-- the target x wants or requires y, and neither declines the order that follows from that
 pub record PullsIn (tree : ReadTree) (Extra : List ℕ → Type 0) (x y : List ℕ) : Type 0 where
   pub target : suffix_of x ≡ Some Target
   pub depends : Depends tree Extra kinds.Wants x y ⊎ Depends tree Extra kinds.Requires x y
@@ -149,7 +149,7 @@ pub record PullsIn (tree : ReadTree) (Extra : List ℕ → Type 0) (x y : List �
 pub data Orders (tree : ReadTree) (Extra : List ℕ → Type 0) : List ℕ → List ℕ → Type 0 where
   -- Before= of x or After= of y
   declared : {x y : List ℕ} → IsDeclared tree Extra x y → Orders tree Extra x y
-  -- a target comes after what it wants or requires, unless it is declared before that
+  -- a target comes after a unit that it wants or requires, unless it is declared before that
   pulled_in : {x y : List ℕ} → PullsIn tree Extra x y → ¬ IsDeclared tree Extra x y → Orders tree Extra y x
   -- each service and target comes before shutdown.target
   ending : {a : List ℕ} {l : LoadedUnit} → IsKnown tree Extra a → loadable_in tree a ≡ Some l → has_defaults l ≡ true

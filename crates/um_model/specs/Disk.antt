@@ -1,6 +1,6 @@
--- The disk model: what was asked of a disk since it was made, what a read gives, and which images a crash may leave.
+-- The disk model: the calls on a disk since it was made, the values that a read gives, and the images that a crash may leave.
 -- No manual page has it: it is the usual model of sectors whose writes reach the disk in any order until a sync answers.
--- The trait `Disk` and its devices, the log, the slots and the keeper stand on this file.
+-- The trait `Disk` and its devices, the log, the slots and the keeper depend on this file.
 use Rattle.std.specs.Prelude.{◌≡◌, ◌⊎◌, ◌+◌, ◌≤◌, min, ℕ, suc, ◌==◌, if◌then◌else◌, List, [], ◌∷◌, ◌++◌, length}
 use Rattle.std.specs.Prelude.{Result, Ok, Err}
 use Rattle.std.specs.List.{Contains}
@@ -10,7 +10,7 @@ use Rattle.um_model.specs.Moments.{last_of_64_bits}
 abbrev pub Sector : Type 0
 Sector = List ℕ
 
--- what each sector holds
+-- the bytes of each sector
 abbrev pub Image : Type 0
 Image = ℕ → Sector
 
@@ -20,27 +20,27 @@ with_sector image k value = λ j. if j == k then value else image j
 
 -- A call that changes what a crash may leave.
 pub data Call : Type 0 where
-  -- sector, value, and what a read gives from then on
+  -- sector, value, and the value that a read gives from then on
   wrote : ℕ → Sector → Sector → Call
   -- a sync that answered Ok
   synced : Call
 
--- what the disk was made with, and the calls since, the newest first
+-- the image that the disk was made with, and the calls since, the newest first
 pub record Past : Type 0 where
   pub start : Image
   pub calls : List Call
 
--- what a read gives after these calls
+-- the value of each sector that a read gives after these calls
 abbrev pub seen_after : Image → List Call → Image
 seen_after start [] = start
 seen_after start (wrote k value kept ∷ calls) = with_sector (seen_after start calls) k kept
 seen_after start (synced ∷ calls) = seen_after start calls
 
--- what a read gives now
+-- the value of each sector that a read gives now
 abbrev pub seen : Past → Image
 seen past = seen_after past.start past.calls
 
--- A sector's candidates after these calls: a write adds its value at the end, a sync leaves just what a read gives.
+-- A sector's candidates after these calls: a write adds its value at the end, a sync leaves just the value that a read gives.
 abbrev pub candidates_after : Image → List Call → ℕ → List Sector
 candidates_after start [] k = start k ∷ []
 candidates_after start (wrote j value kept ∷ calls) k = if k == j then candidates_after start calls k ++ value ∷ [] else candidates_after start calls k
@@ -102,6 +102,6 @@ pub record During (old new : Past) (P : Image → Type 0) : Type 0 where
   pub is : new ≡ onto calls old
   pub each : (image : Image) → ImageSince new.start new.calls (moment old) image → P image
 
--- a crash leaves just what a read gives
+-- a crash leaves just the image that reads give
 abbrev pub IsSettled : Past → Type 0
 IsSettled past = Images past (λ image. image ≡ seen past)

@@ -1,6 +1,6 @@
 -- How the end of a process counts: clean ends, the result that an unclean one leaves, and whether a restart is wanted.
 -- Follows systemd.service(5), "SuccessExitStatus=", "Restart=", "RestartPreventExitStatus=" and "RestartForceExitStatus=".
--- The service table stands on this file.
+-- The service table depends on this file.
 use Rattle.std.specs.Prelude.{ℕ, ◌&&◌, ◌||◌, Bool, true, false, not, ◌==◌, ◌∷◌, List, []}
 use Rattle.std.specs.Option.{option_map_or}
 use Rattle.std.specs.List.{list_any}
@@ -22,7 +22,7 @@ use Rattle.um_model.specs.declared.transition.UnitKind.{UnitKind}
 use Rattle.um_model.specs.declared.transition.UnitKind.TheVariants.{Simple, Exec, Oneshot}
 use Rattle.um_model.specs.Values.{restart_text}
 
--- the end was told: by a code or a signal
+-- the end is known: by a code or a signal
 abbrev pub is_told : End → Bool
 is_told Lost = false
 is_told other = true
@@ -49,7 +49,7 @@ abbrev pub is_failed : SubState → Bool
 is_failed Failed = true
 is_failed other = false
 
--- the signals that ask a service to end: hang-up, interrupt, a broken pipe, terminate
+-- the signals that request a service to end: hang-up, interrupt, a broken pipe, terminate
 abbrev pub asks_to_end : ℕ → Bool
 asks_to_end n = n == 1 || n == 2 || n == 13 || n == 15
 
@@ -59,7 +59,7 @@ has_one_command Simple = true
 has_one_command Exec = true
 has_one_command other = false
 
--- clean whatever is set: code 0; of a service that runs one command a signal that asks for the end; in a stop state a signal that isn't told
+-- clean whatever is set: code 0; of a service that runs one command, a signal that requests its end; in a stop state, a signal of unknown number
 abbrev pub is_clean_alone : UnitKind → SubState → End → Bool
 is_clean_alone kind sub (Code code) = code == 0
 is_clean_alone kind sub (Signal n) = has_one_command kind && asks_to_end n || n == 0 && is_stopping sub
@@ -99,7 +99,7 @@ policies_after result.Timeout = Always ∷ OnFailure ∷ OnAbnormal ∷ []
 policies_after result.Lost = Always ∷ OnFailure ∷ OnAbnormal ∷ []
 policies_after other = []
 
--- so this one does
+-- this policy is one of them
 abbrev pub restarts_after : UnitResult → RestartPolicy → Bool
 restarts_after left policy = list_any (λ p. bytes_eq (restart_text p) (restart_text policy)) (policies_after left)
 

@@ -1,6 +1,6 @@
 -- Parts of the definitions of files and their values, by names that laws and code use.
 -- Follows the manual pages of the definitions that they are parts of.
--- The contracts of um_text to um_unit stand on this file.
+-- The contracts of um_text to um_unit depend on this file.
 use Rattle.std.specs.Prelude.{ℕ, ◌*◌, ◌+◌, ◌-◌, ◌^◌, ◌&&◌, ◌||◌, Bool, true, false, not, List, [], ◌∷◌, ◌++◌, length, drop, reverse, take_while, fold, filter, filter_map, slice_index, map, bytes_eq, nat_lt, Option, None, Some, option_map, Result, if◌then◌else◌, ◌==◌}
 use Rattle.std.specs.Char.{digit_value}
 use Rattle.std.specs.Ffi.{without_last}
@@ -27,11 +27,11 @@ use Rattle.um_model.specs.declared.warnings.WarningKind.TheVariants.{BeforeAnySe
 abbrev pub trim_end : List ℕ → List ℕ
 trim_end text = reverse (trim_start (reverse text))
 
--- these in front of what is found
+-- these in front of the values that are found
 abbrev pub with_front : {A : Type 0} → List A → Option (List A × List ℕ) → Option (List A × List ℕ)
 with_front found later = option_map (λ r. (found ++ r.0, r.1)) later
 
--- what a backslash and this byte mean
+-- the meaning of a backslash and this byte
 abbrev pub meaning_of : ℕ → Option ℕ
 meaning_of b = lookup (λ c. b == c) meanings
 
@@ -39,7 +39,7 @@ meaning_of b = lookup (λ c. b == c) meanings
 abbrev pub hex_value : List ℕ → ℕ
 hex_value bs = 16 * digit_value (slice_index bs 0) + digit_value (slice_index bs 1)
 
--- what words stand for
+-- the texts that words stand for
 abbrev pub word_values : List Word → List (List ℕ)
 word_values words = map (λ w. w.value) words
 
@@ -51,11 +51,11 @@ commands_among words = flat_map (λ part. command_of (map value_in_command part)
 abbrev pub place_limit : ℕ
 place_limit = 2 ^ 32
 
--- what a value means, or the warning that it gives
+-- the meaning of a value, or the warning that it gives
 abbrev pub Meaning : Type 0 → Type 0
 Meaning A = Result A WarningKind
 
--- the names that a value tells
+-- the names that a value gives
 abbrev pub names_said : (List ℕ → Bool) → List ℕ → List ℕ → List (List ℕ)
 names_said fits unit value = filter_map result_ok (names_reading fits unit value)
 
@@ -75,15 +75,15 @@ unit_size unit = lookup (bytes_eq unit) time_units
 abbrev pub digits_of : List ℕ → List ℕ
 digits_of text = take_while is_digit text
 
--- what follows these and the whitespace behind them
+-- the rest of a text after its digits and the whitespace that follows them
 abbrev pub past_digits : List ℕ → List ℕ
 past_digits text = trim_start (drop (length (digits_of text)) text)
 
--- the letters there, as far as they go
+-- the letters at the front of that rest, as far as they go
 abbrev pub unit_of : List ℕ → List ℕ
 unit_of text = take_while is_letter (past_digits text)
 
--- what follows digits and unit
+-- the rest after digits and unit
 abbrev pub past_part : List ℕ → List ℕ
 past_part text = drop (length (unit_of text)) (past_digits text)
 
@@ -95,11 +95,11 @@ last_or default values = fold (λ earlier value. value) default values
 abbrev pub physical_line : ℕ → List ℕ → Line
 physical_line n text = record { number = n; text = text; whole = true }
 
--- a line that goes on, with a space for its last backslash, and the text of what follows
+-- a line that goes on, with a space for its last backslash, and the text of the line that follows
 abbrev pub joined_line : Line → List ℕ → Line
 joined_line l after = record { number = l.number; text = without_last l.text ++ 32 ∷ after; whole = false }
 
--- what stands before the `]` at the end
+-- the text before the `]` at the end
 abbrev pub before_bracket : List ℕ → Option (List ℕ)
 before_bracket text = if slice_index text (length text - 1) == 93 then Some (without_last text) else None
 
@@ -123,9 +123,9 @@ words_in text = filter (λ word. not (length word == 0)) (slice_split is_space t
 abbrev pub policies : List RestartPolicy
 policies = No ∷ Always ∷ OnSuccess ∷ OnFailure ∷ OnAbnormal ∷ OnAbort ∷ OnWatchdog ∷ []
 
--- Items without their sections, and then with them, as code reads them; the laws in SyntaxLaws say that these are the items of the reading
+-- Items without their sections, and then with them, as code reads them; SyntaxLaws proves that these are the items of the reading
 
--- what a line with this number gives by what it says, after a section's head or before any
+-- the items of a line with this number, by its statement, after a section's head or before any
 abbrev pub items_of : Statement → Bool → ℕ → Bool → List Item
 items_of Blank begun number whole = []
 items_of (Head name) begun number whole = Section name number ∷ []
@@ -138,12 +138,12 @@ abbrev pub is_head : Statement → Bool
 is_head (Head name) = true
 is_head other = false
 
--- what lines give, after a section's head or before any
+-- the items of lines, after a section's head or before any
 abbrev pub items_in : Bool → List Line → List Item
 items_in begun [] = []
 items_in begun (l ∷ ls) = items_of (statement_of l.text) begun l.number l.whole ++ items_in (begun || is_head (statement_of l.text)) ls
 
--- the section behind an item
+-- the section after an item
 abbrev pub section_past : Option (List ℕ) → Item → Option (List ℕ)
 section_past section (Section name line) = Some name
 section_past section other = section

@@ -1,4 +1,4 @@
--- What it is that a finished job isn't repeated: a oneshot that has finished starts again only where a command asks for it.
+-- When a finished job isn't repeated: a oneshot that has finished starts again only when a command calls for it.
 -- Follows systemd.service(5), "Type=oneshot" and "RemainAfterExit=".
 -- The laws that a finished job is not repeated, of runs and over all crashes, depend on this file.
 use Rattle.std.specs.Prelude.{◌≡◌, ◌≢◌, ⊤, ℕ, Bool, true, false, ◌||◌, ◌&&◌, List, None}
@@ -25,7 +25,7 @@ pub record Finishes (s t : State) (unit : List ℕ) : Type 0 where
   pub busy : (is_starting (state_of_unit s.units unit).sub || is_stopping (state_of_unit s.units unit).sub) ≡ true
   pub finished : has_finished (state_of_unit t.units unit) ≡ true
 
--- dead, failed or exited, or told to stop and not yet there
+-- dead, failed or exited, or stopping by request and not yet down
 abbrev pub is_down_or_done : SubState → (stop_asked : Bool) → Bool
 is_down_or_done Dead stop_asked = true
 is_down_or_done Failed stop_asked = true
@@ -40,7 +40,7 @@ pub record IsAtRest (s : State) (unit : List ℕ) : Type 0 where
   pub none : (jobs_of_unit s.pending unit).start ≡ None
   pub rests : is_down_or_done (state_of_unit s.units unit).sub (state_of_unit s.units unit).stop_asked ≡ true
 
--- a command was done, and its plan has a start of the unit where none was pending
+-- a command was done, and its plan has a start of the unit when none was pending
 pub record PutsStart (unit : List ℕ) (s : State) (input : Input) (reply : Reply) : Type 0 where
   pub command : Command
   pub is : input.event ≡ Commanded command

@@ -1,6 +1,6 @@
--- Canonical bytes of what comes in: commands and happenings, each with its profile and its moment.
+-- Canonical bytes of inputs: commands and happenings, each with its profile and its moment.
 -- No manual page has this: it is the project's own format (docs/FORMATS.md, "Canonical bytes").
--- The code that reads and writes inputs, and the log of the store stand on this file.
+-- The code that reads and writes inputs, and the log of the store depend on this file.
 use Rattle.std.specs.Prelude.{ℕ, ◌<◌, ◌^◌, ⊤, List, [], ◌∷◌, ◌++◌, IfSome}
 use Rattle.byteorder.specs.Endian.{big_bytes}
 use Rattle.um_model.specs.Bytes.{Spelling, Decoder, number_at, pair_at, as_at, choice_at, arm_in, just_at, none_at, table_at, tagged}
@@ -17,7 +17,7 @@ use Rattle.um_model.specs.declared.install.InstallVerb.{InstallVerb}
 use Rattle.um_model.specs.declared.install.InstallVerb.TheVariants as install
 use Rattle.um_model.specs.declared.profile.Profile.{Profile}
 
--- ---- what becomes of jobs in the way
+-- ---- the modes for jobs in the way
 
 -- the tag of a mode
 abbrev pub mode_tag : JobMode → ℕ
@@ -28,7 +28,7 @@ mode_tag mode.Fail = 1
 abbrev pub modes : List JobMode
 modes = mode.Replace ∷ mode.Fail ∷ []
 
--- ---- the tags of what comes in
+-- ---- the tags of events
 
 -- the tag of a command for a unit
 abbrev pub verb_tag : UnitVerb → ℕ
@@ -55,19 +55,19 @@ command_tag (Cancel unit) = 9
 command_tag (ResetFailed unit) = 10
 command_tag (Install verb unit) = install_tag verb
 
--- the tag of what happens
+-- the tag of a happening
 abbrev pub happening_tag : Happening → ℕ
 happening_tag (ProcessEnded number end) = 15
 happening_tag (ProcessExecuted number) = 16
 happening_tag Tick = 17
 happening_tag (Booted boot) = 18
 
--- the tag of what comes in
+-- the tag of an event
 abbrev pub event_tag : Event → ℕ
 event_tag (Commanded command) = command_tag command
 event_tag (Happened happening) = happening_tag happening
 
--- ---- the fields behind the moment
+-- ---- the fields after the moment
 
 -- the fields of a command: texts, names, and the mode
 abbrev pub command_fields : Spelling Command
@@ -80,21 +80,21 @@ command_fields (Cancel unit) = text_spelling unit
 command_fields (ResetFailed unit) = option_spelling text_spelling unit
 command_fields (Install verb unit) = text_spelling unit
 
--- the fields of what happens: a number, an end, and a boot's id
+-- the fields of a happening: a number, an end, and a boot's id
 abbrev pub happening_fields : Spelling Happening
 happening_fields (ProcessEnded number end) = big_bytes 8 number ++ end_spelling end
 happening_fields (ProcessExecuted number) = big_bytes 8 number
 happening_fields Tick = []
 happening_fields (Booted boot) = text_spelling boot
 
--- the fields of what comes in
+-- the fields of an event
 abbrev pub event_fields : Spelling Event
 event_fields (Commanded command) = command_fields command
 event_fields (Happened happening) = happening_fields happening
 
 -- ---- an input
 
--- an input that isn't refused has at most so many bytes: the longest puts a file of 65,536 bytes at a path of 524
+-- the most bytes of an input that isn't refused: the longest puts a file of 65,536 bytes at a path of 524
 abbrev pub input_limit : ℕ
 input_limit = 66078
 
@@ -102,11 +102,11 @@ input_limit = 66078
 abbrev pub input_spelling : Spelling Input
 input_spelling i = tagged profile_tag i.profile ++ (event_tag i.event ∷ (big_bytes 8 i.moment ++ event_fields i.event))
 
--- a moment, and what comes in at it
+-- a moment, and the event at it
 abbrev pub Timed : Type 0
 Timed = ℕ × Event
 
--- a moment, and behind it the fields of what comes in
+-- a moment, and after it the fields of an event
 abbrev pub comes_at : {A : Type 0} → (A → Event) → Decoder A → Decoder Timed
 comes_at to fields = as_at (λ f. (f.0, to f.1)) (pair_at moment_at fields)
 
@@ -126,7 +126,7 @@ install_at verb = comes_at (λ unit. Commanded (Install verb unit)) unit_name_at
 abbrev pub nothing_at : Decoder ⊤
 nothing_at = just_at tt
 
--- what comes in, by its tag; none has 0
+-- the events by their tags; none has 0
 abbrev pub input_arms : List (Decoder Timed)
 input_arms =
     none_at
@@ -154,7 +154,7 @@ input_arms =
 abbrev pub input_with : Profile × Timed → Input
 input_with (profile, (moment, event)) = record { profile = profile; moment = moment; event = event }
 
--- a profile, and what comes in after its tag
+-- a profile, a tag, and the rest of the input by that tag
 abbrev pub input_at : Decoder Input
 input_at = as_at input_with (pair_at profile_at (choice_at (arm_in input_arms)))
 
@@ -169,19 +169,19 @@ FitCommand (Cancel unit) = FitUnitName unit
 FitCommand (ResetFailed unit) = IfSome unit FitUnitName
 FitCommand (Install verb unit) = FitUnitName unit
 
--- what happens that has bytes: the number is any that eight bytes hold
+-- a happening that has bytes: the number is any that eight bytes hold
 abbrev pub FitHappening : Happening → Type 0
 FitHappening (ProcessEnded number end) = (number < 2 ^ 64) × FitEnd end
 FitHappening (ProcessExecuted number) = number < 2 ^ 64
 FitHappening Tick = ⊤
 FitHappening (Booted boot) = FitBoot boot
 
--- what comes in and has bytes
+-- an event that has bytes
 abbrev pub FitEvent : Event → Type 0
 FitEvent (Commanded command) = FitCommand command
 FitEvent (Happened happening) = FitHappening happening
 
--- an input that has bytes: its moment has some, and so has what comes in
+-- an input that has bytes: its moment has some, and so has its event
 pub record FitInput (i : Input) : Type 0 where
   pub moment : FitMoment i.moment
   pub event : FitEvent i.event

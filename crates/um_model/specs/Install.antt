@@ -1,6 +1,6 @@
--- What enabling a unit makes, what disabling and unmasking remove, and how a unit is enabled.
+-- The links that enabling a unit makes, those that disabling and unmasking remove, and how a unit is enabled.
 -- Follows systemctl(1), "enable", "disable", "mask", "unmask" and "is-enabled", and systemd.unit(5), "[INSTALL] SECTION OPTIONS".
--- The machine stands on this file.
+-- The machine depends on this file.
 use Rattle.std.specs.Prelude.{◌≡◌, ◌≢◌, ◌⊎◌, ℕ, ◌<◌, Bool, true, false, not, if◌then◌else◌, List, [], ◌∷◌, ◌++◌, map as each, Contains}
 use Rattle.std.specs.Prelude.{Option, Some, None, is_none, option_and_then, Ok, Err, codes}
 use Rattle.std.specs.Bool.{Decides}
@@ -23,7 +23,7 @@ use Rattle.um_model.specs.declared.refusals.Limit.TheVariants.{Entries}
 use Rattle.um_model.specs.declared.tree.Layer.TheVariants.{Etc}
 use Rattle.um_model.specs.declared.tree.Layer.{Layer}
 
--- ---- the links that a unit asks for
+-- ---- the links that a unit calls for
 
 -- a link: the path at which it stands, and its target
 pub record LinkAt : Type 0 where
@@ -38,7 +38,7 @@ abbrev pub install_of : Loading → InstallSettings
 install_of (Found l) = l.settings.install
 install_of other = nothing_installed
 
--- the name under which a unit is linked: its own, or that of a template with its default instance, where the whole is a unit name
+-- the name under which a unit is linked: its own, or that of a template with its default instance, if the whole is a unit name
 abbrev pub linked_name : LoadedUnit → Option (List ℕ)
 linked_name l =
     if is_template l.name then option_and_then (λ instance. named (with_instance l.name instance)) l.settings.install.default_instance
@@ -48,7 +48,7 @@ linked_name l =
 abbrev pub path_in_etc : List ℕ → Place → List ℕ
 path_in_etc unit place = path_text (record { layer = Etc; unit = unit; place = place })
 
--- WantedBy=, RequiredBy= and Alias= ask for a link each, to the unit's file
+-- each name in WantedBy=, RequiredBy= and Alias= calls for a link to the unit's file
 abbrev pub links_to : InstallSettings → Option (List ℕ) → Option (List ℕ) → List LinkAt
 links_to install (Some name) (Some path) =
     each (λ unit. link_at (path_in_etc unit (Wants name)) path) install.wanted_by
@@ -56,7 +56,7 @@ links_to install (Some name) (Some path) =
     ++ each (λ alias. link_at (path_in_etc alias Unit) path) install.alias
 links_to install name path = []
 
--- the links that a unit asks for, by what was found of it
+-- the links that a unit calls for, by the result of its loading
 abbrev pub links_of : Loading → List LinkAt
 links_of (Found l) = links_to l.settings.install (linked_name l) l.path
 links_of other = []
@@ -71,13 +71,13 @@ pub data IsAlso (tree : ReadTree) (unit : List ℕ) : List ℕ → Type 0 where
 abbrev pub IsTaken : ReadTree → List ℕ → List ℕ → Type 0
 IsTaken tree asked = Reached (λ unit. unit ≡ unit_named tree.entries asked) (IsAlso tree)
 
--- one of them asks for the link
+-- one of them calls for the link
 pub record IsAskedFor (tree : ReadTree) (asked : List ℕ) (link : LinkAt) : Type 0 where
   pub unit : List ℕ
   pub taken : IsTaken tree asked unit
   pub among : Contains (links_of (load tree unit)) link
 
--- the other tree is this one with the links that are asked for, and no other change
+-- the other tree is this one with the links that are called for, and no other change
 pub record IsEnabled (tree : ReadTree) (asked : List ℕ) (enabled : Tree) : Type 0 where
   pub linked : (path target : List ℕ) → IsAskedFor tree asked (link_at path target) → map.get enabled path ≡ Some (Link target)
   pub kept : (path : List ℕ) → ¬ ((target : List ℕ) × IsAskedFor tree asked (link_at path target))
@@ -85,11 +85,11 @@ pub record IsEnabled (tree : ReadTree) (asked : List ℕ) (enabled : Tree) : Typ
 
 -- Why a unit isn't enabled.
 
--- a link that is asked for has no served path, or may not stand there
+-- a link that is called for has no served path, or may not stand there
 abbrev pub IsUnfit : ReadTree → List ℕ → List ℕ → Type 0
 IsUnfit tree asked path = (target : List ℕ) × IsAskedFor tree asked (link_at path target) × (is_fit_target (path_parts path) target ≡ false)
 
--- at its path something else stands, or another link is asked for
+-- at its path something else stands, or another link is called for
 pub data IsOccupied (tree : ReadTree) (asked path : List ℕ) : Type 0 where
   stands : {target : List ℕ} → IsAskedFor tree asked (link_at path target) → is_other_than_link (map.get tree.entries path) target ≡ true
       → IsOccupied tree asked path
@@ -107,13 +107,13 @@ pub data CannotEnable (unit : List ℕ) : Loading → Refused → Type 0 where
   has_bad_setting : {other reason : List ℕ} → CannotEnable unit (BadSetting other reason) (bad_setting other reason)
   lacks_instance : {l : LoadedUnit} → linked_name l ≡ None → CannotEnable unit (Found l) (bad_setting l.name (codes "default-instance"))
 
--- it is taken, and can't be enabled
+-- the unit is taken, and can't be enabled
 pub record IsBarred (tree : ReadTree) (asked unit : List ℕ) : Type 0 where
   pub taken : IsTaken tree asked unit
   pub refusal : Refused
   pub cause : CannotEnable unit (load tree unit) refusal
 
--- why its links aren't made, in the order in which it is looked at; E12 and E11 tell of the least path of which they hold
+-- why its links aren't made, in the order of the checks; E12 and E11 name the least path for which they hold
 abbrev pub CausesOfLinks : ReadTree → List ℕ → Refused → Type 0
 CausesOfLinks tree asked =
     FirstCause (NamesLeast (IsUnfit tree asked) (λ path r. r ≡ bad_path path))
@@ -147,13 +147,13 @@ abbrev pub is_masking : Option Entry → Bool
 is_masking (Some (Link target)) = is_mask target
 is_masking other = false
 
--- the tree without the link that masks the unit, where there is one
+-- the tree without the link that masks the unit, if there is one
 abbrev pub unmasked : Tree → List ℕ → Tree
 unmasked tree unit = if is_masking (map.get tree (unit_path Etc unit)) then map.remove tree (unit_path Etc unit) else tree
 
 -- ---- all four
 
--- what the verb makes of the tree, where it isn't refused
+-- the tree that results from the verb, if it isn't refused
 pub data Installs (tree : ReadTree) : InstallVerb → List ℕ → Tree → Type 0 where
   enables : {unit : List ℕ} {enabled : Tree} → IsEnabled tree unit enabled → Installs tree verbs.Enable unit enabled
   disables : {unit : List ℕ} {disabled : Tree} → IsDisabled tree unit disabled → Installs tree verbs.Disable unit disabled
@@ -167,7 +167,7 @@ pub data RefusesLinks (tree : ReadTree) : InstallVerb → List ℕ → Refused �
   masks_none : {unit : List ℕ} {r : Refused} → put_link tree.entries (unit_path Etc unit) (codes "/dev/null") ≡ Err r
       → RefusesLinks tree verbs.Mask unit r
 
--- and for the units that it takes: the least that can't be enabled refuses
+-- why the verb is refused for the units that it takes: for the least that can't be enabled
 pub data RefusesUnits (tree : ReadTree) : InstallVerb → List ℕ → Refused → Type 0 where
   takes_none : {unit : List ℕ} {r : Refused} → NamesLeast (IsBarred tree unit) (λ other r. CannotEnable other (load tree other) r) r
       → RefusesUnits tree verbs.Enable unit r
@@ -192,13 +192,13 @@ enabling_text enabling.Disabled = codes "disabled"
 enabling_text enabling.Indirect = codes "indirect"
 enabling_text enabling.Static = codes "static"
 
--- by the [Install] section, where no link is there
+-- how a unit is enabled by its [Install] section, if no link is there
 abbrev pub enabling_by : List (List ℕ) → List (List ℕ) → Enabling
 enabling_by (link ∷ links) others = enabling.Disabled
 enabling_by [] (name ∷ names) = enabling.Indirect
 enabling_by [] [] = enabling.Static
 
--- of a name that leads to that unit: another name; or by whether there is a link that disabling removes
+-- how a name that leads to that unit is enabled: as another name of it, or by whether there is a link that disabling removes
 abbrev pub enabling_at : List ℕ → List ℕ → Bool → InstallSettings → Enabling
 enabling_at asked unit linked install =
     if not (bytes_eq unit asked) then enabling.Alias

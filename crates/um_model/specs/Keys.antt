@@ -1,6 +1,6 @@
 -- The sections and keys of unit files, and what kind of value each key takes.
 -- Follows systemd.unit(5), "[Unit] Section Options" and "[Install] Section Options", and systemd.service(5), "Options".
--- Settings and warnings stand on this file.
+-- Settings and warnings depend on this file.
 use Rattle.std.specs.Prelude.{ℕ, Bool, not, ◌&&◌, ◌||◌, if◌then◌else◌, nat_eq, List, [], ◌∷◌, Option, Some, codes}
 use Rattle.std.specs.Map.{lookup}
 use Rattle.std.specs.List.{list_any, starts_with}
@@ -52,6 +52,6 @@ abbrev pub is_known_section : Option Suffix → List ℕ → Bool
 is_known_section (Some Service) section = bytes_eq section (codes "Unit") || bytes_eq section (codes "Install") || bytes_eq section (codes "Service")
 is_known_section other section = bytes_eq section (codes "Unit") || bytes_eq section (codes "Install")
 
--- the kind of a key's values in a known section, where the profile knows the key
+-- the kind of a key's values in a known section, if the profile knows the key
 unfoldable pub kind_of_key : Profile → List ℕ → List ℕ → Option ValueKind
 kind_of_key profile section key = if is_refused_key profile key then Some Refused else lookup (bytes_eq key) (keys_of section)

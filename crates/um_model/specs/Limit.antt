@@ -1,6 +1,6 @@
 -- The start limit: which starts of a unit are let through, and the window of time in which they are counted.
 -- Follows systemd.unit(5), "StartLimitIntervalSec=, StartLimitBurst=".
--- Service transitions and the state of a unit stand on this file.
+-- Service transitions and the state of a unit depend on this file.
 use Rattle.std.specs.Prelude.{ℕ, ◌+◌, ◌==◌, ◌||◌, nat_lt, Bool, true, false, Option, Some, None, if◌then◌else◌}
 use Rattle.um_model.specs.declared.limit.Counted.{Counted}
 
@@ -14,7 +14,7 @@ abbrev pub is_over : Option ℕ → ℕ → ℕ → Bool
 is_over None t began = false
 is_over (Some interval) t began = nat_lt (began + interval) t
 
--- where there is a limit: a start begins a window where there is none or it is over, else is counted where it has room, else is refused
+-- under a limit: a start begins a window if there is none or it is over, else it is counted if the window has room, else it is refused
 abbrev pub limited : Option ℕ → ℕ → ℕ → Option Counted → Bool × Option Counted
 limited interval burst t None = (true, Some (record { began = t; count = 1 }))
 limited interval burst t (Some w) =

@@ -1,6 +1,6 @@
--- The machine: its state, what comes in, what is answered, one step, and a run.
+-- The machine: its state, its inputs and replies, one step, and a run.
 -- The rules of single inputs follow systemctl(1); the machine itself is this project's own.
--- The engine, the keeper, the manager and the program stand on this file.
+-- The engine, the keeper, the manager and the program depend on this file.
 use Rattle.std.specs.Prelude.{◌≡◌, ◌≢◌, ◌⊎◌, ◌↔◌, ⊤, ℕ, ◌+◌, ◌<◌, ◌≤◌, max, Bool, true, false, if◌then◌else◌, List, [], ◌∷◌, ◌++◌, Option, Some, None, is_some, Ok, Err, codes, map as each, AllPairs, Contains}
 use Rattle.std.specs.FinMap as map
 use Rattle.std.specs.Option.{option_map_or}
@@ -52,7 +52,7 @@ use Rattle.um_model.specs.declared.transition.UnitKind.TheVariants.{Simple}
 use Rattle.um_model.specs.declared.units.LoadState.{LoadState}
 use Rattle.um_model.specs.declared.units.LoadState.TheVariants as load_state
 
--- a boot's id has at most so many bytes
+-- the longest id of a boot, in bytes
 abbrev pub boot_limit : ℕ
 boot_limit = 64
 
@@ -64,7 +64,7 @@ pub record State : Type 0 where
   pub clock : ℕ  -- the moment of the last step, in microseconds
   pub next : ℕ  -- the next process number
   pub units : ByUnit UnitState  -- those that differ from a dead unit
-  pub pending : ByUnit UnitJobs  -- those of which a job is pending
+  pub pending : ByUnit UnitJobs  -- those with a pending job
 
 -- the empty state of this profile
 abbrev pub empty_of : Profile → State
@@ -82,13 +82,13 @@ empty_of profile = record {
 abbrev pub empty_state : State
 empty_state = empty_of current
 
--- what is asked of the manager, and may be refused
+-- a command to the manager, which may be refused
 pub data Command : Type 0 where
   -- put the text into the tree as the file at the path
   PutFile : (path text : List ℕ) → Command
   -- put a link to the target into the tree at the path
   PutLink : (path target : List ℕ) → Command
-  -- remove what stands in the tree at the path
+  -- remove the entry of the tree at the path
   Remove : (path : List ℕ) → Command
   -- load the tree in hand
   DaemonReload : Command
@@ -98,10 +98,10 @@ pub data Command : Type 0 where
   Cancel : (unit : List ℕ) → Command
   -- forget that a unit failed, or of all units that they did
   ResetFailed : (unit : Option (List ℕ)) → Command
-  -- enable a unit, disable, mask or unmask it, and load the tree that comes of it
+  -- enable, disable, mask or unmask a unit, and load the resulting tree
   Install : (verb : InstallVerb) (unit : List ℕ) → Command
 
--- what happens to the manager, and is never refused
+-- something that happens to the manager, which is never refused
 pub data Happening : Type 0 where
   -- the process of this number ended
   ProcessEnded : (number : ℕ) (end : End) → Happening
@@ -112,7 +112,7 @@ pub data Happening : Type 0 where
   -- the machine was booted, and the boot has this id
   Booted : (boot : List ℕ) → Happening
 
--- what comes in
+-- an event: a command or a happening
 pub data Event : Type 0 where
   Commanded : Command → Event
   Happened : Happening → Event
@@ -123,11 +123,11 @@ pub record Input : Type 0 where
   pub moment : ℕ
   pub event : Event
 
--- what is asked of the manager and changes nothing
+-- a query to the manager, which changes nothing
 pub data Query : Type 0 where
-  -- how a unit stands
+  -- the unit and its state
   Show : (unit : List ℕ) → Query
-  -- its active state: asked whether it is active, and whether it failed
+  -- its active state: for whether it is active, and for whether it failed
   IsActive : (unit : List ℕ) → Query
   IsFailed : (unit : List ℕ) → Query
   -- its files in the tree in hand
@@ -139,7 +139,7 @@ pub data Query : Type 0 where
   -- the pending jobs
   ListJobs : Query
 
--- a unit as `show` tells it
+-- a unit as `show` presents it
 pub record UnitShown : Type 0 where
   pub id : List ℕ
   pub load : LoadState
@@ -147,12 +147,12 @@ pub record UnitShown : Type 0 where
   pub warnings : List Warning
   pub state : UnitState
 
--- a unit as `list-units` tells it
+-- a unit as `list-units` presents it
 pub record UnitListed : Type 0 where
   pub unit : List ℕ
   pub sub : SubState
 
--- what is answered
+-- a reply
 pub data Reply : Type 0 where
   Done : Reply
   Shown : UnitShown → Reply
@@ -163,7 +163,7 @@ pub data Reply : Type 0 where
   EnabledAs : Enabling → Reply
   Listed : List UnitListed → Reply
   Jobs : List JobShown → Reply
-  -- the actions since they were last asked for
+  -- the actions since the last query for them
   Told : List Action → Reply
   Refusal : Refused → Reply
 
@@ -178,7 +178,7 @@ shown_of asked (Masked unit) state = shown_without_settings unit load_state.Mask
 shown_of asked NotFound state = shown_without_settings asked load_state.NotFound state
 shown_of asked (BadSetting unit reason) state = shown_without_settings unit load_state.BadSetting state
 
--- the unit that counts for the name that was asked for, by the loaded tree
+-- the unit that counts for the given name, by the loaded tree
 abbrev pub unit_asked : State → List ℕ → List ℕ
 unit_asked s asked = unit_named s.loaded.entries asked
 
@@ -193,7 +193,7 @@ files_told tree asked found = Files (files_at tree found)
 
 -- ---- which units count
 
--- the state holds something of the unit: how it stands, or a pending job
+-- the state holds something of the unit: a unit state, or a pending job
 abbrev pub IsHeld : State → List ℕ → Type 0
 IsHeld s unit = (map.get s.units unit ≢ None) ⊎ (map.get s.pending unit ≢ None)
 
@@ -201,7 +201,7 @@ IsHeld s unit = (map.get s.units unit ≢ None) ⊎ (map.get s.pending unit ≢ 
 abbrev pub IsHeldOr : State → List ℕ → List ℕ → Type 0
 IsHeldOr s named unit = IsHeld s unit ⊎ (unit ≡ named)
 
--- these are the units of that kind, by name
+-- the list has just the units with the property, in the order of their names
 pub record AreByName (Is : List ℕ → Type 0) (names : List (List ℕ)) : Type 0 where
   pub each : (unit : List ℕ) → Contains names unit ↔ Is unit
   pub sorted : AllPairs IsNamedBefore names
@@ -219,9 +219,9 @@ pub data IsReplyTo (s : State) : Query → Reply → Type 0 where
   lists_units : {names : List (List ℕ)} → AreByName (IsKnown s.loaded (IsHeld s)) names → IsReplyTo s ListUnits (Listed (each (unit_listed s) names))
   lists_jobs : IsReplyTo s ListJobs (Jobs (jobs_shown s.pending))
 
--- ---- one unit and what happens to it
+-- ---- the events of one unit
 
--- the settings that a unit acts by: its own where it can be loaded, else those of a simple service where nothing is set
+-- the settings that a unit acts by: its own if it can be loaded, else those of a simple service without any setting
 abbrev pub settings_in : ReadTree → List ℕ → ServiceSettings
 settings_in tree unit = option_map_or (λ l. l.settings.service) (loadable_in tree unit) (default_settings Simple)
 
@@ -229,16 +229,16 @@ abbrev pub is_waiting : Option JobState → Bool
 is_waiting (Some Waiting) = true
 is_waiting other = false
 
--- what stands around the unit at the moment t
+-- the surroundings of the unit at the moment t
 abbrev pub around : ℕ → State → List ℕ → Around
 around t s unit =
     record { moment = t; next = s.next; loadable = is_some (loadable_in s.loaded unit); stop_waits = is_waiting (jobs_of_unit s.pending unit).stop }
 
--- what follows for the unit
+-- the change of the unit by an event at the moment t
 abbrev pub change_of : ℕ → State → List ℕ → UnitEvent → Change
 change_of t s unit event = transition (settings_in s.loaded unit) (around t s unit) (state_of_unit s.units unit) event
 
--- the state with what follows for the unit
+-- the state after this change of the unit
 abbrev pub changed : State → List ℕ → Change → State
 changed s unit c = record s {
   units = with_unit s.units unit c.unit;
@@ -262,7 +262,7 @@ pub record NeedsStart (s : State) (other unit : List ℕ) : Type 0 where
 abbrev pub IsTakenAlong : State → List ℕ → List ℕ → Type 0
 IsTakenAlong s failed = Reached (NeedsStart s failed) (NeedsStart s)
 
--- the starts that the failed start of a unit takes along are gone, and their units tell so
+-- the starts that the failed start of a unit takes along are gone, and their units have the result `dependency`
 pub record TakesAlong (s : State) (failed : List ℕ) (s' : State) : Type 0 where
   pub starts : (unit : List ℕ) → IsTakenAlong s failed unit → jobs_of_unit s'.pending unit ≡ without_start (jobs_of_unit s.pending unit)
   pub results : (unit : List ℕ) → IsTakenAlong s failed unit → state_of_unit s'.units unit ≡ record (state_of_unit s.units unit) { result = Dependency }
@@ -272,12 +272,12 @@ pub record TakesAlong (s : State) (failed : List ℕ) (s' : State) : Type 0 wher
   pub tidy_units : AreTidyUnits s'.units
   pub rest : s' ≡ record s { units = s'.units; pending = s'.pending }
 
--- the state after a change of a unit: where that fails its running start job, with the starts that this takes along gone
+-- the state after a change of a unit: if the change fails its running start job, the starts that this takes along are gone
 pub data Becomes (s : State) (unit : List ℕ) (c : Change) : State → Type 0 where
   alone : ¬ ((c.start ≡ Fails) × ((jobs_of_unit s.pending unit).start ≡ Some Running)) → Becomes s unit c (changed s unit c)
   along : {s' : State} → (c.start ≡ Fails) × ((jobs_of_unit s.pending unit).start ≡ Some Running) → TakesAlong (changed s unit c) unit s' → Becomes s unit c s'
 
--- what happens to a unit at the moment t is carried out, for that unit by itself
+-- an event of a unit at the moment t is carried out, for that unit by itself
 pub record Carries (t : ℕ) (unit : List ℕ) (event : UnitEvent) (s : State) (actions : List Action) (s' : State) : Type 0 where
   pub state : Becomes s unit (change_of t s unit event) s'
   pub asked : AreActions (settings_in s.loaded unit) (around t s unit) (change_of t s unit event).unit (change_of t s unit event).order actions
@@ -291,20 +291,20 @@ pub record FallsWith (s u : State) (unit other : List ℕ) : Type 0 where
   pub goes : is_going (active_state_of (state_of_unit u.units other).sub) ≡ true
   pub bound : Depends s.loaded (λ x. ⊤) BindsTo other unit
 
--- these units are told to stop at once, one after another; where one comes to rest by that, those bound to it come first
+-- these units get a bound stop, one after another; if one comes to rest by that, those bound to it come before the others
 pub data FallDown (t : ℕ) : List (List ℕ) → State → List Action → State → Type 0 where
   all_told : {s : State} → FallDown t [] s [] s
   told_next : {unit : List ℕ} {units falling : List (List ℕ)} {s u v : State} {first more : List Action} → Carries t unit BoundStop s first u
       → AreByName (FallsWith s u unit) falling → FallDown t (falling ++ units) u more v → FallDown t (unit ∷ units) s (first ++ more) v
 
--- what happens to a unit at the moment t is carried out, with all units that fall with it
+-- an event of a unit at the moment t is carried out, with all units that fall with it
 pub data Happens (t : ℕ) (unit : List ℕ) (event : UnitEvent) (s : State) : List Action → State → Type 0 where
   happens : {falling : List (List ℕ)} {u v : State} {first more : List Action} → Carries t unit event s first u → AreByName (FallsWith s u unit) falling
       → FallDown t falling u more v → Happens t unit event s (first ++ more) v
 
 -- ---- jobs begin
 
--- what a job that begins is for its unit
+-- the event that a job's beginning is for its unit
 abbrev pub begins : JobKind → UnitEvent
 begins job.Start = StartBegins
 begins job.Stop = StopBegins
@@ -323,9 +323,9 @@ pub data Settles (t : ℕ) : State → List Action → State → Type 0 where
   begins_next : {s u v : State} {first more : List Action} (j : Job) → BeginsNext (IsBefore s.loaded) s.units s.pending j
       → Happens t j.unit (begins j.kind) (begun s j) first u → Settles t u more v → Settles t s (first ++ more) v
 
--- ---- what a command does
+-- ---- the effect of a command
 
--- why a unit can't be started, by what was found of it
+-- why a unit can't be started, by the result of its loading
 pub data CannotStart (asked : List ℕ) : Loading → Refused → Type 0 where
   isnt_found : CannotStart asked NotFound (not_found asked)
   is_masked : {unit : List ℕ} → CannotStart asked (Masked unit) (masked unit)
@@ -335,7 +335,7 @@ pub data CannotStart (asked : List ℕ) : Loading → Refused → Type 0 where
 abbrev pub active_asked : State → List ℕ → ActiveState
 active_asked s asked = active_state_of (state_asked s asked).sub
 
--- what a command demands of its unit: a try-restart nothing where that isn't active
+-- the demand of a command on its unit: a try-restart demands nothing if that isn't active
 abbrev pub demand_of : UnitVerb → ActiveState → Option Demand
 demand_of verbs.Start a = Some demands.Start
 demand_of verbs.Stop a = Some demands.Stop
@@ -345,7 +345,7 @@ demand_of verbs.TryRestart a = if is_active a then Some demands.Restart else Non
 abbrev pub jobs_asked : State → List ℕ → UnitJobs
 jobs_asked s asked = jobs_of_unit s.pending (unit_asked s asked)
 
--- what the plan for a unit is made from
+-- the scene from which the plan for a unit is made
 abbrev pub scene_at : State → List ℕ → Scene
 scene_at s named = record {
   Depends = Depends s.loaded (IsHeldOr s named);
@@ -364,7 +364,7 @@ pub record IsMissing (s : State) (asked : List ℕ) (r : Refused) : Type 0 where
   pub isnt_held : map.get s.units asked ≡ None
   pub refusal : r ≡ not_loaded asked
 
--- a stop or a try-restart is for a unit that is there already, and it is missing
+-- a stop or a try-restart needs a unit that is there already, and the unit is missing
 pub data IsNotThere (s : State) : UnitVerb → List ℕ → Refused → Type 0 where
   to_stop : {asked : List ℕ} {r : Refused} → IsMissing s asked r → IsNotThere s verbs.Stop asked r
   to_try_restart : {asked : List ℕ} {r : Refused} → IsMissing s asked r → IsNotThere s verbs.TryRestart asked r
@@ -374,14 +374,14 @@ pub record IsCrowded (tree : ReadTree) (Extra : List ℕ → Type 0) (r : Refuse
   pub many : KnowsTooMany tree Extra ⊎ KnowsTooMany (lasting_tree tree) Extra
   pub refusal : r ≡ too_large Units
 
--- more units would be known than may be: with the one that is named, or with the jobs of the plan for what is demanded
+-- more units would be known than may be: with the one that is named, or with the jobs of the plan for the demand
 pub data PlansTooMany (s : State) (verb : UnitVerb) (asked : List ℕ) (r : Refused) : Type 0 where
   by_name : IsCrowded s.loaded (IsHeldOr s (unit_asked s asked)) r → PlansTooMany s verb asked r
   by_jobs : {demand : Demand} {after : ByUnit UnitJobs} → demand_of verb (active_asked s asked) ≡ Some demand
       → IsPlan (scene_at s (unit_asked s asked)) (demand, unit_asked s asked) after → IsCrowded s.loaded (IsHeld (record s { pending = after })) r
       → PlansTooMany s verb asked r
 
--- what is demanded has a plan, and that is refused
+-- the demand has a plan, and that is refused
 pub record HasNoPlan (s : State) (verb : UnitVerb) (asked : List ℕ) (mode : JobMode) (r : Refused) : Type 0 where
   pub demand : Demand
   pub demanded : demand_of verb (active_asked s asked) ≡ Some demand
@@ -401,11 +401,11 @@ pub record HasNoneWaiting (s : State) (asked : List ℕ) (r : Refused) : Type 0 
 abbrev pub CausesOfLoad : State → ReadTree → Refused → Type 0
 CausesOfLoad s tree = FirstCause (IsCrowded tree (IsHeld s)) (NamesCycle (IsBefore tree) s.pending)
 
--- the tree as it is read once it is loaded for an input of this profile: by that, or by the loaded profile where that is later
+-- the tree as it is read once it is loaded for an input of this profile: by that profile, or by the loaded one if that is later
 abbrev pub as_loaded : Profile → State → Tree → ReadTree
 as_loaded profile s tree = read_by (later s.loaded.profile profile) tree
 
--- for such a cause the tree isn't loaded that comes of enabling or its kin
+-- for such a cause the tree that enabling or its kin would give isn't loaded
 pub record LoadsNone (profile : Profile) (s : State) (verb : InstallVerb) (unit : List ℕ) (Cause : ReadTree → Refused → Type 0) (r : Refused) : Type 0 where
   pub tree : Tree
   pub installs : Installs (read_by profile s.tree) verb unit tree
@@ -430,7 +430,7 @@ Refuses profile s (Install verb unit) r =
 abbrev pub with_plan : State → List ℕ → UnitJobs → State
 with_plan s unit jobs = record s { pending = with_jobs s.pending unit jobs }
 
--- what a command of an input of this profile, where it isn't refused, changes of the state, before any job begins
+-- the change of the state by a command in an input of this profile that isn't refused, before any job begins
 pub data Changes (profile : Profile) (s : State) : Command → State → Type 0 where
   puts : {path text : List ℕ} {tree : Tree} → put_file s.tree path text ≡ Ok tree → Changes profile s (PutFile path text) (record s { tree = tree })
   links : {path target : List ℕ} {tree : Tree} → put_link s.tree path target ≡ Ok tree → Changes profile s (PutLink path target) (record s { tree = tree })
@@ -444,7 +444,7 @@ pub data Changes (profile : Profile) (s : State) : Command → State → Type 0 
   installs : {verb : InstallVerb} {unit : List ℕ} {tree : Tree} → Installs (read_by profile s.tree) verb unit tree
       → Changes profile s (Install verb unit) (record s { tree = tree; loaded = as_loaded profile s tree })
 
--- the units of which a failure is forgotten: the one that is asked for, or all of which it is held how they stand, by name
+-- the units whose failures are forgotten: the given one, or all whose unit states are held, by name
 abbrev pub units_reset : State → Option (List ℕ) → List (List ℕ)
 units_reset s (Some asked) = unit_asked s asked ∷ []
 units_reset s None = each (λ e. e.0) (map.entries s.units)
@@ -455,13 +455,13 @@ pub data AreReset (t : ℕ) : List (List ℕ) → State → List Action → Stat
   reset_next : {unit : List ℕ} {units : List (List ℕ)} {s u v : State} {first more : List Action} → Happens t unit Reset s first u
       → AreReset t units u more v → AreReset t (unit ∷ units) s (first ++ more) v
 
--- what a command that isn't refused does at the moment t, before any job begins, and what is asked of processes by that
+-- the effect at the moment t of a command that isn't refused, before any job begins, with the actions for processes
 pub data Does (profile : Profile) (t : ℕ) (s : State) : Command → List Action → State → Type 0 where
   changes : {command : Command} {u : State} → Changes profile s command u → Does profile t s command [] u
   resets : {asked : Option (List ℕ)} {actions : List Action} {u : State} → AreReset t (units_reset s asked) s actions u
       → Does profile t s (ResetFailed asked) actions u
 
--- ---- what follows from what happens
+-- ---- the effect of a happening
 
 -- the unit of the live process with the number: of several that with the least name
 abbrev pub IsProcessOf : ByUnit UnitState → ℕ → List ℕ → Type 0
@@ -471,7 +471,7 @@ IsProcessOf units number = IsLeast IsNamedBefore (λ unit. HasNumber (state_of_u
 abbrev pub IsOver : ByUnit UnitState → ℕ → Type 0
 IsOver units number = (unit : List ℕ) → ¬ HasNumber (state_of_unit units unit) number
 
--- what the end of that process is for its unit
+-- the event that the end of that process is for its unit
 abbrev pub end_of : UnitState → ℕ → End → UnitEvent
 end_of u number end = if is_number number u.main then MainEnds end else ControlEnds end
 
@@ -489,13 +489,13 @@ pub data Restarts (s : State) (unit : List ℕ) : State → Type 0 where
       → Restarts s unit (with_start_alone s unit)
   isnt_put : ¬ ((jobs_of_unit s.pending unit ≡ no_jobs) × AreFree (IsBefore s.loaded) (with_start_alone s unit).pending) → Restarts s unit s
 
--- what comes of a deadline of the unit that is there: where it waits for that, its restart
+-- a deadline of the unit is due: the automatic restart follows if the unit waits for that, else the unit's deadline passes
 pub data ComesDue (t : ℕ) (s : State) (unit : List ℕ) : List Action → State → Type 0 where
   restarts : {u : State} → (state_of_unit s.units unit).sub ≡ AutoRestart → Restarts s unit u → ComesDue t s unit [] u
   passes : {actions : List Action} {u : State} → (state_of_unit s.units unit).sub ≢ AutoRestart
       → Happens t unit DeadlinePasses s actions u → ComesDue t s unit actions u
 
--- a deadline of the unit fires at the moment t, and jobs begin, where it still stands; one that is gone or changed by then doesn't
+-- a deadline of the unit fires at the moment t, and jobs begin, if it still stands; one that is gone or changed by then doesn't
 pub data FiresOne (t deadline : ℕ) (unit : List ℕ) (s : State) : List Action → State → Type 0 where
   fires : {u v : State} {first next : List Action} → (state_of_unit s.units unit).deadline ≡ Some deadline → ComesDue t s unit first u
       → Settles t u next v → FiresOne t deadline unit s (first ++ next) v
@@ -513,11 +513,11 @@ pub record AwaitsReport (s : State) (number : ℕ) (unit : List ℕ) : Type 0 wh
   pub kind : has_one_command (settings_in s.loaded unit).kind ≡ true
   pub main : (state_of_unit s.units unit).main ≡ Some number
 
--- the state after a boot with this id: nothing is held of any unit, and what stood under `run/` is gone; process numbers go on
+-- the state after a boot with this id: nothing is held of any unit, and the entries under `run/` are gone; process numbers go on
 abbrev pub booted : List ℕ → State → State
 booted boot s = record s { tree = without_run s.tree; loaded = lasting_tree s.loaded; boot = boot; units = map.empty; pending = map.empty }
 
--- what happens at the moment t has its effect, and jobs begin where it made them ready
+-- a happening takes effect at the moment t, and then jobs begin that are ready
 pub data Follows (t : ℕ) (s : State) : Happening → List Action → State → Type 0 where
   ends : {number : ℕ} {end : End} {first more : List Action} {u v : State} (unit : List ℕ) → IsProcessOf s.units number unit
       → Happens t unit (end_of (state_of_unit s.units unit) number end) s first u → Settles t u more v → Follows t s (ProcessEnded number end) (first ++ more) v
@@ -526,43 +526,43 @@ pub data Follows (t : ℕ) (s : State) : Happening → List Action → State →
   ticks : {actions : List Action} {v : State} (timers : Timers) → AreDeadlines s.units timers → Fires t timers s actions v → Follows t s Tick actions v
   boots : {boot : List ℕ} → Follows t s (Booted boot) [] (booted boot s)
 
--- without effect: the end of a process that isn't live, a report for which no unit waits, a tick that changes nothing, the boot that is known
+-- a happening without effect: the end of a process that isn't live, a report for which no unit waits, a tick that changes nothing, the known boot
 pub data HasNoEffect (t : ℕ) (s : State) : Happening → Type 0 where
   is_over : {number : ℕ} {end : End} → IsOver s.units number → HasNoEffect t s (ProcessEnded number end)
   isnt_awaited : {number : ℕ} → ((unit : List ℕ) → IsProcessOf s.units number unit → ¬ AwaitsReport s number unit) → HasNoEffect t s (ProcessExecuted number)
   is_idle : Follows t s Tick [] s → HasNoEffect t s Tick
   is_known : {boot : List ℕ} → boot ≡ s.boot → HasNoEffect t s (Booted boot)
 
--- the moment of a step: the input's, or the clock's where that is later
+-- the moment of a step: the input's, or the clock's if that is later
 abbrev pub moment_of : State → ℕ → ℕ
 moment_of s moment = max s.clock moment
 
--- an event has its effect at the moment t, by its input's profile: a command that isn't refused changes the state and jobs begin; what happens has
--- what follows
+-- an event takes effect at the moment t, by its input's profile: a command that isn't refused changes the state and jobs begin; a happening
+-- has the effect that follows from it
 pub data TakesEffect (profile : Profile) (t : ℕ) (s : State) : Event → List Action → State → Type 0 where
   obeys : {command : Command} {first more : List Action} {u v : State} → ((r : Refused) → ¬ Refuses profile s command r) → Does profile t s command first u
       → Settles t u more v → TakesEffect profile t s (Commanded command) (first ++ more) v
   meets : {happening : Happening} {actions : List Action} {v : State} → ¬ HasNoEffect t s happening → Follows t s happening actions v
       → TakesEffect profile t s (Happened happening) actions v
 
--- the reply to an event that has its effect: enabling and its kin tell the paths that they made and removed
+-- the reply to an event that takes effect: enabling and its kin report the paths that they made and removed
 abbrev pub reply_after : Event → (before after : Tree) → Reply
 reply_after (Commanded (Install verb unit)) before after = Relinked (paths_beyond before after) (paths_beyond after before)
 reply_after other before after = Done
 
--- the state weighs more than a store of so many bytes holds
+-- the state weighs more than a store of `size` bytes holds
 pub record IsTooHeavy (size : ℕ) (s : State) : Type 0 where
   pub units : ℕ
   pub count : CountsFor s.loaded (IsHeld s) units
   pub heavy : size < weight_of s.tree s.loaded.entries units
 
--- a command has no room: what comes of it is too heavy
+-- a command has no room: the resulting state is too heavy
 abbrev pub HasNoRoom : ℕ → Event → State → Type 0
 HasNoRoom size (Commanded command) u = IsTooHeavy size u
 HasNoRoom size (Happened happening) u = ⊥
 
--- one step over a store of so many bytes. A refused command, and what happens without effect, leave the state, clock included; an event
--- that has its effect sets the clock
+-- one step over a store of `size` bytes: a refused command or a happening without effect leaves the state as it is, clock included; an event
+-- that takes effect sets the clock
 pub data Step (size : ℕ) (s : State) : Input → Reply → List Action → State → Type 0 where
   refused : {profile : Profile} {moment : ℕ} {command : Command} {r : Refused} → Refuses profile s command r
       → Step size s (record { profile = profile; moment = moment; event = Commanded command }) (Refusal r) [] s

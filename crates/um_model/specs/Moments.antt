@@ -1,6 +1,6 @@
 -- Time in microseconds; the bounds of moments, spans, deadlines and process numbers.
 -- Follows systemd.time(7) in counting microseconds; the bounds are this project's own.
--- Service transitions, the machine, requests and canonical bytes stand on this file.
+-- Service transitions, the machine, requests and canonical bytes depend on this file.
 use Rattle.std.specs.Prelude.{ℕ, ◌-◌, ◌*◌, ◌^◌}
 
 -- microseconds in a millisecond, a second, a minute, an hour, a day and a week
@@ -30,7 +30,7 @@ moment_limit = 2 ^ 62
 abbrev pub span_limit : ℕ
 span_limit = 2 ^ 62
 
--- a deadline is a span behind a moment: at most 2^63 microseconds
+-- a deadline is a span after a moment: at most 2^63 microseconds
 abbrev pub deadline_limit : ℕ
 deadline_limit = 2 ^ 63
 

@@ -1,6 +1,6 @@
--- What a unit name is, by its parts; its instance and its template; how other text is escaped in a name.
+-- Unit names, by their parts; the instance and the template of a name; how other text is escaped in a name.
 -- Follows systemd.unit(5), "Description" and "String Escaping for Inclusion in Unit Names".
--- The tree, unit files, requests and all that names a unit stand on this file.
+-- The tree, unit files, requests and all that names a unit depend on this file.
 use Rattle.std.specs.Prelude.{◌≡◌, ℕ, ◌+◌, ◌-◌, ◌*◌, ◌/◌, ◌%◌, ◌≤◌, ◌<◌, nat_le, nat_lt, nat_eq, Bool, true, false, not, ◌&&◌, ◌||◌, ◌==◌, unwrap_or}
 use Rattle.std.specs.Prelude.{List, [], ◌∷◌, ◌++◌, length, take, slice_index, Option, Some, None, is_some, option_map, if◌then◌else◌, codes, find}
 use Rattle.std.specs.Option.{option_map_or}
@@ -33,13 +33,13 @@ is_prefix_byte b = is_letter b || is_digit b || b == 58 || b == 45 || b == 95 ||
 abbrev pub is_instance_byte : ℕ → Bool
 is_instance_byte b = is_prefix_byte b || b == 64
 
--- the parts of a name: what stands before the first `@`, what follows it, and the suffix
+-- the parts of a name: the text before the first `@`, the text after it, and the suffix
 pub record NameParts : Type 0 where
   pub prefix : List ℕ
   pub instance : Option (List ℕ)
   pub suffix : Suffix
 
--- the parts one behind the other, with an `@` before an instance
+-- the parts one after the other, with an `@` before an instance
 abbrev pub name_text : NameParts → List ℕ
 name_text p = p.prefix ++ (option_map_or (λ instance. 64 ∷ instance) p.instance [] ++ suffix_text p.suffix)
 
@@ -49,7 +49,7 @@ pub record AreFit (p : NameParts) : Type 0 where
   pub prefix_bytes : list_all is_prefix_byte p.prefix ≡ true
   pub instance_bytes : option_map_or (list_all is_instance_byte) p.instance true ≡ true
 
--- a unit name has at most so many bytes
+-- the most bytes of a unit name
 abbrev pub name_limit : ℕ
 name_limit = 255
 
@@ -59,7 +59,7 @@ pub record IsNameOf (text : List ℕ) (p : NameParts) : Type 0 where
   pub spelled : text ≡ name_text p
   pub short : length text ≤ name_limit
 
--- The same as tests, for definitions that branch on them; the laws in proofs/NamesLaws say that they tell the parts above.
+-- The same as tests, for definitions that branch on them; proofs/NamesLaws proves that they return the parts above.
 
 -- all suffixes; none ends in another one
 abbrev pub suffixes : List Suffix
@@ -69,16 +69,16 @@ suffixes = Service ∷ Socket ∷ Device ∷ Mount ∷ Automount ∷ Swap ∷ Ta
 unfoldable pub suffix_of : List ℕ → Option Suffix
 suffix_of text = find (λ s. ends_with nat_eq text (suffix_text s)) suffixes
 
--- what stands before the suffix, or all
+-- the text before the suffix, or all
 unfoldable pub stem_of : List ℕ → List ℕ
 stem_of text = option_map_or (λ s. take (length text - length (suffix_text s)) text) (suffix_of text) text
 
--- what stands before the first `@`, or all
+-- the text before the first `@`, or all
 abbrev pub before_at : List ℕ → List ℕ
 before_at [] = []
 before_at (b ∷ bs) = if b == 64 then [] else b ∷ before_at bs
 
--- what follows the first `@`, where there is one
+-- the text after the first `@`, if there is one
 abbrev pub after_at : List ℕ → Option (List ℕ)
 after_at [] = None
 after_at (b ∷ bs) = if b == 64 then Some bs else after_at bs
@@ -103,15 +103,15 @@ is_unit_name text = nat_le (length text) name_limit && is_some (suffix_of text) 
 abbrev pub is_template : List ℕ → Bool
 is_template name = option_map_or (λ instance. length instance == 0) (instance_of name) false
 
--- the text of a suffix, where there is one
+-- the text of a suffix, if there is one
 abbrev pub suffix_text_of : Option Suffix → List ℕ
 suffix_text_of suffix = option_map_or suffix_text suffix []
 
--- the name with this instance, in place of its own where it has one
+-- the name with this instance, in place of its own if it has one
 abbrev pub with_instance : List ℕ → List ℕ → List ℕ
 with_instance name instance = prefix_of name ++ (64 ∷ instance ++ suffix_text_of (suffix_of name))
 
--- the text, where it is a unit name
+-- the text, if it is a unit name
 abbrev pub named : List ℕ → Option (List ℕ)
 named text = if is_unit_name text then Some text else None
 
@@ -142,7 +142,7 @@ escaped (b ∷ bs) = (if b == 46 then byte_escape b else escape_of b) ++ flat_ma
 abbrev pub is_hex_digit : ℕ → Bool
 is_hex_digit b = is_digit b || (nat_le 97 b && nat_le b 102)
 
--- what follows a `\` is an `x` and two hexadecimal digits, and gives their byte; anything else is ill escaped
+-- after a `\` come an `x` and two hexadecimal digits, which give their byte; anything else is ill escaped
 abbrev pub escape_front : List ℕ → Front ℕ
 escape_front (x ∷ high ∷ low ∷ rest) =
     if x == 120 && is_hex_digit high && is_hex_digit low
@@ -163,6 +163,6 @@ is_target_type other = false
 abbrev pub is_target : List ℕ → Bool
 is_target unit = is_target_type (suffix_of unit)
 
--- the instance of a name; empty where it has none
+-- the instance of a name; empty if it has none
 abbrev pub instance_or_empty : List ℕ → List ℕ
 instance_or_empty name = unwrap_or (instance_of name) []

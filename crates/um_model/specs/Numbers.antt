@@ -11,7 +11,7 @@ started_numbers [] = []
 started_numbers (SpawnProcess number words environment ∷ actions) = number ∷ started_numbers actions
 started_numbers (SendSignal number signal ∷ actions) = started_numbers actions
 
--- what a run asks of the children, in order
+-- the actions of a run for the children, in order
 abbrev pub actions_in : {size : ℕ} {s t : State} {inputs : List Input} → Run size s inputs t → List Action
 actions_in Run.rests = []
 actions_in (goes reply actions step run) = actions ++ actions_in run

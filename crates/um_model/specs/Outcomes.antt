@@ -24,7 +24,7 @@ pub record IsSameOutcome (r q : Reply) (a b : List Action) (s t : State) : Type 
   pub actions : a ≡ b
   pub state : s ≡ t
 
--- as many replies stand in both, each the same or both refusals that name a cycle, and the same end
+-- equally many replies stand in both, each pair the same or both refusals that name a cycle, and the same end
 pub data AreAlikeBut (ending : Ending) : (out other : List ℕ) → Type 0 where
   at_last : AreAlikeBut ending (last_reply ending) (last_reply ending)
   and_reply : {r q : Reply} {out other : List ℕ} → AlikeBut r q → AreAlikeBut ending out other

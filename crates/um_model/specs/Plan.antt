@@ -1,6 +1,6 @@
--- What a transaction makes of the pending jobs, and why it is refused.
+-- The pending jobs after a transaction, and why a transaction is refused.
 -- Follows systemctl(1), "start", "stop", "restart" and "--job-mode=".
--- The machine stands on this file.
+-- The machine depends on this file.
 use Rattle.std.specs.Prelude.{◌≡◌, ◌⊎◌, ℕ, ⊤, List, [], ◌∷◌, map as each, All, Option, Some, None}
 use Rattle.um_model.specs.Least.{NamesLeast, IsNamedBefore}
 use Rattle.um_model.specs.Refusals.{Refused, FirstCause, clash, job_conflict, ordering_cycle}
@@ -17,8 +17,8 @@ use Rattle.um_model.specs.declared.jobs.UnitJobs.{UnitJobs}
 use Rattle.um_model.specs.declared.service.ActiveState.{ActiveState}
 use Rattle.um_model.specs.declared.service.ActiveState.TheVariants.{Active}
 
--- what a transaction is made from: what depends on what, what is before what, which units can be loaded, why a unit can't be started,
--- how active each unit is, and the pending jobs
+-- the inputs of a transaction: the dependencies, the order, which units can be loaded, why a unit can't be started, the active state of
+-- each unit, and the pending jobs
 pub record Scene : Type 1 where
   pub Depends : DependencyKind → List ℕ → List ℕ → Type 0
   pub IsBefore : List ℕ → List ℕ → Type 0
@@ -30,13 +30,13 @@ pub record Scene : Type 1 where
 abbrev pub IsActive : Scene → List ℕ → Type 0
 IsActive scene unit = scene.activity unit ≡ Active
 
--- what is demanded by the demand on the one unit
+-- the demands that follow from the one demand on the one unit
 abbrev pub Demands : Scene → Demand × List ℕ → Demand × List ℕ → Type 0
 Demands scene = IsDemanded scene.Depends (IsActive scene) scene.IsLoadable
 
 -- ---- the pending jobs after the transaction
 
--- which demand counts for a unit: where it is restarted and started too, it is restarted
+-- the demand that counts for a unit: a restart before a start, and a start before a stop
 pub data Counts (scene : Scene) (root : Demand × List ℕ) (unit : List ℕ) : Option Demand → Type 0 where
   restarted : Demands scene root (Restart, unit) → Counts scene root unit (Some Restart)
   started : ¬ Demands scene root (Restart, unit) → Demands scene root (Start, unit) → Counts scene root unit (Some Start)
@@ -55,13 +55,13 @@ pub record IsPlan (scene : Scene) (root : Demand × List ℕ) (after : ByUnit Un
 abbrev pub IsStarted : Scene → Demand × List ℕ → List ℕ → Type 0
 IsStarted scene root unit = Demands scene root (Start, unit) ⊎ Demands scene root (Restart, unit)
 
--- it is started, and can't be
+-- the unit is started, and can't be
 pub record IsBarred (scene : Scene) (root : Demand × List ℕ) (unit : List ℕ) : Type 0 where
   pub started : IsStarted scene root unit
   pub refusal : Refused
   pub cause : scene.CannotStart unit refusal
 
--- it is started and stopped
+-- the unit is both started and stopped
 pub record Clashes (scene : Scene) (root : Demand × List ℕ) (unit : List ℕ) : Type 0 where
   pub started : IsStarted scene root unit
   pub stopped : Demands scene root (Stop, unit)

@@ -1,6 +1,6 @@
 -- By which rules the files of units are read, and a tree as it is read.
 -- No manual page has it: which keys are served is this project's own, and a later profile serves more of them.
--- Units, dependencies, enabling and the state stand on this file.
+-- Units, dependencies, enabling and the state depend on this file.
 use Rattle.std.specs.Prelude.{Bool, true, false}
 use Rattle.um_model.specs.Tree.{Tree, without_run}
 use Rattle.um_model.specs.declared.profile.Profile.{Profile}
@@ -16,7 +16,7 @@ abbrev pub serves_start_pre : Profile → Bool
 serves_start_pre One = false
 serves_start_pre Two = true
 
--- what is submitted is read by this one, and so is the tree in hand where it is asked about
+-- the profile of inputs that are submitted now, by which queries read the tree in hand too
 abbrev pub current : Profile
 current = Two
 

@@ -1,6 +1,6 @@
--- What the value of a setting means under a unit's name: its words with their specifiers expanded, or why it can't be read.
+-- The meaning of a setting's value under a unit's name: its words with their specifiers expanded, or why it can't be read.
 -- Follows systemd.syntax(7), "Quoting", systemd.unit(5), "Specifiers", and systemd.service(5), "Command lines".
--- Settings and warnings stand on this file.
+-- Settings and warnings depend on this file.
 use Rattle.std.specs.Prelude.{ℕ, Bool, ◌&&◌, ◌==◌, if◌then◌else◌, nat_lt, List, [], ◌∷◌, length, map, Option, Some, None, Result, Ok, Err}
 use Rattle.std.specs.Option.{ok_or, option_map_or}
 use Rattle.std.specs.List.{list_all, before_first, after_first, position_or_len}
@@ -14,9 +14,9 @@ use Rattle.um_model.specs.declared.warnings.WarningKind.{WarningKind}
 use Rattle.um_model.specs.declared.warnings.WarningKind.TheVariants.{UnreadableValue, UnreadableSpecifier}
 use Rattle.um_model.specs.declared.words.WordRules.TheVariants.{Escaped, Names}
 
--- Each reading is what a value means, or the warning that it gives.
+-- Each reading is the meaning of a value, or the warning that it gives.
 
--- of several readings all, or the first warning
+-- the values of all readings, or the first warning
 abbrev pub all_read : {A : Type 0} → List (Result A WarningKind) → Result (List A) WarningKind
 all_read [] = Ok []
 all_read (first ∷ others) = first and_then λ a. result_map (λ rest. a ∷ rest) (all_read others)
@@ -31,7 +31,7 @@ text_reading unit text = ok_or (expanded_of unit text) UnreadableSpecifier
 
 -- ---- commands and environments: one word that can't be read spoils the value
 
--- the words of a command; the first one, its signs cut off already, is what is run
+-- the words of a command; the first one, with its signs already cut off, is the program to run
 abbrev pub words_reading : List ℕ → List (List ℕ) → Result (List (List ℕ)) WarningKind
 words_reading unit [] = Ok []
 words_reading unit (first ∷ others) = all_read ((text_reading unit first and_then read_if is_executable_word) ∷ map (text_reading unit) others)
@@ -57,7 +57,7 @@ environment_reading unit value =
 
 -- ---- lists of unit names: a word that can't be read is alone without effect
 
--- what each word of a value means, as a name that fits; a value that doesn't split into words counts as one word that can't be read
+-- each word of a value as a name that fits; a value that doesn't split into words counts as one word that can't be read
 unfoldable pub names_reading : (List ℕ → Bool) → List ℕ → List ℕ → List (Result (List ℕ) WarningKind)
 names_reading fits unit value =
     option_map_or (map (λ (word : List ℕ). text_reading unit word and_then read_if fits)) (words_of Names value) (Err UnreadableValue ∷ [])

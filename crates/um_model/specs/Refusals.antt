@@ -1,11 +1,11 @@
--- What a refusal tells: its number, its name and its details; and which of two causes is told.
+-- A refusal: its number, its name and its details; and which of two causes it names.
 -- No manual page has this: it is the project's own protocol (docs/FORMATS.md, "Refusals").
--- Every definition of a call that can refuse stands on this file.
+-- Every definition of a call that can refuse depends on this file.
 use Rattle.std.specs.Prelude.{ℕ, List, [], ◌∷◌, Option, Some, None, Result, Ok, Err, codes, decimal}
 use Rattle.um_model.specs.declared.refusals.Limit.{Limit}
 use Rattle.um_model.specs.declared.refusals.Limit.TheVariants.{Frame, Text, Entries, Units, Reply}
 
--- a refusal as its reply tells it
+-- a refusal as its reply gives it
 pub record Refused : Type 0 where
   pub number : ℕ
   pub name : List ℕ
@@ -38,11 +38,11 @@ bad_name text = refused 3 (codes "BadName") (text ∷ [])
 abbrev pub not_found : List ℕ → Refused
 not_found unit = refused 4 (codes "NotFound") (unit ∷ [])
 
--- it is masked
+-- the unit is masked
 abbrev pub masked : List ℕ → Refused
 masked unit = refused 5 (codes "Masked") (unit ∷ [])
 
--- it has a refused setting, or is a template
+-- the unit has a refused setting, or is a template
 abbrev pub bad_setting : List ℕ → List ℕ → Refused
 bad_setting unit reason = refused 6 (codes "BadSetting") (unit ∷ reason ∷ [])
 
@@ -110,7 +110,7 @@ no_such_job unit = refused 21 (codes "NoSuchJob") (unit ∷ [])
 abbrev pub other_layout : Refused
 other_layout = refused 22 (codes "OtherLayout") []
 
--- of two causes in their order the first that holds refuses
+-- the refusal of the first of two causes that holds
 pub data FirstCause (First Second : Refused → Type 0) (r : Refused) : Type 0 where
   at_first : First r → FirstCause First Second r
   at_second : ((other : Refused) → ¬ First other) → Second r → FirstCause First Second r

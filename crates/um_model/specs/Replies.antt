@@ -1,6 +1,6 @@
 -- The text of a reply: compact JSON with its keys in ascending order.
--- No manual page has this: it is the project's own protocol (docs/FORMATS.md, "Replies"); what `show` tells has the names of systemctl(1).
--- Frames and the program stand on this file.
+-- No manual page has this: it is the project's own protocol (docs/FORMATS.md, "Replies"); the properties in `show` have their names from systemctl(1).
+-- Frames and the program depend on this file.
 use Rattle.std.specs.Prelude.{ℕ, ◌^◌, Bool, List, [], ◌∷◌, true, false, nat_le, if◌then◌else◌, map, codes, length, unwrap_or}
 use Rattle.serde_json.specs.Data.{Data, boolean, number, unsigned, string, array, object, member, no_members}
 use Rattle.serde_json.specs.View.{items_of}
@@ -30,7 +30,7 @@ texts_data = list_data string
 abbrev pub warning_data : Warning → Data
 warning_data w = array (items_of (number_data (warning_number w.kind) ∷ string w.path ∷ number_data w.line ∷ []))
 
--- what `show` tells; the main number is 0 where there is no main process
+-- the properties of a unit for `show`; the main number is 0 if there is no main process
 abbrev pub shown_data : UnitShown → Data
 shown_data u =
     object (member (codes "ActiveState") (string (active_state_text (active_state_of u.state.sub)))
@@ -59,7 +59,7 @@ abbrev pub refused_data : Refused → Data
 refused_data r =
     object (member (codes "detail") (texts_data r.detail) (member (codes "error") (number_data r.number) (member (codes "ok") (boolean false) no_members)))
 
--- of a file its path and its text are told, of a unit its name, its active state and its sub state, of a job its unit, what it does and how far it is
+-- a file is shown by path and text, a unit by name, active state and sub state, a job by its unit, what it does and how far it is
 abbrev pub reply_data : Reply → Data
 reply_data Done = object (member (codes "ok") (boolean true) no_members)
 reply_data (Shown u) = valued (shown_data u)
@@ -76,7 +76,7 @@ reply_data (Refusal r) = refused_data r
 abbrev pub reply_limit : ℕ
 reply_limit = 2 ^ 24
 
--- the reply tells what it has to tell: its text isn't too long
+-- the reply is given in full: its text isn't too long
 unfoldable pub is_told_whole : Reply → Bool
 is_told_whole reply = nat_le (length (compact_text (reply_data reply))) reply_limit
 

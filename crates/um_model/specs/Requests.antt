@@ -1,6 +1,6 @@
 -- Which request the bytes of a frame are: a table with a row a verb, and how a request is read by its row.
 -- No manual page has this: it is the project's own protocol (docs/FORMATS.md, "Requests"); the verbs are those of systemctl(1).
--- Frames and the program stand on this file.
+-- Frames and the program depend on this file.
 use Rattle.std.specs.Prelude.{ℕ, List, [], ◌∷◌, ◌++◌, Bool, true, false, ◌&&◌, ◌||◌, ◌==◌, nat_le, Option, Some, None, is_some, option_map, option_and_then, if◌then◌else◌, codes, find, Result, Ok, Err}
 use Rattle.std.specs.Option.{ok_or, option_map_or}
 use Rattle.std.specs.List.{list_any, list_all}
@@ -27,14 +27,14 @@ use Rattle.um_model.specs.declared.requests.Verb.TheVariants as verb
 use Rattle.um_model.specs.declared.requests.Mode.{Mode}
 use Rattle.um_model.specs.declared.requests.Mode.TheVariants.{Memory, Service}
 
--- what a request asks for
+-- the subject of a request: an event, a query, or the actions
 pub data Asked : Type 0 where
   OfEvent : Event → Asked
   OfQuery : Query → Asked
-  -- the actions since they were last asked for
+  -- the actions since the last query for them
   OfActions : Asked
 
--- a request, with its moment where it tells one
+-- a request, with its moment if it gives one
 pub record Request : Type 0 where
   pub at : Option ℕ
   pub asked : Asked
@@ -45,11 +45,11 @@ pub record Request : Type 0 where
 abbrev pub completed : List ℕ → List ℕ
 completed text = if is_some (suffix_of text) then text else text ++ codes ".service"
 
--- the unit name that a text asks for; what isn't one is refused as it was asked
+-- the unit name that a text means; a text that means none is refused, and the refusal names the text as it was given
 abbrev pub name_asked : List ℕ → Result (List ℕ) Refused
 name_asked text = if is_unit_name (completed text) then Ok (completed text) else Err (bad_name text)
 
--- ---- the fields: what each tells, or nothing where it is missing or ill-typed
+-- ---- the fields: the value of each, or nothing if it is missing or ill-typed
 
 -- the text of a field, without U+0000, which no text of a request holds
 unfoldable pub text_told : List ℕ → Data → Option (List ℕ)
@@ -59,12 +59,12 @@ text_told name d = option_and_then (λ text. if list_any (λ b. b == 0) text the
 abbrev pub number_in : ℕ → Data → Option ℕ
 number_in limit d = option_and_then (λ n. if nat_le n limit then Some n else None) (option_and_then as_u64 (as_number d))
 
--- the moment that a request tells, if any: none without a field, and none over a socket
+-- the moment that a request gives, if any: none without a field, and none over a socket
 unfoldable pub moment_told : Mode → Data → Option (Option ℕ)
 moment_told Memory d = option_map_or (λ at. option_map Some (number_in moment_limit at)) (get (codes "at") d) (Some None)
 moment_told Service d = Some None
 
--- how a process ended, by exactly one of three fields: its exit code, the signal that ended it, or that nobody can tell, by true alone
+-- how a process ended, by exactly one of three fields: its exit code, the signal that ended it, or that its end is lost, by true alone
 abbrev pub end_by : (code signal lost : Option Data) → Option End
 end_by (Some code) None None = option_map Code (number_in code_limit code)
 end_by None (Some signal) None = option_map Signal (number_in signal_limit signal)
@@ -75,17 +75,17 @@ end_by code signal lost = None
 unfoldable pub end_told : Data → Option End
 end_told d = end_by (get (codes "code") d) (get (codes "signal") d) (get (codes "lost") d)
 
--- what becomes of pending jobs in a command's way, by its word
+-- the mode for pending jobs in a command's way, by its word
 abbrev pub job_mode_of : List ℕ → Option JobMode
 job_mode_of text = if bytes_eq text (codes "replace") then Some Replace else if bytes_eq text (codes "fail") then Some Fail else None
 
--- the same by the object's field: they are dropped where nothing is told
+-- the same by the object's field: without it, pending jobs in the way are dropped
 unfoldable pub job_mode_told : Data → Option JobMode
 job_mode_told d = option_map_or (λ mode. option_and_then job_mode_of (as_str mode)) (get (codes "mode") d) (Some Replace)
 
--- ---- what is asked for with them
+-- ---- the requests that they make
 
--- what the fields of an object ask for: nothing where one is missing or ill-typed; a text that names no unit is refused
+-- the request that an object's fields make: nothing if one is missing or ill-typed; a text that names no unit is refused
 abbrev pub Asking : Type 0
 Asking = Data → Option (Result Asked Refused)
 
@@ -93,11 +93,11 @@ Asking = Data → Option (Result Asked Refused)
 abbrev pub plainly : Asked → Asking
 plainly asked d = Some (Ok asked)
 
--- a command is asked for
+-- a request for a command
 abbrev pub command : Command → Asked
 command c = OfEvent (Commanded c)
 
--- that something happened
+-- a report that something happened
 abbrev pub happened : Happening → Asked
 happened h = OfEvent (Happened h)
 
@@ -105,7 +105,7 @@ happened h = OfEvent (Happened h)
 abbrev pub with_text : List ℕ → (List ℕ → Asking) → Asking
 with_text name asking d = option_and_then (λ text. asking text d) (text_told name d)
 
--- this of the unit that the text of its field names
+-- this with the unit that the text of its field names
 unfoldable pub of_unit : (List ℕ → Asked) → Asking
 of_unit ask d = option_map (λ text. result_map ask (name_asked text)) (text_told (codes "unit") d)
 
@@ -121,7 +121,7 @@ install verb = of_unit (λ unit. command (Install verb unit))
 abbrev pub about_unit : (List ℕ → Query) → Asking
 about_unit query = of_unit (λ unit. OfQuery (query unit))
 
--- this of the process with the number that its field tells
+-- this with the process number in its field
 unfoldable pub of_process : (ℕ → Asking) → Asking
 of_process asking d = option_and_then (λ number. asking number d) (option_and_then (number_in last_of_64_bits) (get (codes "number") d))
 
@@ -132,7 +132,7 @@ pub record Row : Type 0 where
   pub text : List ℕ  -- the verb, as it is written
   pub required : List (List ℕ)  -- the fields that it must have
   pub optional : List (List ℕ)  -- those that it may have
-  pub asks : Asking  -- what it asks for with them
+  pub asks : Asking  -- the request that they make
 
 -- a row by its columns
 abbrev pub columns : List ℕ → (required optional : List (List ℕ)) → Asking → Row
@@ -200,11 +200,11 @@ keys_at d = option_map_or member_keys (as_object d) []
 abbrev pub is_among : List ℕ → List (List ℕ) → Bool
 is_among text texts = list_any (bytes_eq text) texts
 
--- a request of this row may have this key; a moment is told over standard input alone
+-- a request of this row may have this key; a moment is allowed over standard input alone
 abbrev pub may_have : Mode → Row → List ℕ → Bool
 may_have mode r key = bytes_eq key (codes "verb") || in_memory mode && bytes_eq key (codes "at") || is_among key r.required || is_among key r.optional
 
--- it has each required field, and no other than these, the optional ones, the verb and the moment
+-- the object has each required field, and no other than these, the optional ones, the verb and the moment
 unfoldable pub has_its_fields : Mode → Row → Data → Bool
 has_its_fields mode r d = list_all (may_have mode r) (keys_at d) && list_all (λ name. is_some (get name d)) r.required
 

@@ -1,6 +1,6 @@
 -- Where a unit's name leads in a tree: by the layers, templates, masks and other names to its file, and to its drop-ins.
 -- Follows systemd.unit(5), "Unit File Load Path" and "Description" (aliases, templates, masks, drop-ins).
--- Settings, `cat` and enabling stand on this file.
+-- Settings, `cat` and enabling depend on this file.
 use Rattle.std.specs.Prelude.{ℕ, zero, suc, Bool, true, false, if◌then◌else◌, List, [], ◌∷◌, ◌++◌, map as each, Option, Some, None}
 use Rattle.std.specs.Prelude.{option_map, option_and_then, codes}
 use Rattle.std.specs.Option.{option_or, option_map_or, option_and_then}
@@ -22,7 +22,7 @@ use Rattle.um_model.specs.declared.tree.Layer.TheVariants.{Etc, Run, Lib}
 abbrev pub unit_path : Layer → List ℕ → List ℕ
 unit_path layer unit = layer_text layer ++ unit
 
--- what stands there, with the path
+-- the entry there, with the path
 abbrev pub held_in : Layer → Tree → List ℕ → Option (List ℕ × Entry)
 held_in layer tree unit = option_map (λ e. (unit_path layer unit, e)) (map.get tree (unit_path layer unit))
 
@@ -34,7 +34,7 @@ first_held tree unit = option_or (held_in Etc tree unit) (option_or (held_in Run
 abbrev pub unit_in_target : List ℕ → List ℕ
 unit_in_target target = after_last is_slash target
 
--- a link to the unit's own template stands for what the template is
+-- the entry is a link to the unit's own template, and stands for the entry of that
 abbrev pub leads_to_template : Option (List ℕ) → Entry → Bool
 leads_to_template (Some template) (Link target) = bytes_eq (unit_in_target target) template
 leads_to_template template entry = false
@@ -61,7 +61,7 @@ is_served_type (Some Service) = true
 is_served_type (Some Target) = true
 is_served_type other = false
 
--- this unit is found even where nothing holds it
+-- this unit is found even if nothing holds it
 abbrev pub shutdown_target : List ℕ
 shutdown_target = codes "shutdown.target"
 
@@ -73,7 +73,7 @@ is_mask target = bytes_eq target (codes "/dev/null")
 abbrev pub is_of_same_type : List ℕ → List ℕ → Bool
 is_of_same_type unit other = bytes_eq (suffix_text_of (suffix_of unit)) (suffix_text_of (suffix_of other))
 
--- a template takes the instance of the name that leads to it, where there is one
+-- a template takes the instance of the name that leads to it, if there is one
 abbrev pub with_instance_of : Option (List ℕ) → List ℕ → List ℕ
 with_instance_of instance other = option_map_or (λ i. if is_template other then with_instance other i else other) instance other
 
@@ -89,7 +89,7 @@ resolution_at unit (Some (path, File [])) follow = AtMask unit
 resolution_at unit (Some (path, File (b ∷ bs))) follow = AtFile unit path (b ∷ bs)
 resolution_at unit (Some (path, Link target)) follow = if is_mask target then AtMask unit else option_map_or follow (next_name unit target) Nowhere
 
--- where a name leads by so many hops at most
+-- where a name leads by at most this many hops
 abbrev pub resolved : ℕ → Tree → List ℕ → Resolution
 resolved zero tree unit = resolution_at unit (held tree unit) (λ other. Nowhere)
 resolved (suc hops) tree unit = resolution_at unit (held tree unit) (resolved hops tree)
@@ -116,7 +116,7 @@ folders_of unit = each (λ layer. layer_text layer ++ (unit ++ codes ".d/")) (Et
 abbrev pub drop_in_folders : List ℕ → List (List ℕ)
 drop_in_folders unit = folders_of unit ++ option_map_or folders_of (template_of unit) []
 
--- the drop-in that an entry of the tree is, with its name in the folder, where it is a file there
+-- the drop-in that an entry of the tree is, with its name in the folder, if it is a file there
 abbrev pub drop_in_at : List ℕ → List ℕ × Entry → List (List ℕ × UnitFile)
 drop_in_at folder (path, File text) = option_map_or (λ name. (name, record { path = path; text = text }) ∷ []) (behind folder path) []
 drop_in_at folder (path, Link target) = []

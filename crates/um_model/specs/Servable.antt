@@ -1,7 +1,7 @@
--- What it is that a store of so many bytes may hold a state, and that nothing is held in a state; what a state weighs, and when one
--- weighs no more than another.
+-- When a store of `size` bytes may hold a state, and when a state holds nothing; the weight of a state, and when one weighs no more than
+-- another.
 -- Follows no manual page: the store and its limits are this project's own.
--- The law of steps in proofs/ServableLaws depends on this file, the engine and the keeper stand on it.
+-- The engine, the keeper and the law of steps in proofs/ServableLaws depend on this file.
 use Rattle.std.specs.Prelude.{◌≡◌, ◌≤◌, ℕ}
 use Rattle.std.specs.FinMap as map
 use Rattle.um_model.specs.Dependencies.{CountsFor}
@@ -25,13 +25,13 @@ IsFew s = (r : Refused) → ¬ IsCrowded s.loaded (IsHeld s) r
 abbrev pub IsFree : State → Type 0
 IsFree s = AreFree (IsBefore s.loaded) s.pending
 
--- a store of so many bytes may hold the state: it isn't too heavy, not too many units are known, and no pending jobs wait in a circle
+-- a store of `size` bytes may hold the state: it isn't too heavy, not too many units are known, and no pending jobs wait in a circle
 pub record IsServable (size : ℕ) (s : State) : Type 0 where
   pub light : ¬ IsTooHeavy size s
   pub few : IsFew s
   pub free : IsFree s
 
--- the state weighs so many bytes, by so many units
+-- the state weighs `weight` bytes, by the units that count
 pub record Weighs (s : State) (weight : ℕ) : Type 0 where
   pub units : ℕ
   pub count : CountsFor s.loaded (IsHeld s) units

@@ -1,6 +1,6 @@
--- What the state holds of a unit: its sub state, result, process numbers and deadline.
+-- The state of one unit: its sub state, result, process numbers and deadline.
 -- Follows systemctl(1) and systemd.service(5) in the names of states and results.
--- The machine, replies and canonical bytes stand on this file.
+-- The machine, replies and canonical bytes depend on this file.
 use Rattle.std.specs.Prelude.{◌≢◌, ℕ, Bool, true, false, ◌==◌, if◌then◌else◌, List, Option, Some, None, unwrap_or, codes}
 use Rattle.std.specs.FinMap as map
 use Rattle.std.specs.Cmp.Lexicographic.{slice_cmp}
@@ -82,7 +82,7 @@ is_success other = false
 abbrev pub holds_nothing : UnitState → Bool
 holds_nothing u = (unit_state.ghosts).eq u dead_unit
 
--- it is that number
+-- there is a number, and it is this one
 abbrev pub is_number : ℕ → Option ℕ → Bool
 is_number number o = option_map_or (λ n. n == number) o false
 
@@ -90,19 +90,19 @@ is_number number o = option_map_or (λ n. n == number) o false
 abbrev pub ByUnit : Type 0 → Type 0
 ByUnit A = map.FinMap (slice_cmp nat_cmp) A
 
--- how a unit stands: one of which nothing is held is dead
+-- the state of a unit: one of which nothing is held is dead
 abbrev pub state_of_unit : ByUnit UnitState → List ℕ → UnitState
 state_of_unit units unit = unwrap_or (map.get units unit) dead_unit
 
--- with this state of a unit; a dead one isn't held
+-- the units, with this state of one; a dead one isn't held
 abbrev pub with_unit : ByUnit UnitState → List ℕ → UnitState → ByUnit UnitState
 with_unit units unit u = if holds_nothing u then map.remove units unit else map.insert units unit u
 
--- no unit is held of which nothing is known
+-- no unit is held that equals the dead one
 abbrev pub AreTidyUnits : ByUnit UnitState → Type 0
 AreTidyUnits units = (unit : List ℕ) → map.get units unit ≢ Some dead_unit
 
--- what is asked of the children: to start a process under this number, with its words and environment; or to signal one
+-- an action for the children: start a process under this number, with its words and environment; or signal one
 pub data Action : Type 0 where
   SpawnProcess : (number : ℕ) (words environment : List (List ℕ)) → Action
   SendSignal : (number : ℕ) (signal : Signal) → Action

@@ -1,6 +1,6 @@
 -- Sessions: the bytes of one client, cut anywhere, as the requests that they are, and the replies to it as frames.
 -- No manual page has this: it is the project's own protocol (docs/FORMATS.md, "Frames").
--- Sessions and the running manager stand on this file.
+-- Sessions and the running manager depend on this file.
 use Rattle.std.specs.Prelude.{◌≡◌, ◌⊎◌, ℕ, List, [], ◌∷◌, ◌++◌, map, Bool, true, false, if◌then◌else◌, Option, Some, None, Result, Err}
 use Rattle.std.specs.Option.{option_to_list}
 use Rattle.um_model.specs.Frames.{frame_of, BeginsWith, IsPartial, BeginsTooLong}
@@ -9,22 +9,22 @@ use Rattle.um_model.specs.Requests.{Request, request_of}
 use Rattle.um_model.specs.declared.refusals.Limit.TheVariants.{Frame}
 use Rattle.um_model.specs.declared.requests.Mode.TheVariants.{Service}
 
--- what a session holds
+-- a session
 pub record Session : Type 0 where
   pub rest : List ℕ  -- the bytes that came and aren't read yet
-  pub output : List ℕ  -- what was put out and isn't taken yet
+  pub output : List ℕ  -- the bytes that were put out and aren't taken yet
   pub failed : Bool  -- it has failed, and reads no more
-  pub room : ℕ  -- so many bytes can come without memory
+  pub room : ℕ  -- the number of bytes that can come without more memory
 
 -- a request, or why the bytes in its place are none
 abbrev pub Asked : Type 0
 Asked = Result Request Refused
 
--- bytes come behind those that are there; a session that has failed takes none
+-- new bytes come after those that are there; a session that has failed takes none
 abbrev pub fed : Session → List ℕ → List ℕ
 fed s bytes = if s.failed then s.rest else s.rest ++ bytes
 
--- what is read next: the request of the first frame, once it is whole; a length past the limit is refused at once, and the session has failed
+-- the next reading: the request of the first frame, once it is whole; a length past the limit is refused at once, and the session has failed
 pub data Reads (s t : Session) : Option Asked → Type 0 where
   waits : (s.failed ≡ true) ⊎ ((s.rest ≡ []) ⊎ IsPartial s.rest) → t ≡ s → Reads s t None
   takes : {bytes rest : List ℕ} → s.failed ≡ false → BeginsWith s.rest bytes rest → t ≡ record s { rest = rest } → Reads s t (Some (request_of Service bytes))
@@ -32,19 +32,19 @@ pub data Reads (s t : Session) : Option Asked → Type 0 where
 
 -- ---- the life of a session
 
--- what is done with a session
+-- an operation on a session
 pub data Deed : Type 0 where
   -- room is made for bytes
   Room : Deed
   -- bytes come
   Feed : (bytes : List ℕ) → Deed
-  -- what is next is read
+  -- the next request is read, if there is one
   Read : (asked : Option Asked) → Deed
   -- a reply is put out
   Put : (text : List ℕ) → Deed
   -- a reply finds no memory, or no frame holds it: nothing of it is put out, and the session has failed
   GiveUp : Deed
-  -- what was put out is taken
+  -- the output is taken
   Take : (bytes : List ℕ) → Deed
 
 -- one deed; how much room there is afterwards is left open
@@ -66,33 +66,33 @@ abbrev pub bytes_fed : Deed → List ℕ
 bytes_fed (Feed bytes) = bytes
 bytes_fed other = []
 
--- what was read
+-- the reading of a deed, if any
 abbrev pub readings : Deed → List Asked
 readings (Read asked) = option_to_list asked
 readings other = []
 
--- what was put out
+-- the bytes that were put out
 abbrev pub frames_put : Deed → List ℕ
 frames_put (Put text) = frame_of text
 frames_put other = []
 
--- what was taken
+-- the bytes that were taken
 abbrev pub bytes_taken : Deed → List ℕ
 bytes_taken (Take bytes) = bytes
 bytes_taken other = []
 
--- the stream is these frames and what stands behind them
+-- the stream consists of these frames and the bytes after them
 pub data AreFrames : List ℕ → List (List ℕ) → List ℕ → Type 0 where
   none : {stream : List ℕ} → AreFrames stream [] stream
   frame : {stream rest behind bytes : List ℕ} {frames : List (List ℕ)} → BeginsWith stream bytes rest → AreFrames rest frames behind
       → AreFrames stream (bytes ∷ frames) behind
 
--- what is read of frames: their requests, and where a length past the limit stands behind them, its refusal
+-- the readings of frames: their requests, and maybe, if a length past the limit follows them, its refusal
 pub data AreRead (frames : List (List ℕ)) (behind : List ℕ) : List Asked → Type 0 where
   whole : AreRead frames behind (map (request_of Service) frames)
   cut : BeginsTooLong behind → AreRead frames behind (map (request_of Service) frames ++ (Err (too_large Frame) ∷ []))
 
--- what was read of a stream are its first frames, in their order; behind them is what a session that hasn't failed still holds
+-- the readings of a stream are of its first frames, in their order; a session that hasn't failed still holds the bytes after these
 pub record IsReadOf (stream : List ℕ) (asked : List Asked) (u : Session) : Type 0 where
   pub frames : List (List ℕ)
   pub behind : List ℕ

@@ -1,6 +1,6 @@
--- What the service table takes of a unit's settings: its commands by their places, its environment, and what it acts on.
+-- The settings of a unit in the service table: its commands by their places, its environment, and its defaults.
 -- Follows systemd.service(5) and, for the start limit, systemd.unit(5).
--- Units, clean ends, the service table and the machine stand on this file.
+-- Units, clean ends, the service table and the machine depend on this file.
 use Rattle.std.specs.Prelude.{ℕ, ◌^◌, ◌&&◌, Bool, false, List, [], ◌∷◌, ◌++◌, length, map, nat_lt, slice_get}
 use Rattle.std.specs.Option.{option_map_or}
 use Rattle.um_model.specs.Commands.{Command}
@@ -10,7 +10,7 @@ use Rattle.um_model.specs.declared.transition.CommandList.{CommandList}
 use Rattle.um_model.specs.declared.transition.CommandList.TheVariants.{OfStartPre, OfStart, OfStop}
 use Rattle.um_model.specs.declared.transition.UnitKind.{UnitKind}
 
--- the settings of a unit of this kind where nothing is set
+-- the settings of a unit of this kind without any setting
 abbrev pub default_settings : UnitKind → ServiceSettings
 default_settings kind = service_settings_with [] [] kind [] []
 

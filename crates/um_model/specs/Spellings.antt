@@ -1,6 +1,6 @@
--- Canonical bytes of what the state holds of a unit: choices, ends, moments, process numbers, names, start windows, and the unit.
+-- Canonical bytes of the state of one unit: choices, ends, moments, process numbers, names, start windows, and the unit.
 -- No manual page has this: it is the project's own format (docs/FORMATS.md, "Canonical bytes").
--- The bytes of states and inputs, and the code that reads and writes them stand on this file.
+-- The bytes of states and inputs, and the code that reads and writes them depend on this file.
 use Rattle.std.specs.Prelude.{◌≡◌, ℕ, ◌-◌, ◌<◌, ◌^◌, ⊤, Bool, true, ◌==◌, List, [], ◌∷◌, ◌++◌, Option, Some, None, IfSome, if◌then◌else◌}
 use Rattle.byteorder.specs.Endian.{big_bytes}
 use Rattle.um_model.specs.Bytes.{Spelling, Decoder, byte_at, number_at, between_at, FitBetween, pair_at, as_at, only_at, choice_at, tag_at, table_at, tagged, truth_tag, truths}
@@ -63,12 +63,12 @@ results =
     result.Success ∷ result.ExitCode ∷ result.Signal ∷ result.Timeout ∷ result.Lost ∷ result.StartLimitHit ∷ result.Dependency ∷ result.NotLoaded
     ∷ result.Resources ∷ []
 
--- the tag of what a job does
+-- the tag of a job's kind
 abbrev pub kind_tag : JobKind → ℕ
 kind_tag kind.Stop = 0
 kind_tag kind.Start = 1
 
--- what jobs do, by their tags
+-- the kinds of jobs by their tags
 abbrev pub kinds : List JobKind
 kinds = kind.Stop ∷ kind.Start ∷ []
 
@@ -90,7 +90,7 @@ profile_tag Two = 2
 abbrev pub profile_of : ℕ → Option Profile
 profile_of tag = if tag == 1 then Some One else (if tag == 2 then Some Two else None)
 
--- a first byte that tells a profile
+-- a first byte that names a profile
 abbrev pub profile_at : Decoder Profile
 profile_at = tag_at profile_of
 
@@ -102,13 +102,13 @@ end_tag (end.Code code) = 0
 end_tag (end.Signal number) = 1
 end_tag end.Lost = 2
 
--- what stands behind it
+-- the code or signal after it, if any
 abbrev pub end_fields : Spelling End
 end_fields (end.Code code) = code ∷ []
 end_fields (end.Signal number) = number ∷ []
 end_fields end.Lost = []
 
--- the tag, and what stands behind it
+-- the tag, and the code or signal after it
 abbrev pub end_spelling : Spelling End
 end_spelling e = end_tag e ∷ end_fields e
 
@@ -116,7 +116,7 @@ end_spelling e = end_tag e ∷ end_fields e
 abbrev pub end_arms : List (Decoder End)
 end_arms = as_at end.Code byte_at ∷ as_at end.Signal byte_at ∷ just_at end.Lost ∷ []
 
--- a tag, and what stands behind it
+-- a tag, and the code or signal after it
 abbrev pub end_at : Decoder End
 end_at = choice_at (arm_in end_arms)
 
@@ -152,7 +152,7 @@ process_at = between_at 1 (process_limit - 1)
 abbrev pub FitProcess : ℕ → Type 0
 FitProcess = FitBetween 1 (process_limit - 1)
 
--- the next number may be the limit, where no process is left to start
+-- the next number may be the limit, at which no process is left to start
 abbrev pub next_at : Decoder ℕ
 next_at = between_at 1 process_limit
 
@@ -190,7 +190,7 @@ FitCounted c = FitMoment c.began × (c.count < 2 ^ 32)
 
 -- ---- a unit: its fields in order
 
--- each field behind the one before
+-- each field after the one before
 abbrev pub unit_spelling : Spelling UnitState
 unit_spelling u =
     tagged sub_tag u.sub ++ (tagged result_tag u.result ++ (option_spelling (big_bytes 8) u.main ++ (option_spelling (big_bytes 8) u.control
@@ -206,13 +206,13 @@ abbrev pub unit_of : UnitFields → UnitState
 unit_of (sub, (result, (main, (control, (index, (deadline, (window, (asked, last)))))))) =
     record { sub = sub; result = result; main = main; control = control; index = index; deadline = deadline; window = window; stop_asked = asked; last = last }
 
--- each field behind the one before
+-- each field after the one before
 abbrev pub unit_at : Decoder UnitState
 unit_at =
     as_at unit_of (pair_at (table_at sub_states) (pair_at (table_at results) (pair_at (option_at process_at) (pair_at (option_at process_at)
     (pair_at (number_at 4) (pair_at (option_at deadline_at) (pair_at (option_at counted_at) (pair_at (table_at truths) (option_at end_at)))))))))
 
--- a unit that has bytes: what stands in its fields has some
+-- a unit that has bytes: each of its fields has some
 pub record FitUnit (u : UnitState) : Type 0 where
   pub main : IfSome u.main FitProcess
   pub control : IfSome u.control FitProcess

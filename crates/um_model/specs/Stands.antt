@@ -1,6 +1,6 @@
--- What an image of a store stands for: the state that its newest body spells, and from there a step for each record that counts beside it.
+-- The state that an image of a store stands for: its newest body spells a state, and each record that counts beside it is a step from there.
 -- No manual page has it: it is the project's own format (docs/FORMATS.md, "The store on its disk").
--- The lives of a store and the keeper stand on this file.
+-- The lives of a store and the keeper depend on this file.
 use Rattle.std.specs.Prelude.{◌≡◌, ℕ, ◌+◌, List, [], ◌∷◌, Option, Some}
 use Rattle.um_model.specs.Bytes.{◌>>=◌, nothing_left}
 use Rattle.um_model.specs.Disk.{Image}
@@ -18,7 +18,7 @@ abbrev pub inputs_of : List (List ℕ) → Option (List Input)
 inputs_of [] = Some []
 inputs_of (bytes ∷ records) = nothing_left (input_at bytes) >>= λ input. inputs_of records >>= λ inputs. Some (input ∷ inputs)
 
--- What a store holds: a snapshot of a state, where it stands, and the inputs that were recorded since.
+-- The contents of a store: a snapshot of a state with its slot and its generation, and the inputs that were recorded since.
 pub record Contents : Type 0 where
   pub slot : Slot
   pub generation : ℕ

@@ -1,6 +1,6 @@
 -- Canonical bytes of the state of the manager: its trees, its units and its pending jobs.
 -- No manual page has this: it is the project's own format (docs/FORMATS.md, "Canonical bytes").
--- The code that reads and writes states, and the slots of the store stand on this file.
+-- The code that reads and writes states, and the slots of the store depend on this file.
 use Rattle.std.specs.Prelude.{◌≡◌, ℕ, nat_lt, nat_le, Bool, true, not, ◌&&◌, ◌==◌, List, [], ◌∷◌, ◌++◌, length, flat_map}
 use Rattle.std.specs.List.{list_all}
 use Rattle.std.specs.Ordering.{is_lt, nat_cmp, ordering_then}
@@ -35,7 +35,7 @@ abbrev pub entry_tag : Entry → ℕ
 entry_tag (File text) = 0
 entry_tag (Link target) = 1
 
--- the tag, and what stands behind it
+-- the tag, and the text or target after it
 abbrev pub entry_spelling : Spelling Entry
 entry_spelling e = entry_tag e ∷ text_spelling (text_of_entry e)
 
@@ -43,7 +43,7 @@ entry_spelling e = entry_tag e ∷ text_spelling (text_of_entry e)
 abbrev pub entry_arms : List (Decoder Entry)
 entry_arms = as_at File text_at ∷ as_at Link text_at ∷ []
 
--- a tag, and what stands behind it
+-- a tag, and the text or target after it
 abbrev pub entry_at : Decoder Entry
 entry_at = choice_at (arm_in entry_arms)
 
@@ -72,28 +72,28 @@ pub record FitTree (tree : Tree) : Type 0 where
   pub texts : FitMap any_text FitEntry tree
   pub is : IsTree tree
 
--- ---- the units: a map from unit names, without dead units of which nothing is known
+-- ---- the units: a map from unit names, without units that equal the dead one
 
 -- the list of the units, by ascending names
 abbrev pub units_spelling : Spelling (ByUnit UnitState)
 units_spelling = map_spelling unit_spelling
 
--- of each unit something is known
+-- no unit equals the dead one
 abbrev pub are_known : ByUnit UnitState → Bool
 are_known units = list_all (λ e. not (holds_nothing e.1)) (map.entries units)
 
--- a map of units of which something is known
+-- a map of units that don't equal the dead one
 abbrev pub units_at : Decoder (ByUnit UnitState)
 units_at = only_at are_known (map_at is_unit_name unit_at)
 
--- units that have bytes: each has a name and bytes, and none is dead with nothing known of it
+-- units that have bytes: each has a name and bytes, and none equals the dead one
 pub record FitUnits (units : ByUnit UnitState) : Type 0 where
   pub named : FitMap is_unit_name FitUnit units
   pub tidy : AreTidyUnits units
 
 -- ---- the pending jobs: a list in the bytes, a map in the state
 
--- the name of its unit, what it does, and how far it is
+-- the name of its unit, its kind, and how far it is
 abbrev pub job_spelling : Spelling JobShown
 job_spelling j = text_spelling j.unit ++ (tagged kind_tag j.kind ++ tagged job_state_tag j.state)
 
@@ -101,7 +101,7 @@ job_spelling j = text_spelling j.unit ++ (tagged kind_tag j.kind ++ tagged job_s
 abbrev pub job_of_fields : List ℕ × (JobKind × JobState) → JobShown
 job_of_fields (unit, (kind, state)) = record { unit = unit; kind = kind; state = state }
 
--- the name of a unit, what the job does, and how far it is
+-- the name of a unit, the job's kind, and how far it is
 abbrev pub job_at : Decoder JobShown
 job_at = as_at job_of_fields (pair_at unit_name_at (pair_at (table_at kinds) (table_at job_states)))
 
@@ -173,7 +173,7 @@ abbrev pub are_distinct : List ℕ → Bool
 are_distinct [] = true
 are_distinct (n ∷ more) = list_all (λ m. not (m == n)) more && are_distinct more
 
--- a unit may be in this sub state by the profile: in start-pre, where that serves ExecStartPre=
+-- a unit may be in this sub state by the profile: in start-pre only if that serves ExecStartPre=
 abbrev pub is_sub_state_in : Profile → SubState → Bool
 is_sub_state_in profile StartPre = serves_start_pre profile
 is_sub_state_in profile other = true
@@ -188,13 +188,13 @@ is_sound s =
     have_sub_states s.loaded.profile s.units && have_begun s.clock s.units && list_all (λ n. nat_lt n s.next) (numbers_in s.units)
     && are_distinct (numbers_in s.units)
 
--- a profile, and each field after the one before, where they fit together
+-- a profile, and each field after the one before, if they fit together
 abbrev pub state_at : Decoder State
 state_at =
     only_at is_sound (as_at state_of (pair_at profile_at (pair_at tree_at (pair_at tree_at (pair_at boot_at (pair_at moment_at (pair_at next_at
     (pair_at units_at pending_at))))))))
 
--- a state that has bytes: what stands in its fields has some, and they fit together
+-- a state that has bytes: each of its fields has some, and they fit together
 pub record FitState (s : State) : Type 0 where
   pub tree : FitTree s.tree
   pub loaded : FitTree s.loaded.entries

@@ -1,6 +1,6 @@
--- What the sectors of a store are: its layout, the two slots with a header and a body each, and the log of records.
+-- The sectors of a store: its layout, the two slots with a header and a body each, and the log of records.
 -- No manual page has it: it is the project's own format (docs/FORMATS.md, "The store on its disk").
--- The slots, the log and the keeper stand on this file.
+-- The slots, the log and the keeper depend on this file.
 use Rattle.std.specs.Prelude.{◌≡◌, ◌⊎◌, ◌+◌, ◌-◌, ◌*◌, ◌/◌, ◌%◌, ◌^◌, ◌<◌, ◌≤◌, min, ℕ, zero, suc, List, [], ◌∷◌, ◌++◌, length, take, drop, replicate, codes}
 use Rattle.std.specs.Prelude.{Bool, true, ◌&&◌, bytes_eq, nat_lt, nat_le, if◌then◌else◌, Option, Some, None}
 use Rattle.byteorder.specs.Endian.{big_number, big_bytes}
@@ -14,11 +14,11 @@ use Rattle.um_model.specs.declared.layout.Slot.TheVariants.{A, B}
 
 -- ---- the layout
 
--- a sector has so many bytes
+-- the size of a sector, in bytes
 abbrev pub sector_bytes : ℕ
 sector_bytes = 512
 
--- a sector that begins with these bytes, zeros behind them
+-- a sector that begins with these bytes, and zeros after them
 unfoldable pub filled : List ℕ → Sector
 filled front = front ++ replicate (sector_bytes - length front) 0
 
@@ -47,12 +47,12 @@ slot_start layout B = layout.slot_sectors + 1
 abbrev pub first_log_sector : Layout → ℕ
 first_log_sector layout = 2 * layout.slot_sectors + 1
 
--- so many sectors of the log are for the records of a generation: of format 2 half of them, an odd one is left over
+-- the number of the log's sectors for the records of one generation: in format 2 half of them, and an odd one is left over
 abbrev pub area_sectors : Format → Layout → ℕ
 area_sectors One layout = layout.log_sectors
 area_sectors Two layout = layout.log_sectors / 2
 
--- the first of them, and the first behind them: of format 2 even and odd generations take two areas in turn
+-- the first of these sectors, and the first past them: in format 2 even and odd generations take two areas in turn
 abbrev pub area_start : Format → Layout → ℕ → ℕ
 area_start One layout generation = first_log_sector layout
 area_start Two layout generation = first_log_sector layout + generation % 2 * area_sectors Two layout
@@ -97,16 +97,16 @@ pub record IsHeader (layout : Layout) (sector : Sector) (generation size : ℕ) 
   pub fits : size ≤ body_limit layout
   pub is : sector ≡ header_sector generation size
 
--- the least number of sectors that hold so many bytes
+-- the least number of sectors that hold this many bytes
 abbrev pub sector_count : ℕ → ℕ
 sector_count size = (size + (sector_bytes - 1)) / sector_bytes
 
--- so many sectors from a place on, joined
+-- the bytes of this many sectors from a place on, joined
 abbrev pub joined : ℕ → Image → ℕ → List ℕ
 joined zero image at = []
 joined (suc n) image at = image at ++ joined n image (suc at)
 
--- the body behind a slot's header
+-- the body after a slot's header
 abbrev pub body_at : Layout → Image → Slot → ℕ → List ℕ
 body_at layout image slot size = take size (joined (sector_count size) image (slot_start layout slot + 1))
 
@@ -131,35 +131,35 @@ abbrev pub is_header : Layout → Sector → ℕ → ℕ → Bool
 is_header layout sector generation size =
     nat_le 1 generation && (nat_lt generation (2 ^ 64) && (nat_le size (body_limit layout) && bytes_eq sector (header_sector generation size)))
 
--- a header's generation and length, where the sector is a well-formed one
+-- a header's generation and length, if the sector is a well-formed one
 abbrev pub header_of : Layout → Sector → Option (ℕ × ℕ)
 header_of layout sector =
     let generation = big_number 8 (drop 8 sector) in
     let size = big_number 8 (drop 16 sector) in
     if is_header layout sector generation size then Some (generation, size) else None
 
--- what the newest slot holds
+-- the newest slot, with its generation and its body
 pub record Newest : Type 0 where
   pub slot : Slot
   pub generation : ℕ
   pub body : List ℕ
 
--- what a slot with that header holds
+-- a slot with that header, with its generation and its body
 abbrev pub held_by : Layout → Image → Slot → ℕ × ℕ → Newest
 held_by layout image slot header = record { slot = slot; generation = header.0; body = body_at layout image slot header.1 }
 
--- of the headers of slots A and B the newer, of equal generations slot A's
+-- the slot with the newer of two headers, and of equal generations slot A
 abbrev pub newer_held : Layout → Image → Option (ℕ × ℕ) → Option (ℕ × ℕ) → Option Newest
 newer_held layout image None None = None
 newer_held layout image (Some a) None = Some (held_by layout image A a)
 newer_held layout image None (Some b) = Some (held_by layout image B b)
 newer_held layout image (Some a) (Some b) = if nat_le b.0 a.0 then Some (held_by layout image A a) else Some (held_by layout image B b)
 
--- What the newest slot of an image holds, None where neither has a well-formed header.
+-- The newest slot of an image with its generation and its body, None if neither slot has a well-formed header.
 unfoldable pub newest_of : Layout → Image → Option Newest
 newest_of layout image = newer_held layout image (header_of layout (image (slot_start layout A))) (header_of layout (image (slot_start layout B)))
 
--- a sector that the reading of the newest body looks at: both headers, and what the newest one's length covers
+-- a sector that the reading of the newest body looks at: both headers, and the sectors that the newest one's length covers
 pub data IsSlotRead (layout : Layout) (image : Image) : ℕ → Type 0 where
   head : (slot : Slot) → IsSlotRead layout image (slot_start layout slot)
   behind : {slot : Slot} {generation : ℕ} {body : List ℕ} (newest : IsNewest layout image slot generation body) (i : ℕ)
@@ -172,7 +172,7 @@ abbrev pub longest : Format → ℕ
 longest One = 131072
 longest Two = 122880
 
--- that of a generation in the format in which stores are written
+-- the longest record of a generation, in the format in which stores are written
 abbrev pub record_limit : Layout → ℕ → ℕ
 record_limit layout generation = longest current
 
@@ -180,11 +180,11 @@ record_limit layout generation = longest current
 abbrev pub record_format : List ℕ
 record_format = codes "UMLG"
 
--- a part of a record has at most so many bytes: the rest of its sector
+-- the most bytes of a record in one part: the rest of its sector
 abbrev pub part_bytes : ℕ
 part_bytes = 480
 
--- the least number of parts that hold a record of so many bytes
+-- the least number of parts that hold a record of this many bytes
 abbrev pub part_count : ℕ → ℕ
 part_count size = (size + (part_bytes - 1)) / part_bytes
 
@@ -208,7 +208,7 @@ pub record IsRecord (format : Format) (layout : Layout) (generation : ℕ) (imag
   pub within : at + part_count (length bytes) ≤ area_end format layout generation
   pub parts : (part : ℕ) → part < part_count (length bytes) → image (at + part) ≡ log_sector generation number part (length bytes) (part_of bytes part)
 
--- the records from a place on, each directly behind the one before, up to the first that isn't whole
+-- the records from a place on, each directly after the one before, up to the first that isn't whole
 pub data AreRecords (format : Format) (layout : Layout) (generation : ℕ) (image : Image) : ℕ → ℕ → List (List ℕ) → Type 0 where
   stops : {number at : ℕ} → ((bytes : List ℕ) → IsRecord format layout generation image number at bytes → ⊥)
       → AreRecords format layout generation image number at []
@@ -220,16 +220,16 @@ pub data AreRecords (format : Format) (layout : Layout) (generation : ℕ) (imag
 abbrev pub HasRecords : Format → Layout → ℕ → Image → List (List ℕ) → Type 0
 HasRecords format layout generation image records = AreRecords format layout generation image 0 (area_start format layout generation) records
 
--- the bytes of so many parts from a sector on, joined
+-- the bytes of this many parts from a sector on, joined
 abbrev pub payloads : ℕ → Image → ℕ → List ℕ
 payloads zero image at = []
 payloads (suc n) image at = take part_bytes (drop 32 (image at)) ++ payloads n image (suc at)
 
--- the bytes that a record from a sector on would have: that sector tells how many
+-- the bytes that a record from a sector on would have: that sector says how many
 abbrev pub bytes_from : Image → ℕ → List ℕ
 bytes_from image at = let size = big_number 4 (drop 28 (image at)) in take size (payloads (part_count size) image at)
 
--- the first parts of a record stand there, so many
+-- the first parts of a record, this many, stand there
 abbrev pub parts_stand : ℕ → Image → ℕ → ℕ → List ℕ → ℕ → Bool
 parts_stand generation image number at bytes zero = true
 parts_stand generation image number at bytes (suc n) =
@@ -243,7 +243,7 @@ is_record format layout generation image number at bytes =
     && (nat_le (at + part_count (length bytes)) (area_end format layout generation)
     && parts_stand generation image number at bytes (part_count (length bytes)))))
 
--- the records from a place on, so many at most
+-- the records from a place on, at most this many
 abbrev pub records_from : ℕ → Format → Layout → ℕ → Image → ℕ → ℕ → List (List ℕ)
 records_from zero format layout generation image number at = []
 records_from (suc turns) format layout generation image number at =
@@ -260,7 +260,7 @@ abbrev pub sectors_of : List (List ℕ) → ℕ
 sectors_of [] = 0
 sectors_of (bytes ∷ records) = part_count (length bytes) + sectors_of records
 
--- each record with its first sector, one directly behind the other from a sector on
+-- each record with its first sector, one directly after the other from a sector on
 abbrev pub placed : ℕ → List (List ℕ) → List (ℕ × List ℕ)
 placed at [] = []
 placed at (bytes ∷ records) = (at, bytes) ∷ placed (at + part_count (length bytes)) records
@@ -279,20 +279,20 @@ IsNoneAbove layout image generation =
 abbrev pub IsFree : Layout → ℕ → Image → ℕ → Type 0
 IsFree layout generation image next = (theirs j : ℕ) → next ≤ j → j < log_end layout generation → IsOf theirs (image j) → theirs < generation
 
--- Where the log's next record goes: directly behind those of its generation, and nothing of it stands there.
+-- Where the log's next record goes: directly after those of its generation, with no sector of that generation or a later one from there on.
 pub record IsLogEnd (layout : Layout) (generation : ℕ) (image : Image) (records : List (List ℕ)) (number next : ℕ) : Type 0 where
   pub count : number ≡ length records
   pub place : next ≡ log_start layout generation + sectors_of records
   pub within : next ≤ log_end layout generation
   pub free : IsFree layout generation image next
 
--- a sector that is that part of a record of so many bytes
+-- a sector that is that part of a record of `size` bytes
 pub record IsPart (generation number part size : ℕ) (sector : Sector) : Type 0 where
   pub payload : List ℕ
   pub long : length payload ≡ min part_bytes (size - part_bytes * part)
   pub is : sector ≡ log_sector generation number part size payload
 
--- A sector that the reading of the records from a place on looks at: up to and with the first that isn't the next part in its place.
+-- A sector that the reading of the records from a place on looks at: up to and including the first that isn't the next part in its place.
 pub data IsLogRead (format : Format) (layout : Layout) (generation : ℕ) (image : Image) : ℕ → ℕ → ℕ → Type 0 where
   begins : {number at : ℕ} → at < area_end format layout generation → IsLogRead format layout generation image number at at
   part_behind : {number at : ℕ} (size part : ℕ) → size ≤ longest format → suc part < part_count size
@@ -318,7 +318,7 @@ abbrev pub all_records : Format → Layout → ℕ → Image → List (List ℕ)
 all_records One layout newest image = records_of One layout newest image
 all_records Two layout newest image = records_of Two layout newest image ++ records_of Two layout (newest + 1) image
 
--- What an image of a store holds: the newest header with its body, the records that count beside it, and none later in the log.
+-- An image of a store: the newest header with its body, the records that count beside it, and none later in the log.
 pub record IsStore (format : Format) (layout : Layout) (image : Image) (slot : Slot) (generation : ℕ) (body : List ℕ) (records : List (List ℕ))
     : Type 0 where
   pub first : image 0 ≡ superblock format layout

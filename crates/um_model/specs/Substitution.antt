@@ -1,6 +1,6 @@
 -- Variables in the words of a command, as the command starts.
 -- Follows systemd.service(5), "Command lines".
--- The start of a service's process stands on this file.
+-- The start of a service's process depends on this file.
 use Rattle.std.specs.Prelude.{◌≡◌, ℕ, ◌+◌, Bool, false, ◌&&◌, ◌||◌, ◌==◌, if◌then◌else◌, List, [], ◌∷◌, ◌++◌, length, drop, reverse, find}
 use Rattle.std.specs.Prelude.{take_while, Option, Some, None, bytes_eq}
 use Rattle.std.specs.Option.{option_map_or}
@@ -55,7 +55,7 @@ dollar_front environment bs =
 abbrev pub piece_front : List Variable → ℕ → List ℕ → Front ℕ
 piece_front environment b bs = if b == 36 then dollar_front environment bs else Gives (b ∷ []) 1
 
--- a word becomes these words: the value's where it is `$NAME` whole, else one, piece by piece
+-- a word becomes these words: those of the value if it is `$NAME` whole, else one word, piece by piece
 pub data Becomes (environment : List Variable) : List ℕ → List (List ℕ) → Type 0 where
   splits : (word name : List ℕ) (words : List (List ℕ)) → whole_name word ≡ Some name → words_of Plain (value_of environment name) ≡ Some words
       → Becomes environment word words

@@ -1,6 +1,6 @@
--- What a unit file says: its lines, joined where they go on, and of these the heads, assignments and warnings.
+-- The reading of a unit file: its lines, joined where they go on, and of these the heads, assignments and warnings.
 -- Follows systemd.syntax(7).
--- The reader of unit files, and what units are by their assignments, stand on this file.
+-- The reader of unit files, and the units by their assignments, depend on this file.
 use Rattle.std.specs.Prelude.{ℕ, ◌+◌, ◌-◌, ◌%◌, Bool, true, false, ◌||◌, List, [], ◌∷◌, ◌++◌, length, drop, reverse, take_while}
 use Rattle.std.specs.Prelude.{Option, Some, None, slice_index, nat_lt, ◌==◌, if◌then◌else◌}
 use Rattle.std.specs.Option.{option_map_or}
@@ -61,7 +61,7 @@ joined (l ∷ ls) =
 abbrev pub joined_lines : List ℕ → List Line
 joined_lines text = joined (physical 1 (lines text))
 
--- What a line says
+-- The statement of a line
 
 -- a line is blank, a section's head with its name, a key and a value, or has no `=`
 pub data Statement : Type 0 where
@@ -70,20 +70,20 @@ pub data Statement : Type 0 where
   Pair : List ℕ → List ℕ → Statement
   Stray : Statement
 
--- what stands between `[` at the front and `]` at the end
+-- the text between `[` at the front and `]` at the end
 abbrev pub in_brackets : List ℕ → Option (List ℕ)
 in_brackets [] = None
 in_brackets (b ∷ bs) = if b == 91 then (if slice_index bs (length bs - 1) == 93 then Some (without_last bs) else None) else None
 
--- what a joined line says: one with an `=` is cut at the first one, and whitespace around key and value is dropped; the laws in
--- proofs/SyntaxLaws tell the same as a relation
+-- what a joined line says: one with an `=` is cut at the first one, and whitespace around key and value is dropped; proofs/SyntaxLaws
+-- states the same as a relation
 abbrev pub statement_of : List ℕ → Statement
 statement_of text =
     let is_equals = λ (b : ℕ). b == 61 in
     option_map_or Head (in_brackets (trim text)) (if is_blank text then Blank else (if nat_lt (position_or_len is_equals text) (length text)
     then Pair (trim (before_first is_equals text)) (trim (after_first is_equals text)) else Stray))
 
--- What a text says
+-- The reading of a text
 
 -- a section's head with its name, a key and a value, or a warning, each with the number of its line; the value stands in the
 -- text as it is, if the line is whole
@@ -103,7 +103,7 @@ pub record Placed : Type 0 where
   pub section : Option (List ℕ)
   pub item : Item
 
--- what a line gives by what it says, in this section or before any; a head stands in its own section
+-- the items of a line by its statement, in this section or before any; a head stands in its own section
 abbrev pub placed_of : Statement → Option (List ℕ) → Line → List Placed
 placed_of Blank section l = []
 placed_of (Head name) section l = record { section = Some name; item = Section name l.number } ∷ []
@@ -111,16 +111,16 @@ placed_of (Pair key value) None l = record { section = None; item = Warned Befor
 placed_of (Pair key value) section l = record { section = section; item = Assignment key value l.number l.whole } ∷ []
 placed_of Stray section l = record { section = section; item = Warned NoEqualsSign l.number } ∷ []
 
--- the section behind a line that says this
+-- the section after a line that says this
 abbrev pub section_after : Statement → Option (List ℕ) → Option (List ℕ)
 section_after (Head name) section = Some name
 section_after other section = section
 
--- what lines give, in this section or before any
+-- the items of lines, in this section or before any
 abbrev pub placed_in : Option (List ℕ) → List Line → List Placed
 placed_in section [] = []
 placed_in section (l ∷ ls) = placed_of (statement_of l.text) section l ++ placed_in (section_after (statement_of l.text) section) ls
 
--- what a text says
+-- the reading of a text
 abbrev pub reading_of : List ℕ → List Placed
 reading_of text = placed_in None (joined_lines text)

@@ -1,6 +1,6 @@
--- What a unit file says, told as relations, line by line, that have one reading at most.
+-- What a unit file says, as relations, line by line, that have one reading at most.
 -- Follows systemd.syntax(7).
--- The laws of um_syntax stand on this file.
+-- The laws of um_syntax depend on this file.
 use Rattle.std.specs.Prelude.{◌≡◌, ℕ, ◌+◌, List, [], ◌∷◌, ◌++◌, Bool, not, eqb, true, false, ◌||◌, None, Option, Some}
 use Rattle.um_model.specs.Text.{trim, is_blank}
 use Rattle.std.specs.List.{list_all}

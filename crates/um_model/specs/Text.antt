@@ -1,6 +1,6 @@
 -- A text without the spaces and tabs at its ends.
 -- Follows systemd.syntax(7) in what counts as whitespace.
--- Unit files, values and words stand on this file.
+-- Unit files, values and words depend on this file.
 use Rattle.std.specs.Prelude.{ℕ, Bool, true, false, List, [], ◌∷◌, reverse, if◌then◌else◌, ◌≡◌, ◌++◌}
 use Rattle.um_model.specs.Ascii.{is_space}
 use Rattle.std.specs.List.{list_all}

@@ -1,6 +1,6 @@
 -- The timers of units: a map from unit names to deadlines, and the one that is due first.
 -- Follows systemd.service(5), "TimeoutStartSec=", "TimeoutStopSec=" and "RestartSec=", whose ends are these deadlines.
--- The tick of the machine stands on this file.
+-- The tick of the machine depends on this file.
 use Rattle.std.specs.Prelude.{◌≡◌, ℕ, ◌<◌, List, Some}
 use Rattle.std.specs.Ordering.{nat_cmp}
 use Rattle.std.specs.Cmp.Lexicographic.{slice_cmp}

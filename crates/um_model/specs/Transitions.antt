@@ -1,6 +1,6 @@
--- The service table: what follows for a unit from what happens to it, by its sub state, a clause a row; the first row that fits.
+-- The service table: the change of a unit by an event, by its sub state, a clause for each row; the first row that fits counts.
 -- Follows systemd.service(5), "Type=", "ExecStartPre=", "ExecStart=", "ExecStop=", "TimeoutStartSec=", "TimeoutStopSec=", "RestartSec=".
--- The machine stands on this file.
+-- The machine depends on this file.
 use Rattle.std.specs.Prelude.{◌≡◌, ℕ, ◌+◌, ◌&&◌, ◌||◌, ◌⊎◌, Bool, true, false, not, if◌then◌else◌, List, [], ◌∷◌, ◌++◌, map, slice_get, nat_lt, Option, Some, None, is_some}
 use Rattle.std.specs.Option.{option_to_list, option_map}
 use Rattle.um_model.specs.Moments.{process_limit}
@@ -34,7 +34,7 @@ use Rattle.um_model.specs.declared.transition.UnitEvent.TheVariants.{StartBegins
 use Rattle.um_model.specs.declared.transition.UnitKind.{UnitKind}
 use Rattle.um_model.specs.declared.transition.UnitKind.TheVariants.{Simple, Exec, Oneshot, Target}
 
--- the deadline a span after the moment; none where the span never ends
+-- the deadline a span after the moment; none if the span never ends
 abbrev pub deadline_after : ℕ → Option ℕ → Option ℕ
 deadline_after t span = option_map (λ s. t + s) span
 
@@ -47,7 +47,7 @@ abbrev pub is_live : UnitState → Bool
 is_live u = is_some u.main || is_some u.control
 
 -- a unit that starts or runs has a main process, one that its ExecStartPre= commands prepare or its ExecStop= commands stop a control
--- process, and one that is told to end one of them
+-- process, and one whose processes got a signal to end still has one of them
 abbrev pub has_its_process : SubState → UnitState → Bool
 has_its_process StartPre u = is_some u.control
 has_its_process Start u = is_some u.main
@@ -68,23 +68,23 @@ HasItsProcess u = has_its_process u.sub u ≡ true
 abbrev pub just : UnitState → Change
 just u = record { unit = u; order = Nothing; start = Stays; stop_ends = false }
 
--- with what is asked of its processes
+-- the change, with an order for the unit's processes
 abbrev pub asking : Order → Change → Change
 asking o c = record c { order = o }
 
--- its running start job ends
+-- the change, and the running start job of the unit ends
 abbrev pub start_ends : Change → Change
 start_ends c = record c { start = Ends }
 
--- its running start job fails
+-- the change, and the running start job of the unit fails
 abbrev pub start_fails : Change → Change
 start_fails c = record c { start = Fails }
 
--- its running stop job ends
+-- the change, and the running stop job of the unit ends
 abbrev pub stop_ends : Change → Change
 stop_ends c = record c { stop_ends = true }
 
--- the unit comes to rest for good: dead where all went well, else failed
+-- the unit rests for good: dead if all went well, else failed
 abbrev pub rests_for_good : UnitState → Change
 rests_for_good u = stop_ends (just (record u { sub = if is_success u.result then Dead else Failed; main = None; control = None; deadline = None }))
 
@@ -93,27 +93,27 @@ abbrev pub waits_to_restart : ServiceSettings → Around → UnitState → Chang
 waits_to_restart s c u =
     stop_ends (just (record u { sub = AutoRestart; main = None; control = None; deadline = deadline_after c.moment s.restart_delay }))
 
--- the unit comes to rest; one that nobody asked to stop may wait for a restart instead
+-- the unit rests; if no stop was requested it may wait for a restart instead
 abbrev pub rests : ServiceSettings → Around → UnitState → Change
 rests s c u = if not u.stop_asked && not c.stop_waits && is_restart_wanted s u then waits_to_restart s c u else rests_for_good u
 
--- its live processes are told to end; without one it comes to rest
+-- its live processes get SIGTERM; without one it rests
 abbrev pub terminates : ServiceSettings → Around → UnitState → Change
 terminates s c u =
     if is_live u then asking (Signal Term) (just (record u { sub = StopSigterm; deadline = deadline_after c.moment s.timeout_stop })) else rests s c u
 
--- the ExecStop= command at this place is started; without a number for it the unit's processes are told to end
+-- the ExecStop= command at this place is started; without a number for it the unit is terminated
 abbrev pub stop_command : ServiceSettings → Around → UnitState → ℕ → Change
 stop_command s c u i =
     if has_number c
     then asking (Spawn OfStop i) (just (record u { sub = Stop; control = Some c.next; index = i; deadline = deadline_after c.moment s.timeout_stop }))
     else terminates s c (record u { result = result.Resources; index = i })
 
--- the unit goes down by its ExecStop= commands from this place on; where there is none its processes are told to end
+-- the unit goes down by its ExecStop= commands from this place on; if there is none it is terminated
 abbrev pub winds_down : ServiceSettings → Around → UnitState → ℕ → Change
 winds_down s c u i = if has_place s.stop i then stop_command s c u i else terminates s c u
 
--- the unit starts so, where there is a number for the process; else the start fails
+-- the unit starts in this way if there is a number for the process; else the start fails
 abbrev pub starts_so : Around → UnitState → Change → Change
 starts_so c u change = if has_number c then change else start_fails (rests_for_good (record u { result = result.Resources }))
 
@@ -134,7 +134,7 @@ abbrev pub pre_command : Around → UnitState → ℕ → Change
 pre_command c u i =
     starts_so c (record u { index = i }) (asking (Spawn OfStartPre i) (just (record u { sub = StartPre; control = Some c.next; index = i })))
 
--- a start by its first ExecStartPre= command, or where the unit has none by its kind
+-- a start by its first ExecStartPre= command, or by the kind of the unit if it has none
 abbrev pub prepares : ServiceSettings → Around → UnitState → Change
 prepares s c u =
     if has_place s.start_pre 0 then pre_command c (record u { deadline = deadline_after c.moment s.timeout_start }) 0 else start_of s.kind s c u
@@ -148,7 +148,7 @@ starts_if true window s c u = prepares s c (record u { result = result.Success; 
 abbrev pub starts : ServiceSettings → Around → UnitState → Change
 starts s c u = let answer = counted s.limit_interval s.limit_burst c.moment u.window in starts_if answer.0 answer.1 s c u
 
--- all ExecStartPre= commands are done: the unit starts by its kind, where it can be loaded by then; else the start fails
+-- all ExecStartPre= commands are done: the unit starts by its kind, if it can be loaded by then; else the start fails
 abbrev pub starts_prepared : ServiceSettings → Around → UnitState → Change
 starts_prepared s c u =
     if c.loadable then start_of s.kind s c (record u { index = 0 }) else start_fails (rests s c (record u { result = result.NotLoaded }))
@@ -170,7 +170,7 @@ abbrev pub start_goes_on : UnitKind → ServiceSettings → Around → UnitState
 start_goes_on Oneshot s c u = if has_place s.start (u.index + 1) then next_command c u (u.index + 1) else start_ends (exits s c u)
 start_goes_on other s c u = start_ends (exits s c u)
 
--- the unit comes to rest, once no process of it is live
+-- the unit rests once no process of it is live
 abbrev pub rests_unless_live : ServiceSettings → Around → UnitState → Change
 rests_unless_live s c u = if is_live u then just u else rests s c u
 
@@ -178,27 +178,27 @@ rests_unless_live s c u = if is_live u then just u else rests s c u
 abbrev pub noted : UnitState → End → Bool → UnitState
 noted u e clean = if clean then u else record u { result = or_later u.result (unclean_result e) }
 
--- the unit without its main process, which ended so
+-- the unit without its main process, which ended in this way
 abbrev pub without_main : ServiceSettings → UnitState → End → UnitState
 without_main s u e = noted (record u { main = None; last = Some e }) e (is_clean s u Main e)
 
--- the unit without its control process, which ended so
+-- the unit without its control process, which ended in this way
 abbrev pub without_control : ServiceSettings → UnitState → End → UnitState
 without_control s u e = noted (record u { control = None }) e (is_clean s u Control e)
 
--- nobody waits any longer: the result tells so, where it was success
+-- a deadline has passed: the result becomes `timeout`, if it was success
 abbrev pub timed_out : UnitState → UnitState
 timed_out u = record u { result = or_later u.result result.Timeout }
 
--- a stop was asked for
+-- a stop was requested
 abbrev pub told_to_stop : UnitState → UnitState
 told_to_stop u = record u { stop_asked = true }
 
--- it is dead at once
+-- the unit is dead at once
 abbrev pub dies : UnitState → Change
 dies u = stop_ends (just (record u { sub = Dead; deadline = None }))
 
--- that it failed is forgotten, and how often it was started
+-- its failure is forgotten, and how often it was started
 abbrev pub forgiven : UnitState → UnitState
 forgiven u = record u { sub = if is_failed u.sub then Dead else u.sub; result = result.Success; window = None }
 
@@ -208,11 +208,11 @@ forgiven u = record u { sub = if is_failed u.sub then Dead else u.sub; result = 
 abbrev pub is_control_done : ServiceSettings → CommandList → UnitState → End → Bool
 is_control_done s which u e = is_clean s u Control e || is_told e && has_dash s which u.index
 
--- the start doesn't come to its end in time
+-- the start doesn't end in time
 abbrev pub start_times_out : ServiceSettings → Around → UnitState → Change
 start_times_out s c u = start_fails (terminates s c (record u { result = result.Timeout }))
 
--- the rows: what follows in this sub state, by its active state, from this event; by the last one the unit stays as it is
+-- the rows: the change in this active state and sub state by this event; by the last row the unit stays as it is
 abbrev pub row : ServiceSettings → Around → UnitState → ActiveState → SubState → UnitEvent → Change
 row s c u _ sub Reset = just (forgiven u)
 row s c u IsActive sub StartBegins = start_ends (just u)
@@ -256,8 +256,8 @@ is_going other = false
 abbrev pub fails_start : SubState → Change → Change
 fails_start sub c = record c { start = if is_starting sub then Fails else c.start }
 
--- the table: a unit that can't be loaded isn't started; a bound stop is as a stop job that begins, where the unit is active or activating,
--- but that a start that has begun fails by it
+-- the table: a unit that can't be loaded isn't started; a bound stop of a unit that is active or activating is as a stop job that begins,
+-- except that a start that has begun fails by it
 abbrev pub transition : ServiceSettings → Around → UnitState → UnitEvent → Change
 transition s c u StartBegins =
     if c.loadable then row s c u (active_state_of u.sub) u.sub StartBegins else start_fails (just (record u { result = result.NotLoaded }))
@@ -265,7 +265,7 @@ transition s c u BoundStop =
     if is_going (active_state_of u.sub) then fails_start u.sub (row s c u (active_state_of u.sub) u.sub StopBegins) else just u
 transition s c u event = row s c u (active_state_of u.sub) u.sub event
 
--- ---- what is asked, as actions
+-- ---- orders as actions
 
 -- the live process numbers of a unit, ascending: the main process is the elder
 abbrev pub live_numbers : UnitState → List ℕ
@@ -294,7 +294,7 @@ spawned other = 0
 abbrev pub HasNumber : UnitState → ℕ → Type 0
 HasNumber u n = (u.main ≡ Some n) ⊎ (u.control ≡ Some n)
 
--- a unit came to rest, as it is tested: it is dead or failed, and wasn't the same before
+-- a unit came to rest, as a test: it is dead or failed, and wasn't in that sub state before
 abbrev pub comes_to_rest : (before after : SubState) → Bool
 comes_to_rest before Dead = not (is_dead before)
 comes_to_rest before Failed = not (is_failed before)

@@ -1,6 +1,6 @@
 -- The manager's own tree: a finite map from served paths to files and links.
 -- Follows systemd.unit(5), "Unit File Load Path".
--- Resolution, drop-ins, dependencies by links, enabling and the state stand on this file.
+-- Resolution, drop-ins, dependencies by links, enabling and the state depend on this file.
 use Rattle.std.specs.Prelude.{◌≡◌, ℕ, ◌-◌, ◌≤◌, nat_le, nat_lt, nat_eq, Bool, true, false, not, ◌&&◌, ◌||◌, ◌==◌, List, [], ◌++◌}
 use Rattle.std.specs.Prelude.{length, take, drop, Option, Some, None, is_none, is_some, option_map, Result, if◌then◌else◌, codes}
 use Rattle.std.specs.Option.{option_or, option_map_or}
@@ -25,14 +25,14 @@ layer_text Etc = codes "etc/"
 layer_text Run = codes "run/"
 layer_text Lib = codes "lib/"
 
--- what a path names, beside its unit: the unit's own file or link, a drop-in by what stands before `.conf`, or the unit that is wanted or required
+-- the place that a path names beside its unit: the unit's own entry, a drop-in by its name before `.conf`, or the unit that is wanted or required
 pub data Place : Type 0 where
   Unit : Place
   DropIn : List ℕ → Place
   Wants : List ℕ → Place
   Requires : List ℕ → Place
 
--- the text behind the unit's name
+-- the text after the unit's name
 abbrev pub place_text : Place → List ℕ
 place_text Unit = []
 place_text (DropIn name) = codes ".d/" ++ (name ++ codes ".conf")
@@ -45,7 +45,7 @@ pub record PathParts : Type 0 where
   pub unit : List ℕ
   pub place : Place
 
--- the parts one behind the other
+-- the parts one after the other
 abbrev pub path_text : PathParts → List ℕ
 path_text p = layer_text p.layer ++ (p.unit ++ place_text p.place)
 
@@ -53,11 +53,11 @@ path_text p = layer_text p.layer ++ (p.unit ++ place_text p.place)
 abbrev pub is_drop_in_byte : ℕ → Bool
 is_drop_in_byte b = is_letter b || is_digit b || b == 58 || b == 45 || b == 95 || b == 46
 
--- the name of a drop-in has at most so many bytes before its `.conf`
+-- the longest name of a drop-in, in bytes, without its `.conf`
 abbrev pub drop_in_limit : ℕ
 drop_in_limit = 200
 
--- what stands before `.conf` in the name of a drop-in isn't empty and has its bytes alone
+-- the name of a drop-in before `.conf`: it isn't empty, isn't too long, and has only such bytes
 abbrev pub is_drop_in_name : List ℕ → Bool
 is_drop_in_name name = nat_le 1 (length name) && nat_le (length name) drop_in_limit && list_all is_drop_in_byte name
 
@@ -77,26 +77,26 @@ pub record IsPathOf (text : List ℕ) (p : PathParts) : Type 0 where
   pub fit : is_fit_place p.unit p.place ≡ true
   pub spelled : text ≡ path_text p
 
--- ---- the parts as a function, for definitions that branch on them; the laws in proofs/TreeLaws say that it tells the parts above
+-- ---- the parts as a function, for definitions that branch on them; proofs/TreeLaws proves that it returns the parts above
 
 -- a `/`
 abbrev pub is_slash : ℕ → Bool
 is_slash b = b == 47
 
--- what follows the front, of a text that begins so
+-- the rest of a text after this front, if it begins so
 abbrev pub behind : List ℕ → List ℕ → Option (List ℕ)
 behind front text = if starts_with nat_eq text front then Some (drop (length front) text) else None
 
--- what stands before the end, of a text that ends so
+-- the part of a text before this end, if it ends so
 abbrev pub before : List ℕ → List ℕ → Option (List ℕ)
 before end text = if ends_with nat_eq text end then Some (take (length text - length end) text) else None
 
--- what stands before and behind the first `/`, where there is one
+-- the parts of a text before and after its first `/`, if there is one
 abbrev pub around_slash : List ℕ → Option (List ℕ × List ℕ)
 around_slash text =
     if nat_lt (position_or_len is_slash text) (length text) then Some (before_first is_slash text, after_first is_slash text) else None
 
--- the layer, where the path begins with its text, and what follows
+-- the layer and the rest, if the path begins with the layer's text
 abbrev pub in_layer : List ℕ → Layer → Option (Layer × List ℕ)
 in_layer path layer = option_map (λ rest. (layer, rest)) (behind (layer_text layer) path)
 
@@ -110,7 +110,7 @@ place_in directory file =
     (option_or (option_map (λ unit. (unit, Wants file)) (before (codes ".wants") directory))
     (option_map (λ unit. (unit, Requires file)) (before (codes ".requires") directory)))
 
--- the unit and the place: the whole of what follows the layer, or a file in a directory
+-- the unit and the place: by the whole path after the layer, or by a file in a directory
 abbrev pub unit_and_place : List ℕ → Option (List ℕ × Place)
 unit_and_place rest = option_map_or (λ parts. place_in parts.0 parts.1) (around_slash rest) (Some (rest, Unit))
 
@@ -122,7 +122,7 @@ path_parts path =
 
 -- ---- the tree
 
--- what stands at a path: a file with its text, or a link with its target
+-- an entry of a tree: a file with its text, or a link with its target
 pub data Entry : Type 0 where
   File : List ℕ → Entry
   Link : List ℕ → Entry
@@ -131,15 +131,15 @@ pub data Entry : Type 0 where
 abbrev pub Tree : Type 0
 Tree = map.FinMap (slice_cmp nat_cmp) Entry
 
--- the text of a file has at most so many bytes
+-- the longest text of a file, in bytes
 abbrev pub text_limit : ℕ
 text_limit = 65536
 
--- a tree has at most so many entries
+-- the most entries that a tree may have
 abbrev pub entry_limit : ℕ
 entry_limit = 4096
 
--- the target of a link has at most so many bytes
+-- the longest target of a link, in bytes
 abbrev pub target_limit : ℕ
 target_limit = 512
 
@@ -163,7 +163,7 @@ abbrev pub is_fit_target : Option PathParts → List ℕ → Bool
 is_fit_target None target = false
 is_fit_target (Some p) target = nat_le 1 (length target) && nat_le (length target) target_limit && may_lead_to p.unit p.place target
 
--- what may stand at a path: at a served one a file with no more than the limit's text, or a link to a fit target
+-- the entry may stand at the path: at a served one a file with no more text than the limit, or a link to a fit target
 abbrev pub is_fit_entry : List ℕ → Entry → Bool
 is_fit_entry path (File text) = is_served path && nat_le (length text) text_limit
 is_fit_entry path (Link target) = is_fit_target (path_parts path) target
@@ -207,7 +207,7 @@ link_cause tree path target =
     else (if is_other_than_link (map.get tree path) target then Some (exists_at path)
     else (if is_full_for tree path then Some (too_large Entries) else None))
 
--- the tree with the link put at the path, where nothing stands or the same link
+-- the tree with the link put at the path, at which nothing stands or the same link
 unfoldable pub put_link : Tree → List ℕ → List ℕ → Result Tree Refused
 put_link tree path target = unless_refused (link_cause tree path target) (map.insert tree path (Link target))
 
@@ -215,7 +215,7 @@ put_link tree path target = unless_refused (link_cause tree path target) (map.in
 abbrev pub remove_cause : Tree → List ℕ → Option Refused
 remove_cause tree path = if is_none (map.get tree path) then Some (bad_path path) else None
 
--- the tree without what stands at the path
+-- the tree without the entry at the path
 unfoldable pub remove_at : Tree → List ℕ → Result Tree Refused
 remove_at tree path = unless_refused (remove_cause tree path) (map.remove tree path)
 

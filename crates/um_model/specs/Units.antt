@@ -1,6 +1,6 @@
--- What a unit's files set and warn of, by one list of assignments, and whether the unit can be loaded.
+-- The settings and warnings in a unit's files, by one list of assignments, and whether the unit can be loaded.
 -- Follows systemd.unit(5) and systemd.service(5).
--- The machine stands on this file: what `show` tells, and what a start does.
+-- The machine depends on this file: its reply to `show`, and its starts.
 use Rattle.std.specs.Prelude.{ℕ, ◌*◌, Bool, true, false, not, ◌&&◌, ◌||◌, ◌==◌, List, [], ◌∷◌, ◌++◌, length, filter, find, fold, filter_map, map as each, is_some}
 use Rattle.std.specs.Prelude.{Option, Some, None, Result, option_map, if◌then◌else◌, codes}
 use Rattle.std.specs.Option.{ok_or, option_or, option_map_or, option_and_then}
@@ -53,7 +53,7 @@ pub record Source : Type 0 where
 abbrev pub source_of : UnitFile → Source
 source_of file = record { path = file.path; reading = reading_of file.text }
 
--- of what stands in a section that isn't known, its head alone is heard
+-- of a section that isn't known, the head alone is heard
 abbrev pub is_heard : Option Suffix → Option (List ℕ) → Item → Bool
 is_heard type section (Section name line) = true
 is_heard type section other = option_map_or (is_known_section type) section true
@@ -83,11 +83,11 @@ Key = List ℕ × List ℕ
 abbrev pub values_of : List Key → List Assigned → List (List ℕ)
 values_of keys assigned = flat_map (λ a. if list_any (λ key. bytes_eq a.section key.0 && bytes_eq a.key key.1) keys then a.value ∷ [] else []) assigned
 
--- the values of a list that an empty value clears: those behind the last empty one
+-- the values of a list that an empty value clears: those after the last empty one
 abbrev pub since_empty : Key → List Assigned → List (List ℕ)
 since_empty key assigned = after_last is_empty (values_of (key ∷ []) assigned)
 
--- ---- what values say
+-- ---- the meaning of values
 
 -- another name of a unit has its suffix
 abbrev pub is_alias_for : List ℕ → List ℕ → Bool
@@ -97,20 +97,20 @@ is_alias_for unit text = is_unit_name text && is_of_same_type unit text
 abbrev pub default_instance_in : List ℕ → Option (Option (List ℕ))
 default_instance_in value = if is_empty value then Some None else option_map Some (instance_in value)
 
--- what Type= says: a type that is served, or one that isn't; any other word can't be read
+-- the meaning of Type=: a type that is served, or one that isn't; any other word can't be read
 pub data TypeSaid : Type 0 where
   Unsaid : TypeSaid
   Served : UnitKind → TypeSaid
   Unserved : TypeSaid
 
--- what a word for a type says
+-- the meaning of a word for a type
 unfoldable pub type_said : List ℕ → Option TypeSaid
 type_said value =
     lookup (bytes_eq value) (
     (codes "simple", Served Simple) ∷ (codes "exec", Served Exec) ∷ (codes "oneshot", Served Oneshot) ∷ (codes "notify", Unserved)
     ∷ (codes "notify-reload", Unserved) ∷ (codes "dbus", Unserved) ∷ (codes "forking", Unserved) ∷ (codes "idle", Unserved) ∷ [])
 
--- what a value of this kind may say: of a list of names, one of its words
+-- the meaning of a value of this kind; for a list of names, that of one of its words
 abbrev pub Said : ValueKind → Type 0
 Said kinds.Instance = Option (List ℕ)
 Said kinds.Truth = Bool
@@ -123,8 +123,8 @@ Said kinds.Policy = RestartPolicy
 Said kinds.ServiceType = TypeSaid
 Said other = List ℕ
 
--- what a value of this kind says under a unit's name, or the warning that it gives: a list of names word by word; others say one thing, or
--- nothing at all
+-- the meaning of a value of this kind under a unit's name, or the warning that it gives: a list of names word by word; others mean one
+-- thing, or nothing at all
 abbrev pub value_readings : List ℕ → (k : ValueKind) → List ℕ → List (Result (Said k) WarningKind)
 value_readings unit kinds.Text value = text_reading unit value ∷ []
 value_readings unit kinds.Units value = names_reading is_unit_name unit value
@@ -154,7 +154,7 @@ value_warning unit k value = result_err (all_read (value_readings unit k value))
 abbrev pub last_said : List ℕ → (k : ValueKind) → Said k → List Key → List Assigned → Said k
 last_said unit k default keys assigned = fold (λ earlier value. value) default (all_said unit k (values_of keys assigned))
 
--- what other units the unit names, each list in order: as After=, Before=, Wants=, Requires=, BindsTo=, PartOf= and Conflicts=
+-- the other units that the unit names, each list in order: as After=, Before=, Wants=, Requires=, BindsTo=, PartOf= and Conflicts=
 pub record Dependencies : Type 0 where
   pub after : List (List ℕ)
   pub before : List (List ℕ)
@@ -180,7 +180,7 @@ dependencies_of unit assigned = record {
   default_dependencies = last_said unit kinds.Truth true ((codes "Unit", codes "DefaultDependencies") ∷ []) assigned;
 }
 
--- what enabling the unit makes
+-- the settings by which the unit is enabled
 pub record InstallSettings : Type 0 where
   pub alias : List (List ℕ)
   pub wanted_by : List (List ℕ)
@@ -204,13 +204,13 @@ install_settings_of unit assigned = record {
 abbrev pub type_of : List Assigned → TypeSaid
 type_of assigned = last_said [] kinds.ServiceType Unsaid ((codes "Service", codes "Type") ∷ []) assigned
 
--- simple where nothing is said and a command is left, oneshot where neither is given
+-- the kind of a service: by a served Type=; if none is set, simple with a command and oneshot without one
 abbrev pub kind_by : TypeSaid → List Command → UnitKind
 kind_by Unsaid start = if is_empty start then Oneshot else Simple
 kind_by (Served kind) start = kind
 kind_by Unserved start = Simple
 
--- all that the values of a setting of [Service] say, behind the last empty one
+-- all that the values of a setting of [Service] say, after the last empty one
 abbrev pub service_said : List ℕ → (k : ValueKind) → List ℕ → List Assigned → List (Said k)
 service_said unit k key assigned = all_said unit k (since_empty (codes "Service", key) assigned)
 
@@ -240,22 +240,22 @@ pub record ServiceSettings : Type 0 where
   pub prevents_restart : End → Bool  -- RestartPreventExitStatus=
   pub forces_restart : End → Bool  -- RestartForceExitStatus=
 
--- where nothing is set, a restart waits so long
+-- how long a restart waits by default
 abbrev pub default_restart_delay : ℕ
 default_restart_delay = 100 * millisecond
 
--- a start and a stop may take so long
+-- how long a start or a stop may take by default
 abbrev pub default_timeout : ℕ
 default_timeout = 90 * second
 
--- and so many starts are allowed in so long
+-- the start limit by default: its interval, and the number of starts in it
 abbrev pub default_limit_interval : ℕ
 default_limit_interval = 10 * second
 
 abbrev pub default_limit_burst : ℕ
 default_limit_burst = 5
 
--- a oneshot service may start as long as it likes, where nothing is set
+-- a oneshot service may start as long as it likes by default
 abbrev pub default_timeout_start : UnitKind → Option ℕ
 default_timeout_start Oneshot = None
 default_timeout_start other = Some default_timeout
@@ -288,19 +288,19 @@ service_settings_with start_pre start kind unit assigned = record {
   forces_restart = any_of (service_said unit kinds.Exits (codes "RestartForceExitStatus") assigned);
 }
 
--- the commands of ExecStartPre=, where the profile serves that
+-- the commands of ExecStartPre=, if the profile serves that
 abbrev pub start_pre_of : Profile → List ℕ → List Assigned → List Command
 start_pre_of profile unit assigned =
     if serves_start_pre profile then flat_map (λ said. said) (service_said unit kinds.Commands (codes "ExecStartPre") assigned) else []
 
--- of a unit that isn't a service, the list has no assignment in [Service]: it is a target in which the limit alone may be set
+-- the settings of a unit that isn't a service are those of a target: without assignments in [Service], only the start limit may be set
 unfoldable pub service_settings_of : Profile → Option Suffix → List ℕ → List Assigned → ServiceSettings
 service_settings_of profile (Some Service) unit assigned =
     let start = flat_map (λ said. said) (service_said unit kinds.Commands (codes "ExecStart") assigned) in
     service_settings_with (start_pre_of profile unit assigned) start (kind_by (type_of assigned) start) unit assigned
 service_settings_of profile other unit assigned = service_settings_with [] [] Target unit assigned
 
--- what a unit's files set: its description, what other units it names, what it says of its processes, and what enabling it makes
+-- the settings in a unit's files: its description, the other units that it names, its processes, and how it is enabled
 pub record Settings : Type 0 where
   pub description : List ℕ
   pub dependencies : Dependencies
@@ -317,7 +317,7 @@ settings_of profile unit assigned = record {
 
 -- ---- settings that are refused
 
--- `setting` and the first key that no unit may have, where it is given a value
+-- `setting` and the first key that no unit may have and that is given a value, if there is one
 abbrev pub refused_setting : Profile → List Assigned → Option (List ℕ)
 refused_setting profile assigned = option_map (λ a. codes "setting " ++ a.key) (find (λ a. is_refused_key profile a.key && not (is_empty a.value)) assigned)
 
@@ -369,14 +369,14 @@ warnings_in profile unit s =
 
 -- ---- loading
 
--- a unit that was found: its name, the path of its file where there is one, its settings and warnings
+-- a unit that was found: its name, the path of its file if there is one, its settings and warnings
 pub record LoadedUnit : Type 0 where
   pub name : List ℕ
   pub path : Option (List ℕ)
   pub settings : Settings
   pub warnings : List Warning
 
--- what became of the look for a unit: it was found, is masked, isn't found, or has a setting that is refused, for this reason
+-- the result of the search for a unit: it was found, is masked, isn't found, or has a setting that is refused, for this reason
 pub data Loading : Type 0 where
   Found : LoadedUnit → Loading
   Masked : (unit : List ℕ) → Loading
@@ -414,28 +414,28 @@ loading_at tree Nowhere = NotFound
 unfoldable pub load : ReadTree → List ℕ → Loading
 load tree unit = loading_at tree (resolution_of tree.entries unit)
 
--- the name that counts for the one that was asked for, by where that leads: the last one, or where it leads nowhere the name itself
+-- the name that counts for the given one, by where that leads: the last name, or the given name itself if it leads nowhere
 abbrev pub named_at : List ℕ → Resolution → List ℕ
 named_at asked (AtFile unit path text) = unit
 named_at asked (AtNoFile unit) = unit
 named_at asked (AtMask unit) = unit
 named_at asked Nowhere = asked
 
--- the same by the tree: what the files say doesn't count, nor by which profile they are read
+-- the same by the tree: neither the texts of the files count, nor the profile by which they are read
 abbrev pub unit_named : Tree → List ℕ → List ℕ
 unit_named tree asked = named_at asked (resolution_of tree asked)
 
--- the same by what was found
+-- the same by the result of loading
 abbrev pub name_in : List ℕ → Loading → List ℕ
 name_in asked (Found u) = u.name
 name_in asked (Masked unit) = unit
 name_in asked NotFound = asked
 name_in asked (BadSetting unit reason) = unit
 
--- settings take something from each of these
+-- each of these readings gives a value
 abbrev pub are_read : {A : Type 0} → List (Result A WarningKind) → Bool
 are_read readings = list_all (λ r. is_some (result_ok r)) readings
 
--- all that the value says counts for the settings of keys of this kind
+-- each part of the value can be read as this kind
 abbrev pub counts : List ℕ → ValueKind → List ℕ → Bool
 counts unit k value = are_read (value_readings unit k value)

@@ -1,6 +1,6 @@
--- What the values of settings mean: truth values, numbers, time spans, sets of exits, and when a service is started again.
+-- The meanings of settings' values: truth values, numbers, time spans, sets of exits, and when a service is started again.
 -- Follows systemd.syntax(7) in truth values, systemd.time(7), "Parsing Time Spans", and systemd.service(5) in `Restart=` and `SuccessExitStatus=`.
--- Settings and the service table stand on this file.
+-- Settings and the service table depend on this file.
 use Rattle.std.specs.Prelude.{ℕ, ◌+◌, ◌-◌, ◌*◌, Bool, true, false, not, ◌&&◌, ◌==◌, nat_le, nat_lt}
 use Rattle.std.specs.Prelude.{List, [], ◌∷◌, length, drop, filter, take_while, codes, Option, Some, None, option_map, option_and_then}
 use Rattle.std.specs.Prelude.{find, fold, is_some, sum, if◌then◌else◌}
@@ -36,7 +36,7 @@ decimal digits = fold (λ n b. 10 * n + (b - 48)) 0 digits
 abbrev pub is_decimal : List ℕ → Bool
 is_decimal text = nat_lt 0 (length text) && list_all is_digit text
 
--- the number that the text spells, where 32 bits hold it
+-- the number that the text spells, if 32 bits hold it
 unfoldable pub number_of : List ℕ → Option ℕ
 number_of text = if is_decimal text && nat_le (decimal text) 4294967295 then Some (decimal text) else None
 
@@ -57,7 +57,7 @@ time_units =
 abbrev pub time_of : List ℕ → List ℕ → Option ℕ
 time_of digits unit = if nat_lt 0 (length digits) then option_map (λ size. decimal digits * size) (lookup (bytes_eq unit) time_units) else None
 
--- a piece of a text of times: whitespace, or a part, which is digits and the letters of a unit, with whitespace between them as one likes
+-- a piece of a text of times: whitespace, or a part, which is digits and the letters of a unit, with any whitespace between them
 abbrev pub time_front : ℕ → List ℕ → Front ℕ
 time_front b bs =
     let digits = take_while is_digit (b ∷ bs) in
@@ -90,7 +90,7 @@ code_limit = 255
 abbrev pub signal_limit : ℕ
 signal_limit = 64
 
--- the end that a word tells: an exit code, or a signal by its name
+-- the end that a word names: an exit code, or a signal by its name
 abbrev pub exit_of : List ℕ → Option End
 exit_of word =
     if is_decimal word then (if nat_le (decimal word) code_limit then Some (Code (decimal word)) else None)
@@ -103,7 +103,7 @@ is_end (Code a) (Some (Code b)) = a == b
 is_end (Signal a) (Some (Signal b)) = a == b
 is_end end (Some other) = false
 
--- the set of the ends that the text's words tell, where each of them tells one; its words stand between spaces and tabs
+-- the set of the ends that the text's words name, if each of them names one; its words stand between spaces and tabs
 unfoldable pub exits_of : List ℕ → Option (End → Bool)
 exits_of text =
     let words = filter (λ word. not (length word == 0)) (slice_split is_space text) in

@@ -1,6 +1,6 @@
 -- How many jobs of a unit wait, and that no more wait than before.
 -- Follows systemctl(1), "list-jobs".
--- The cancelling of jobs, and what falls with a unit, stand on this file.
+-- The cancelling of jobs, and the units that fall with one, depend on this file.
 use Rattle.std.specs.Prelude.{ℕ, Option, Some, ◌+◌, Bool, ◌||◌, ◌≤◌, List}
 use Rattle.um_model.specs.declared.jobs.JobState.{JobState}
 use Rattle.um_model.specs.declared.jobs.JobState.TheVariants.{Waiting}
@@ -18,7 +18,7 @@ waits other = 0
 abbrev pub waits_in : UnitJobs → ℕ
 waits_in j = waits j.stop + waits j.start
 
--- a job of the unit waits, as it is tested
+-- a job of the unit waits, as a test
 abbrev pub has_waiting : UnitJobs → Bool
 has_waiting j = is_waiting j.stop || is_waiting j.start
 

@@ -1,6 +1,6 @@
--- What a state weighs: an upper bound of the bytes that a snapshot of it takes.
+-- The weight of a state: an upper bound of the bytes that a snapshot of it takes.
 -- Follows no manual page: the store is this project's own (docs/FORMATS.md, "Weight").
--- The machine stands on this file.
+-- The machine depends on this file.
 use Rattle.std.specs.Prelude.{ℕ, ◌+◌, ◌*◌, List, length, map as each}
 use Rattle.std.specs.List.{sum}
 use Rattle.std.specs.FinMap as map

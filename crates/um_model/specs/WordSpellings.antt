@@ -1,6 +1,6 @@
 -- How words are spelled, inside quotes or not: byte by byte, as code reads them, and as relations that have one reading at most.
 -- Follows systemd.syntax(7), "Quoting".
--- The contracts and laws of um_words stand on this file.
+-- The contracts and laws of um_words depend on this file.
 use Rattle.std.specs.Prelude.{ℕ, Option, ◌&&◌, nat_lt, List, ◌==◌, [], ◌∷◌, Some, None, Bool, true, is_none, ◌-◌, take, zero, suc, ◌||◌, not, ◌≡◌, ◌++◌, drop, if◌then◌else◌}
 use Rattle.um_model.specs.Ascii.{is_space}
 use Rattle.um_model.specs.Words.{begins_with_digits, is_left_out, is_quote, begins_escape, Word, piece_of_words}
@@ -12,7 +12,7 @@ use Rattle.um_model.specs.Pieces.{StandsForText}
 use Rattle.um_model.specs.Commands.{Command}
 
 -- the front of a text, inside a quote or not: the word ends before it, it can't be read, a quote opens or closes,
--- it means a byte and takes so many bytes, or so many bytes stay as written
+-- it means a byte and takes n bytes, or n bytes stay as written
 pub data Spelling : Type 0 where
   Stop : Spelling
   Bad : Spelling
@@ -54,7 +54,7 @@ may_end other quote = is_none quote
 abbrev pub at_end : WordRules → Option ℕ → Option (List ℕ × List ℕ)
 at_end rules quote = if may_end rules quote then Some ([], []) else None
 
--- what is read, where the front is spelled so and what follows so many skipped bytes is read so
+-- the word and the rest, by the spelling at the front and the reading of the text after the bytes that it takes
 abbrev pub by_spelling : Spelling → Option ℕ → ℕ → List ℕ → (ℕ → Option ℕ → Option (List ℕ × List ℕ)) → Option (List ℕ × List ℕ)
 by_spelling Stop quote b bs later = Some ([], b ∷ bs)
 by_spelling Bad quote b bs later = None
@@ -62,7 +62,7 @@ by_spelling (Turn other) quote b bs later = later 0 other
 by_spelling (Means meaning n) quote b bs later = with_front (meaning ∷ []) (later (n - 1) quote)
 by_spelling (Kept n) quote b bs later = with_front (b ∷ take (n - 1) bs) (later (n - 1) quote)
 
--- the word and what follows it, after so many bytes are skipped
+-- the word and the rest after it, once this many bytes are skipped
 abbrev pub read : WordRules → ℕ → Option ℕ → List ℕ → Option (List ℕ × List ℕ)
 read rules skip quote [] = at_end rules quote
 read rules (suc skip) quote (b ∷ bs) = read rules skip quote bs
@@ -77,7 +77,7 @@ marks (Some quote) b = b == quote
 abbrev pub is_plain : WordRules → Option ℕ → ℕ → Bool
 is_plain rules quote b = not (begins_escape rules b || marks quote b)
 
--- The word at the front of a text in other words: inside this quote, or none, the text begins with spellings of the word's bytes up to the
+-- The word at the front of a text, as a relation: inside this quote, or none, the text begins with spellings of the word's bytes up to the
 -- word's end, and then the rest.
 pub data InWord (rules : WordRules) : Option ℕ → List ℕ → List ℕ → List ℕ → Type 0 where
   ends : (quote : Option ℕ) → may_end rules quote ≡ true → InWord rules quote [] [] []

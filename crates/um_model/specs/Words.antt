@@ -1,6 +1,6 @@
 -- A text as words, with quotes and escapes.
 -- Follows systemd.syntax(7), "Quoting".
--- Commands, substitution and the settings of units stand on this file.
+-- Commands, substitution and the settings of units depend on this file.
 use Rattle.std.specs.Prelude.{ℕ, ◌+◌, ◌*◌, ◌-◌, Bool, false, ◌&&◌, ◌||◌, ◌==◌, nat_lt, nat_le, if◌then◌else◌}
 use Rattle.std.specs.Prelude.{List, [], ◌∷◌, length, map, take, slice_index, Option, Some, None, option_map}
 use Rattle.std.specs.Char.{digit_value}
@@ -26,8 +26,8 @@ meanings = (97, 7) ∷ (98, 8) ∷ (102, 12) ∷ (110, 10) ∷ (114, 13) ∷ (11
 abbrev pub is_left_out : ℕ → List ℕ → Bool
 is_left_out b bs = begins_with_digits 8 3 (b ∷ bs) || ((b == 117 && begins_with_digits 16 4 bs) || (b == 85 && begins_with_digits 16 8 bs))
 
--- a backslash and a byte that has no meaning alone: \x and two digits are the byte from 01 to 7f that they write, whitespace stays behind its
--- backslash, as any other byte does by itself
+-- a backslash and a byte that has no meaning alone: \x and two digits are the byte from 01 to 7f that they write, whitespace stays together
+-- with its backslash, and before any other byte the backslash stays by itself
 abbrev pub rare_front : ℕ → List ℕ → Front ℕ
 rare_front b bs =
     let value = 16 * digit_value (slice_index bs 0) + digit_value (slice_index bs 1) in
@@ -55,7 +55,7 @@ is_quote b = b == 34 || b == 39
 abbrev pub quoted_front : WordRules → ℕ → ℕ → List ℕ → Front ℕ
 quoted_front rules quote b bs = if begins_escape rules b then backslash_front bs else (if b == quote then Ends else Gives (b ∷ []) 1)
 
--- a text that begins with a quote stands for what is found in it, and takes that and both quotes; a quote may stay open to the end of the
+-- a text that begins with a quote stands for the text inside, and takes that and both quotes; a quote may stay open to the end of the
 -- text in a variable's value
 abbrev pub quote_front : WordRules → List ℕ → Option (List ℕ × List ℕ) → Front ℕ
 quote_front rules text None = Unreadable
@@ -65,7 +65,7 @@ quote_front rules text (Some (found, quote ∷ left)) = Gives found (length text
 
 -- ---- words
 
--- a piece of a word: an escape, what quotes hold, or a byte; whitespace ends the word
+-- a piece of a word: an escape, the text in quotes, or a byte; whitespace ends the word
 abbrev pub piece_of_word : WordRules → ℕ → List ℕ → Front ℕ
 piece_of_word rules b bs =
     if begins_escape rules b then backslash_front bs
@@ -77,7 +77,7 @@ pub record Word : Type 0 where
   pub spelling : List ℕ
   pub value : List ℕ
 
--- a word that was found at the front of a text, with what follows it: its spelling is all that stands before that
+-- a word that was found at the front of a text, with the rest after it: its spelling is all that stands before the rest
 abbrev pub word_front : List ℕ → List ℕ × List ℕ → Front Word
 word_front text found =
     let taken = length text - length found.1 in Gives (record { spelling = take taken text; value = found.0 } ∷ []) taken
@@ -86,6 +86,6 @@ word_front text found =
 abbrev pub piece_of_words : WordRules → ℕ → List ℕ → Front Word
 piece_of_words rules b bs = if is_space b then Gives [] 1 else option_map_or (word_front (b ∷ bs)) (begun (piece_of_word rules) (b ∷ bs)) Unreadable
 
--- the words that the text reads as, where it can be read
+-- the words that the text reads as, if it can be read
 unfoldable pub words_of : WordRules → List ℕ → Option (List (List ℕ))
 words_of rules text = option_map (map (λ w. w.value)) (reading (piece_of_words rules) text)

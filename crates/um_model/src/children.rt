@@ -1,6 +1,8 @@
+//! The fates of processes.
+
 use crate::service::End;
 
-/// What is told of the process under a number.
+/// The known state of the process under a number.
 #[derive(Clone, Copy, Debug, PartialEq, Eq)]
 pub enum Fate {
     /// It isn't known yet whether it starts.

@@ -1,3 +1,5 @@
+//! The kinds of dependencies, and the demands of a transaction.
+
 /// How one unit depends on another (systemd.unit(5)).
 #[derive(Clone, Copy, Debug, PartialEq, Eq)]
 pub enum DependencyKind {
@@ -5,7 +7,7 @@ pub enum DependencyKind {
     Wants,
     /// The other is started along, and this one is stopped and restarted with it.
     Requires,
-    /// The same, and this one is stopped where the other becomes inactive or failed in any way.
+    /// The same, and this one is stopped if the other becomes inactive or failed in any way.
     BindsTo,
     /// This one is stopped and restarted with the other.
     PartOf,
@@ -13,7 +15,7 @@ pub enum DependencyKind {
     Conflicts,
 }
 
-/// What a transaction demands of a unit (systemctl(1)).
+/// The demand of a transaction on a unit (systemctl(1)).
 #[derive(Clone, Copy, Debug, PartialEq, Eq)]
 pub enum Demand {
     Start,

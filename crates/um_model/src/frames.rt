@@ -1,3 +1,5 @@
+//! How a stream of frames ends.
+
 /// How a stream of frames ended.
 #[derive(Clone, Copy, Debug, PartialEq, Eq)]
 pub enum Ending {

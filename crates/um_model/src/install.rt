@@ -1,10 +1,12 @@
+//! Enabling and its kin, and how a unit is enabled.
+
 ghost use Rattle.std.specs.Prelude.{◌≡◌};
 ghost use Rattle.um_model.specs.Install.{enabling_text};
 
-/// What is done with the links of a unit in the tree in hand (systemctl(1)); each is followed by a reload.
+/// A change of the links of a unit in the tree in hand (systemctl(1)); each is followed by a reload.
 #[derive(Clone, Copy, Debug, PartialEq, Eq)]
 pub enum InstallVerb {
-    /// Make the links that its [Install] section asks for.
+    /// Make the links that its [Install] section calls for.
     Enable,
     /// Remove the links in `etc/` by which it is wanted, required or has another name.
     Disable,
@@ -23,16 +25,16 @@ pub enum Enabling {
     Alias,
     /// There is a link that disabling it removes.
     Enabled,
-    /// Its [Install] section asks for links, and none of them is there.
+    /// Its [Install] section calls for links, and none of them is there.
     Disabled,
     /// Its [Install] section names other units in Also= alone.
     Indirect,
-    /// Its [Install] section asks for nothing.
+    /// Its [Install] section calls for nothing.
     Static,
 }
 
 impl Enabling {
-    /// The word for it.
+    /// The word for it in the reply to `is-enabled`.
     pub fn text(self) -> &'static str
         ensures { result.now ≡ enabling_text self }
     {

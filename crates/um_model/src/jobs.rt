@@ -1,7 +1,9 @@
+//! The pending jobs of one unit.
+
 ghost use Rattle.std.specs.Prelude.{◌≡◌};
 ghost use Rattle.um_model.specs.Jobs.{has_job, job_kind_text, job_state_text, with_job};
 
-/// What a job does to its unit (systemctl(1), "list-jobs").
+/// The kind of a job (systemctl(1), "list-jobs").
 #[derive(Clone, Copy, Debug, PartialEq, Eq)]
 pub enum JobKind {
     Stop,
@@ -16,7 +18,7 @@ pub enum JobState {
 }
 
 impl JobKind {
-    /// The word for what the job does.
+    /// The word for the kind of the job.
     pub fn text(self) -> &'static str
         ensures { result.now ≡ job_kind_text self }
     {
@@ -39,7 +41,7 @@ impl JobState {
     }
 }
 
-/// The pending jobs of one unit: its Stop and its Start, where there is one.
+/// The pending jobs of one unit: its stop job and its start job, if there is one.
 #[derive(Clone, Copy, Debug, PartialEq, Eq)]
 pub struct UnitJobs {
     pub stop: Option<JobState>,

@@ -1,23 +1,25 @@
+//! The layout of a store on its disk: its format, its slots and its log.
+
 ghost use Rattle.std.specs.Prelude.{◌≡◌, ◌≤◌, ◌<◌, ◌+◌, ◌*◌, ◌-◌, ◌⊎◌, None, IfSome};
 
-/// A sector has so many bytes.
+/// The size of a sector, in bytes.
 pub const SECTOR_BYTES: usize = 512;
 
-/// A slot has at least so many sectors.
+/// The least size of a slot, in sectors.
 const SLOT_LEAST: u32 = 64;
 
-/// The log has at least so many sectors.
+/// The least size of the log, in sectors.
 const LOG_LEAST: u32 = 512;
 
-/// A slot and the log have at most so many sectors each.
+/// The greatest size of a slot and of the log, in sectors.
 const SECTORS_MOST: u32 = 1 << 20;
 
-/// What a store is like on its disk, as its sector 0 tells it beside the layout.
+/// The format of a store on its disk, which its sector 0 records beside the layout.
 #[derive(Clone, Copy, Debug, PartialEq, Eq)]
 pub enum Format {
     /// One log, for all generations. The records of the newest snapshot's generation count.
     One,
-    /// Two areas of the log, which the generations take in turn. The records of the newest snapshot's generation count, and behind them
+    /// Two areas of the log, which the generations take in turn. The records of the newest snapshot's generation count, and after them
     /// those of the next one.
     Two,
 }
@@ -32,8 +34,8 @@ pub enum Slot {
     B,
 }
 
-/// How large the parts of a store are, in sectors of 512 bytes. Sector 0 tells it, then come slot A, slot B and the log.
-/// Only what is within the limits is a layout: a slot of 64 to 2^20 sectors, a log of 512 to 2^20 sectors.
+/// How large the parts of a store are, in sectors of 512 bytes. Sector 0 records it, then come slot A, slot B and the log.
+/// A layout is always within the limits: a slot of 64 to 2^20 sectors, a log of 512 to 2^20 sectors.
 #[derive(Clone, Copy, Debug)]
 pub struct Layout {
     /// A slot: its header and its body.
@@ -48,7 +50,7 @@ pub struct Layout {
 impl Slot {
     ghost use Rattle.um_model.specs.Store.{other};
 
-    /// The other one.
+    /// The other slot: B for A, and A for B.
     pub fn other(self) -> Slot
         ensures { result ≡ other self }
     {
@@ -76,7 +78,7 @@ impl Format {
 impl Layout {
     ghost use Rattle.um_model.specs.Store.{slot_start, body_limit, first_log_sector, area_sectors, area_start, area_end, log_start, log_end, record_limit, store_sectors};
 
-    /// The layout of a store with slots and a log of so many sectors; None outside the limits.
+    /// The layout of a store whose slots and log have these numbers of sectors; None outside the limits.
     pub fn new(slot_sectors: u32, log_sectors: u32) -> Option<Layout>
         ensures sizes { IfSome result (λ layout. (layout.slot_sectors ≡ slot_sectors) × (layout.log_sectors ≡ log_sectors)) }
         ensures none { result ≡ None → (slot_sectors < 64) ⊎ (1048576 < slot_sectors) ⊎ (log_sectors < 512) ⊎ (1048576 < log_sectors) }
@@ -117,7 +119,7 @@ impl Layout {
         2 * self.slot_sectors as usize + 1
     }
 
-    /// How many sectors of the log are for the records of a generation: of format 1 all, of format 2 half of them, rounded down.
+    /// How many sectors of the log are for the records of a generation: in format 1 all, in format 2 half of them, rounded down.
     pub fn area_sectors(self, format: Format) -> usize
         ensures { result ≡ area_sectors format self }
     {
@@ -127,8 +129,8 @@ impl Layout {
         }
     }
 
-    /// The first sector of a generation's records: of format 1 that of the log; of format 2 an even generation has the first area, an odd
-    /// one the area behind it.
+    /// The first sector of a generation's records: in format 1 that of the log; in format 2 an even generation has the first area, an odd
+    /// one the area after it.
     pub fn area_start(self, format: Format, generation: u64) -> usize
         ensures { result ≡ area_start format self generation }
     {
@@ -140,7 +142,7 @@ impl Layout {
         }
     }
 
-    /// The first sector behind the place of a generation's records.
+    /// The first sector past the place of a generation's records.
     pub fn area_end(self, format: Format, generation: u64) -> usize
         ensures { result ≡ area_end format self generation }
     {
@@ -154,7 +156,7 @@ impl Layout {
         self.area_start(CURRENT, generation)
     }
 
-    /// The first sector behind them.
+    /// The first sector past them.
     pub fn log_end(self, generation: u64) -> usize
         ensures { result ≡ log_end self generation }
     {

@@ -1,5 +1,5 @@
-//! What is believed of the service manager: the definitions in `specs/`, and the plain types that code and definitions
-//! share.
+//! The model of the service manager, which every reader has to believe: the definitions in `specs/`, and the plain types that code
+//! and definitions share.
 #![tactic(auto)]
 
 mod children;

@@ -1,3 +1,5 @@
+//! The window in which the starts of a unit are counted.
+
 use crate::time::Moment;
 
 /// The starts that a window counted.

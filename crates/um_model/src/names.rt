@@ -1,3 +1,5 @@
+//! The suffixes of unit names.
+
 ghost use Rattle.std.specs.Prelude.{◌≡◌};
 ghost use Rattle.um_model.specs.Names.{suffix_text};
 

@@ -35,7 +35,7 @@ impl ProcessNumber {
         Some(ProcessNumber { number })
     }
 
-    /// The number.
+    /// The number as a `u64`.
     pub fn get(self) -> u64
         ensures value { result ≡ self }
         ensures least { 1 ≤ self }
@@ -45,7 +45,7 @@ impl ProcessNumber {
     }
 }
 
-/// The number under which the next process is started: 1 to 2^63, where at 2^63 none is left.
+/// The number under which the next process is started: 1 to 2^63; at 2^63 no number is left.
 #[derive(Clone, Copy, Debug, PartialEq, Eq)]
 pub struct NextNumber {
     number: u64,
@@ -75,7 +75,7 @@ impl NextNumber {
         Some(NextNumber { number })
     }
 
-    /// The number.
+    /// The number as a `u64`.
     pub fn get(self) -> u64
         ensures value { result ≡ self }
         ensures least { 1 ≤ self }
@@ -84,7 +84,7 @@ impl NextNumber {
         self.number
     }
 
-    /// The process that it is for; none where no number is left.
+    /// The process that it is for; none if no number is left.
     pub fn process(self) -> Option<ProcessNumber>
         ensures { MatchOption result (process_limit ≤ self) (λ p. (p ≡ self) × (self < process_limit)) }
     {
@@ -96,7 +96,7 @@ impl NextNumber {
         })
     }
 
-    /// The number behind that of a process.
+    /// The number that follows that of a process.
     pub fn behind(process: ProcessNumber) -> NextNumber
         ensures { result ≡ process + 1 }
     {

@@ -1,3 +1,5 @@
+//! The profiles by which the files of units are read.
+
 ghost use Rattle.std.specs.Prelude.{◌≡◌};
 ghost use Rattle.um_model.specs.Profiles.{current, later, serves_start_pre};
 
@@ -10,7 +12,7 @@ pub enum Profile {
 }
 
 impl Profile {
-    /// The one by which what is submitted now is read, and the tree in hand where it is asked about.
+    /// The profile of inputs that are submitted now, by which queries read the tree in hand too.
     pub fn current() -> Profile
         ensures { result ≡ current }
     {
@@ -27,7 +29,7 @@ impl Profile {
         }
     }
 
-    /// The later of both.
+    /// The later of the two profiles.
     pub fn later(self, other: Profile) -> Profile
         ensures { result ≡ later self other }
     {

@@ -1,7 +1,9 @@
+//! The limits that a refusal names.
+
 ghost use Rattle.std.specs.Prelude.{◌≡◌};
 ghost use Rattle.um_model.specs.Refusals.{limit_word};
 
-/// A limit of the service; of several that are passed the first in this order is told.
+/// A limit of the service; of several that are passed, the refusal names the first in this order.
 #[derive(Clone, Copy, Debug, PartialEq, Eq)]
 pub enum Limit {
     /// A request frame has at most 524,288 bytes.

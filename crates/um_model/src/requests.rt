@@ -1,11 +1,13 @@
-/// Where requests come from: over standard input, where they may tell a moment, or over a socket.
+//! The verbs of requests, and where requests come from.
+
+/// Where requests come from: over standard input, where they may give a moment, or over a socket.
 #[derive(Clone, Copy, Debug, PartialEq, Eq)]
 pub enum Mode {
     Memory,
     Service,
 }
 
-/// What a request asks for (systemctl(1)).
+/// The verb of a request (systemctl(1)).
 #[derive(Clone, Copy, Debug, PartialEq, Eq)]
 pub enum Verb {
     PutFile,

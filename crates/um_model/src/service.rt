@@ -1,3 +1,5 @@
+//! The state of one unit, with its sub state, its result and its processes.
+
 ghost use Rattle.std.specs.Prelude.{◌≡◌, ◌||◌, ◌&&◌, ◌==◌, not, is_none};
 ghost use Rattle.um_model.specs.Ends.{waits_for_report};
 ghost use Rattle.um_model.specs.Service.{holds_nothing, sub_state_text, active_state_of, active_state_text, result_text, is_number};
@@ -32,7 +34,7 @@ pub enum ActiveState {
     Failed,
 }
 
-/// What became of a unit: why it isn't as its start would have it.
+/// The result of a unit: why it isn't as its start would have it.
 #[derive(Clone, Copy, Debug, PartialEq, Eq)]
 pub enum UnitResult {
     Success,
@@ -51,9 +53,9 @@ pub enum UnitResult {
 pub enum End {
     /// It exited with this code.
     Code(u8),
-    /// A signal of this number ended it; 0 where the number isn't told.
+    /// A signal of this number ended it; 0 if the number isn't known.
     Signal(u8),
-    /// Nobody can tell how, or whether it ever ran.
+    /// It isn't known how, or whether it ever ran.
     Lost,
 }
 
@@ -74,7 +76,7 @@ fn is_number(number: u64, process: Option<ProcessNumber>) -> bool
     }
 }
 
-/// What the state holds of one unit.
+/// The state of one unit.
 #[derive(Clone, Copy, Debug, PartialEq, Eq)]
 pub struct UnitState {
     pub sub: SubState,
@@ -88,7 +90,7 @@ pub struct UnitState {
     /// The moment at which the unit's time-out or restart is due.
     pub deadline: Option<Deadline>,
     pub window: Option<Counted>,
-    /// A stop was asked for.
+    /// Whether a stop was requested.
     pub stop_asked: bool,
     /// How the main process last ended.
     pub last: Option<End>,

@@ -1,3 +1,5 @@
+//! Lengths of time and restart policies, as settings give them.
+
 ghost use Rattle.std.specs.Prelude.{◌≡◌};
 ghost use Rattle.um_model.specs.Values.{restart_text};
 
@@ -6,7 +8,7 @@ use crate::time::Span;
 /// A length of time, as a setting gives it (systemd.time(7)).
 #[derive(Clone, Copy, Debug, PartialEq, Eq)]
 pub enum TimeSpan {
-    /// So many microseconds.
+    /// A number of microseconds.
     Micros(Span),
     /// It never ends.
     Infinite,

@@ -28,7 +28,7 @@ impl Moment {
     /// The first moment.
     pub const FIRST: Moment = Moment { micros: 0 };
 
-    /// The moment of so many microseconds; none past 2^62.
+    /// The moment of `micros` microseconds; none past 2^62.
     pub fn new(micros: u64) -> Option<Moment>
         ensures { MatchOption result (moment_limit < micros) (λ m. (m ≡ micros) × (micros ≤ moment_limit)) }
     {
@@ -38,7 +38,7 @@ impl Moment {
         Some(Moment { micros })
     }
 
-    /// Its microseconds.
+    /// The number of its microseconds.
     pub fn micros(self) -> u64
         ensures value { result ≡ self }
         ensures small { self ≤ moment_limit }
@@ -84,7 +84,7 @@ impl Model for Span {
 }
 
 impl Span {
-    /// The span of so many microseconds.
+    /// The span of `micros` microseconds.
     pub fn from_micros(micros: u32) -> Span
         ensures { result ≡ micros }
     {
@@ -93,7 +93,7 @@ impl Span {
         }
     }
 
-    /// The span of so many microseconds; none past 2^62.
+    /// The span of `micros` microseconds; none past 2^62.
     pub fn new(micros: u64) -> Option<Span>
         ensures { MatchOption result (span_limit < micros) (λ s. (s ≡ micros) × (micros ≤ span_limit)) }
     {
@@ -103,7 +103,7 @@ impl Span {
         Some(Span { micros })
     }
 
-    /// Its microseconds.
+    /// The number of its microseconds.
     pub fn micros(self) -> u64
         ensures value { result ≡ self }
         ensures small { self ≤ span_limit }
@@ -112,7 +112,7 @@ impl Span {
     }
 }
 
-/// The moment at which a unit's time-out or restart is due: microseconds since 1970, at most 2^63, a span behind a moment.
+/// The moment at which a unit's time-out or restart is due: microseconds since 1970, at most 2^63, a span after a moment.
 #[derive(Clone, Copy, Debug, PartialEq, Eq)]
 pub struct Deadline {
     micros: u64,
@@ -129,7 +129,7 @@ impl Model for Deadline {
 }
 
 impl Deadline {
-    /// The deadline of so many microseconds; none past 2^63.
+    /// The deadline of `micros` microseconds; none past 2^63.
     pub fn new(micros: u64) -> Option<Deadline>
         ensures { MatchOption result (deadline_limit < micros) (λ d. (d ≡ micros) × (micros ≤ deadline_limit)) }
     {
@@ -139,7 +139,7 @@ impl Deadline {
         Some(Deadline { micros })
     }
 
-    /// Its microseconds.
+    /// The number of its microseconds.
     pub fn micros(self) -> u64
         ensures value { result ≡ self }
         ensures small { self ≤ deadline_limit }

@@ -1,8 +1,10 @@
+//! The events of the service table, and the changes that follow from them.
+
 use crate::processes::NextNumber;
 use crate::service::{End, Signal, UnitState};
 use crate::time::Moment;
 
-/// What a unit is for the service table: a target, or a service of one of the types (systemd.service(5), `Type=`).
+/// The kind of a unit in the service table: a target, or a service of one of the types (systemd.service(5), `Type=`).
 #[derive(Clone, Copy, Debug, PartialEq, Eq)]
 pub enum UnitKind {
     Simple,
@@ -26,7 +28,7 @@ pub enum CommandList {
     OfStop,
 }
 
-/// What happens to a unit.
+/// An event of a unit.
 #[derive(Clone, Copy, Debug, PartialEq, Eq)]
 pub enum UnitEvent {
     /// A job that starts it begins.
@@ -41,13 +43,13 @@ pub enum UnitEvent {
     MainEnds(End),
     /// Its control process ended.
     ControlEnds(End),
-    /// The moment of its deadline is there.
+    /// The moment of its deadline has come.
     DeadlinePasses,
     /// Its failure is to be forgotten (systemctl(1), "reset-failed").
     Reset,
 }
 
-/// What stands around a unit as something happens to it.
+/// The surroundings of a unit at an event.
 #[derive(Clone, Copy, Debug, PartialEq, Eq)]
 pub struct Around {
     /// The moment of the event.
@@ -60,7 +62,7 @@ pub struct Around {
     pub stop_waits: bool,
 }
 
-/// What is asked of the unit's processes: nothing, that one is started, or a signal to each live one.
+/// An order for the unit's processes: nothing, to start one, or a signal to each live one.
 #[derive(Clone, Copy, Debug, PartialEq, Eq)]
 pub enum Order {
     Nothing,
@@ -69,7 +71,7 @@ pub enum Order {
     Signal(Signal),
 }
 
-/// What becomes of the unit's running start job, where there is one.
+/// The change of the unit's running start job, if there is one.
 #[derive(Clone, Copy, Debug, PartialEq, Eq)]
 pub enum StartJob {
     Stays,
@@ -77,13 +79,13 @@ pub enum StartJob {
     Fails,
 }
 
-/// What follows from an event for its unit.
+/// The change of a unit by an event.
 #[derive(Clone, Copy, Debug, PartialEq, Eq)]
 pub struct Change {
     /// The unit from now on.
     pub unit: UnitState,
     pub order: Order,
     pub start: StartJob,
-    /// Whether the unit's running stop job ends, where there is one.
+    /// Whether the unit's running stop job ends, if there is one.
     pub stop_ends: bool,
 }

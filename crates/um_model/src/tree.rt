@@ -1,3 +1,5 @@
+//! The layers of the tree.
+
 ghost use Rattle.std.specs.Prelude.{◌≡◌};
 ghost use Rattle.um_model.specs.Tree.{layer_text};
 

@@ -1,7 +1,9 @@
+//! The load states of units, and the kinds of values in their files.
+
 ghost use Rattle.std.specs.Prelude.{◌≡◌};
 ghost use Rattle.um_model.specs.Units.{load_state_text};
 
-/// What became of the look for a unit's file (systemctl(1), `LoadState`).
+/// The result of the search for a unit's file (systemctl(1), `LoadState`).
 #[derive(Clone, Copy, Debug, PartialEq, Eq)]
 pub enum LoadState {
     Loaded,
@@ -24,7 +26,7 @@ impl LoadState {
     }
 }
 
-/// What kind of value a key of a unit file takes.
+/// The kind of value that a key of a unit file takes.
 #[derive(Clone, Copy, Debug, PartialEq, Eq)]
 pub enum ValueKind {
     /// A text with specifiers.
@@ -35,7 +37,7 @@ pub enum ValueKind {
     Units,
     /// Other names of the unit.
     Aliases,
-    /// What an instance may be.
+    /// An instance.
     Instance,
     /// A truth value.
     Truth,

@@ -1,3 +1,5 @@
+//! The kinds of warnings that a unit file gives.
+
 ghost use Rattle.std.specs.Prelude.{◌≡◌};
 ghost use Rattle.um_model.specs.Syntax.{warning_number};
 
@@ -19,7 +21,7 @@ pub enum WarningKind {
 }
 
 impl WarningKind {
-    /// The number that a reply tells, 1 to 6.
+    /// The number in a reply, 1 to 6.
     pub fn number(self) -> u64
         ensures { result ≡ warning_number self }
     {

@@ -1,3 +1,5 @@
+//! The rules by which a text is split into words.
+
 /// By which rules a text is split into words.
 #[derive(Clone, Copy, Debug, PartialEq, Eq)]
 pub enum WordRules {
