@@ -25,7 +25,7 @@ pub fn a_step_has_one_outcome()
         → Step size s input r a t → Step size s input q b u → IsSameOutcome r q a b t u }
 {}
 
-/// A query has one reply, which the state tells.
+/// A query has one reply, which the state determines.
 pub fn a_query_has_one_reply()
     ensures { (s : State) (query : Query) (r q : Reply) → IsReplyTo s query r → IsReplyTo s query q → r ≡ q }
 {}
@@ -41,7 +41,7 @@ pub fn a_run_has_one_end()
     ensures { (size : ℕ) (s t u : State) (inputs : List Input) → Run size s inputs t → Run size s inputs u → t ≡ u }
 {}
 
-/// A run over two lists, one behind the other, is a run over the first and then one over the second.
+/// A run over two lists, one after the other, is a run over the first and then one over the second.
 pub fn runs_join()
     ensures { (size : ℕ) (s u : State) (p q : List Input)
         → ((t : State) × Run size s p t × Run size t q u) ↔ Run size s (p ++ q) u }
@@ -76,7 +76,7 @@ pub fn each_state_has_one_weight()
     ensures heavy { (size : ℕ) (s : State) (weight : ℕ) → Weighs s weight → IsTooHeavy size s ↔ size < weight }
 {}
 
-/// What happens is never refused, and never raises the weight of the state.
+/// A happening is never refused, and never raises the weight of the state.
 pub fn what_happens_never_raises_the_weight()
     ensures { (size : ℕ) (s : State) (profile : Profile) (moment : ℕ) (happening : Happening) (reply : Reply) (actions : List Action) (t : State)
         → Step size s (record { profile = profile; moment = moment; event = Happened happening }) reply actions t → (reply ≡ Done) × WeighsNoMore t s }
