@@ -1,5 +1,5 @@
--- What a graph is: names, loadings and rows by the numbers of the units, and when it is the graph of a tree.
--- Follows the definitions of dependencies: it says them by numbers.
+-- A graph: names, loadings and rows by the numbers of the units, and when it is the graph of a tree.
+-- Follows the definitions of dependencies: it states them by numbers.
 -- Transactions stand on this file.
 use Rattle.std.specs.Prelude.{◌≡◌, ◌≢◌, ℕ, ◌<◌, ◌≤◌, ◌↔◌, true, List, [], length, All, AllPairs, Contains, Option, Some, None, option_map, slice_get, find}
 use Rattle.um_model.specs.Dependencies.{IsKnown, Depends, Precedes, unit_limit}
@@ -12,7 +12,7 @@ use Rattle.um_unit.specs.declared.loaded.Loading.{Loading}
 use Rattle.um_graph.specs.Kinds.{bit_of, inverse_bit_of, before_bit, after_bit, has}
 use Rattle.um_graph.specs.declared.row.Neighbour.{Neighbour}
 
--- of each unit, by its number: its name, what became of its look, and its neighbours; and for how many units the tree counts
+-- for each unit, by its number: its name, the outcome of its look-up, and its neighbours; and the tree's count of units
 pub record GraphView : Type 0 where
   pub names : List (List ℕ)
   pub loadings : List Loading

@@ -14,7 +14,7 @@ use std::alloc::{AllocError, Global};
 pub struct Neighbour {
     /// Its number.
     pub unit: usize,
-    /// In which ways the unit whose neighbour it is stands to it.
+    /// The kinds in which the unit whose neighbour it is stands to it.
     pub kinds: Kinds,
 }
 
@@ -34,7 +34,7 @@ impl Row {
         }
     }
 
-    /// The neighbours in the order in which they came, or that of their numbers where they were sorted since.
+    /// The neighbours in the order in which they were added, or in that of their numbers once they were sorted.
     pub(crate) fn neighbours(&self) -> &[Neighbour]
         ensures { result.now ≡ values self.now.neighbours }
     {

@@ -43,7 +43,7 @@ pub fn a_state_that_is_read_is_spelled_so()
         → (bytes ≡ state_spelling s ++ rest) × FitState s }
 {}
 
-/// There is no reading only where no front of the bytes spells a state.
+/// No state is read only if no front of the bytes spells one.
 pub fn no_state_is_read_only_where_none_is()
     ensures { (bytes : List ℕ) → state_at bytes ≡ None → (s : model.State) (rest : List ℕ) → FitState s
         → bytes ≡ state_spelling s ++ rest → ⊥ }
@@ -73,8 +73,8 @@ pub fn no_spelling_of_a_run_is_longer_than_the_weight()
         → length (state_spelling t) ≤ weight_of t.tree t.loaded.entries units }
 {}
 
-/// Each input that can be made has a spelling, where its texts have fewer than 2^32 bytes. It only looks at the input, since its types
-/// keep what the spelling asks for.
+/// Each input that can be made has a spelling, if its texts have fewer than 2^32 bytes. The function only looks at the input: its types
+/// keep the bounds that the spelling needs.
 pub fn each_input_has_a_spelling(input: &Input)
     ensures { HasShortTexts (input_of input.now).event → FitInput (input_of input.now) }
 {
