@@ -1,3 +1,5 @@
+//! The reply to a query, from the state and its graph.
+
 ghost use Rattle.std.specs.Prelude.{◌≡◌, IfOk};
 ghost use Rattle.um_model.specs.Install.{IsEnabledAs};
 ghost use Rattle.um_model.specs.Jobs.{jobs_shown};

@@ -1,3 +1,5 @@
+//! The engine: it plans a step, takes it, takes it back, and answers queries.
+
 ghost use Rattle.std.specs.Prelude.{◌≡◌, ◌≢◌, ◌↔◌, [], true, false, All, None, is_some, map, vec_len, IfOk, IfErr, IfSome, IsTrue, OnOk};
 ghost use Rattle.um_engine.specs.Engine.{AreTrees, DiffersInRows, HasSameTables, KeepsExact, LacksEffect, LeadsTo, Obeys, Settled, SettlesTooHeavy, TellsRows, changed, standing_in, state_in, size_in, has_effect_in, rows_in, state_after, reply_in, actions_in, state_before, served_after, served_before, served_by, served_in};
 ghost use Rattle.um_engine.specs.Exact.{IsExact, IsExactIfFew, LetsNoneGo};

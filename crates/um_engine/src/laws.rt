@@ -1,3 +1,5 @@
+//! Theorems about the machine: its steps, its runs and its weight.
+
 ghost use Rattle.std.specs.Prelude.{◌≡◌, ◌≢◌, ◌↔◌, ◌<◌, ◌≤◌, ◌++◌, ℕ, List, All, length, None};
 ghost use Rattle.um_model.specs.Begun.{WasNext, begun_in};
 ghost use Rattle.um_model.specs.Finished.{Finishes, IsAtRest, PutsNoStart};

@@ -1,3 +1,5 @@
+//! Jobs that begin until none is ready, and deadlines that fire.
+
 ghost use Rattle.std.specs.Prelude.{◌≡◌, ◌<◌, ℕ, List, false, Some, IfOk, IfSome, OnOk, MatchOption, length};
 ghost use Rattle.um_engine.specs.Engine.{waits_to_restart, IsDue, NoneIsDue};
 ghost use Rattle.um_engine.specs.Filled.{Begins, Tells};

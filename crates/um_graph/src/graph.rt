@@ -1,3 +1,5 @@
+//! The graph of a tree: its known units, by number, with their neighbours.
+
 ghost use Rattle.std.specs.Prelude.{◌≡◌, ◌⊎◌, ◌<◌, [], ℕ, All, Option, Some, Contains, IfOk, IfErr, MatchOption, length, map, max, option_copied, slice_get, unwrap_or};
 ghost use Rattle.std.specs.Map.{values_of};
 ghost use Rattle.um_model.specs.Dependencies.{CountsFor, KnowsTooMany};

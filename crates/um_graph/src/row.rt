@@ -1,3 +1,5 @@
+//! The neighbours of one unit.
+
 ghost use Rattle.std.specs.Prelude.{◌≡◌, [], OnOk, nat_eq};
 ghost use Rattle.std.specs.List.Sorted.{IsSorted};
 ghost use Rattle.std.specs.Ordering.{nat_cmp};

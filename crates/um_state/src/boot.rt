@@ -1,3 +1,5 @@
+//! The id of a boot.
+
 ghost use Rattle.std.specs.Prelude.{◌≡◌, ◌≤◌, ◌<◌, [], ℕ, List, length, string_bytes, IfOk, MatchOption};
 ghost use Rattle.um_model.specs.Bytes.{text_spelling};
 ghost use Rattle.um_model.specs.Machine.{boot_limit};

@@ -1,3 +1,5 @@
+//! The inputs: commands and happenings; and the queries.
+
 ghost use Rattle.std.specs.Prelude.{◌≡◌};
 ghost use Rattle.um_model.specs.Machine as model;
 ghost use Rattle.um_model.specs.Profiles.{current};

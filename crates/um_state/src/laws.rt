@@ -1,3 +1,5 @@
+//! Theorems about the spelling of states and inputs.
+
 ghost use Rattle.std.specs.Prelude.{◌≡◌, ◌≢◌, ◌≤◌, ◌++◌, ℕ, List, Some, None, length};
 ghost use Rattle.std.specs.List.{AllByRecursion};
 ghost use Rattle.um_model.specs.Bytes.{IsBytes};

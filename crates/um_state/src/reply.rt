@@ -1,3 +1,5 @@
+//! The replies to commands and queries.
+
 use std::rc::Rc;
 use um_model::{ActiveState, Enabling, JobKind, JobState, LoadState, SubState, UnitState};
 use um_name::UnitName;

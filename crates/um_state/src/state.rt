@@ -1,3 +1,5 @@
+//! The state of the manager.
+
 ghost use Rattle.std.specs.Prelude.{◌≡◌, ◌↔◌, ℕ, List, true, is_some, Contains, string_bytes, IsTrue, IfOk, IfSome, OnOk, OnErr, IfErr, Ok, Err};
 ghost use Rattle.std.specs.Coded.{codes};
 ghost use Rattle.std.specs.FinMap as maps;

@@ -1,3 +1,5 @@
+//! Units and pending jobs, in rows by number.
+
 ghost use Rattle.std.specs.Prelude.{◌≡◌, ◌↔◌, ◌++◌, ◌<◌, false, ℕ, List, length, map, vec_len, is_some, Contains, IsTrue, MatchOption, IfOk, OnOk, OnErr, set as with_item};
 ghost use Rattle.std.specs.Coded.{codes};
 ghost use Rattle.std.specs.Cmp.Lexicographic.{slice_cmp};
