@@ -146,7 +146,7 @@ fn enabled_as(alloc: Global, reading: Reading<'_>, asked: &UnitName) -> Result<R
     Ok(Reply::EnabledAs(is_enabled(alloc, reading, asked)?))
 }
 
-/// The pending jobs.
+/// The reply with all pending jobs.
 fn list_jobs(state: &State) -> Result<Reply, AllocError>
     ensures { IfOk result (λ reply. reply_of reply ≡ model.Jobs (jobs_shown (state_of state.now).pending)) }
 {

@@ -169,7 +169,7 @@ works_settled v w x t works keeps (new, settles, is) =
     let kept = settles_keeps t (state_of w.now) new (state_of x.now) settles in
     works_still v w x works keeps kept.tree kept.loaded
 
--- what is known for the first state is known for the one that the work has reached
+-- units known for the first state are known for the one that the work has reached
 pub works_knows : (v : ServedView) (w : WorkView) → KnowsFor v.known v.state → WorksOn v w → Serves w.graph (state_of w.now) → KnowsFor v.known (state_of w.now)
 works_knows v w knows works serves =
     knows_still v.known v.state (state_of w.now) knows works.loaded (λ x held. subst (λ (g : GraphView). Contains g.names x) works.graph (serves.held x held))

@@ -56,7 +56,7 @@ is_change Nothing = false
 is_change (Rows delta) = true
 is_change (Tables given rows) = true
 
--- the number of units of which it changes what is held, if it reports that
+-- the number of units whose held state it changes, if it reports that
 abbrev pub rows_of : Change → Option ℕ
 rows_of Nothing = Some 0
 rows_of (Rows delta) = Some (vec_len delta.rows)
@@ -189,7 +189,7 @@ pub record DoesRows (Relation : List Action → model.State → Type 0) (t : ℕ
   pub leads : LeadsTo Relation t actions (state_of (delta_after delta s))
   pub rows : DiffersInRows (state_of s) (state_of (delta_after delta s)) (vec_len delta.rows)
 
--- the change has an effect, and reports how many units differ in what is held, unless a tree, the boot's id or the known units differ
+-- the change has an effect, and reports for how many units the held state differs, unless a tree, the boot's id or the known units differ
 pub record TellsRows (s : Standing) (change : Change) : Type 0 where
   pub effect : is_change change ≡ true
   pub rows : IfSome (rows_of change) (DiffersInRows (state_of s) (state_of (changed change s)))

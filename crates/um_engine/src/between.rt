@@ -117,7 +117,7 @@ fn delta_to(
     Ok(delta)
 }
 
-/// The number of units that differ in what is held, by rows under the same numbers.
+/// The number of units whose held state differs, by rows under the same numbers.
 fn rows_to(alloc: Global, base: &State, after: &State) -> Result<usize, AllocError>
     requires same { HasSameTreesAndNames base.now after.now }
     requires base { base.now.common ≡ true }
@@ -134,7 +134,7 @@ fn rows_to(alloc: Global, base: &State, after: &State) -> Result<usize, AllocErr
     Ok(delta.len())
 }
 
-/// The number of units that differ in what is held, if the trees and the known units are the same: by name, since the numbers may differ.
+/// The number of units whose held state differs, if the trees and the known units are the same: by name, since the numbers may differ.
 fn rows_by_name(alloc: Global, served: &Served, after: &Served) -> Result<usize, AllocError>
     requires { HasSameTables served.now.state after.now.state }
     ensures { IfOk result (λ rows. CountsDiffering served.now.state after.now.state rows) }
@@ -145,7 +145,7 @@ fn rows_by_name(alloc: Global, served: &Served, after: &Served) -> Result<usize,
     Ok(rows)
 }
 
-/// The number of units that differ in what is held after a step. None if a tree, the boot's id or the known units differ.
+/// The number of units whose held state differs after a step. None if a tree, the boot's id or the known units differ.
 pub fn rows_between(
     alloc: Global,
     served: &Served,

@@ -143,7 +143,7 @@ fn without_path(state: &State, path: &str) -> Result<State, Refusal>
 pub enum Outcome<'s> {
     /// Units and pending jobs alone change, and the reply is Done.
     Rows(Work<'s>),
-    /// A tree or the `Known` is a new one; with what is known of the trees.
+    /// A tree or the `Known` is a new one; with a note which trees are.
     Tables(Served, Reply, Trees),
 }
 

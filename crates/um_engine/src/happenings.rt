@@ -142,7 +142,7 @@ fn after_report(
     Ok((change, actions))
 }
 
-/// Whether the next number is as it was.
+/// Whether the next number hasn't changed.
 fn keeps_next(work: &Work<'_>, state: &State) -> bool
     ensures { IsTrue result ↔ ((state_of work.now.now).next ≡ (state_of state.now).next) }
 {

@@ -31,7 +31,7 @@ pub struct Known {
     extra: Vec<UnitName>,
     /// By number: whether the unit is one of those.
     is_extra: Vec<bool>,
-    /// In the order of their names; None where no entry stands under `run/`, since they are those of the graph then.
+    /// In the order of their names; None if no entry stands under `run/`, since they are those of the graph then.
     lasting: Option<Vec<UnitName>>,
     /// The numbers of the graph's units that aren't among `lasting`: those that only entries under `run/` name, and few as a rule.
     passing: Vec<usize>,
@@ -315,7 +315,7 @@ impl Known {
         Ok(Rc::new(alloc, known)?)
     }
 
-    /// The graph.
+    /// The graph of the tree and of the units beside it.
     pub fn graph(&self) -> &Graph
         ensures { result.now ≡ self.now.graph }
     {

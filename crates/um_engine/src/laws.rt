@@ -59,8 +59,8 @@ pub fn the_pending_jobs_have_no_cycle()
     ensures { (size : ℕ) (s : State) (inputs : List Input) (t : State) → IsBlank s → Run size s inputs t → IsFree t }
 {}
 
-/// The machine is never stuck: where a job is pending after a run from a state in which nothing is held, some pending job's unit is in
-/// start or in a stop state and has a live process.
+/// The machine is never stuck: if a job is pending after a run from a state in which nothing is held, some pending job's unit is in start
+/// or in a stop state and has a live process.
 pub fn the_machine_is_never_stuck()
     ensures { (size : ℕ) (s : State) (inputs : List Input) (t : State) → IsBlank s → Run size s inputs t → IsNotStuck t }
 {}
@@ -113,8 +113,8 @@ pub fn an_input_that_is_not_refused_is_short()
         → (10 ≤ length (input_spelling input)) × (length (input_spelling input) ≤ input_limit) }
 {}
 
-/// A finished job isn't repeated: where a oneshot finished in a step and no start of it is pending after that, it is at rest after
-/// each further run in which no command puts a start of it.
+/// A finished job isn't repeated: if a oneshot finished in a step and no start of it is pending after that, it is at rest after each
+/// further run in which no command puts a start of it.
 pub fn a_finished_job_is_not_repeated()
     ensures { (size : ℕ) (s t u : State) (unit : List ℕ) (input : Input) (inputs : List Input) (reply : Reply) (actions : List Action)
         → Step size s input reply actions t → Finishes s t unit → (jobs_of_unit t.pending unit).start ≡ None

@@ -81,7 +81,7 @@ impl Served {
         })
     }
 
-    /// The state by itself.
+    /// Drops the `Known`, and returns the state.
     pub fn into_state(self) -> State
         ensures { state_of result ≡ self.state }
     {
@@ -106,7 +106,7 @@ impl Served {
         }
     }
 
-    /// Exchanges the delta for the rows that the state has in their place: these are the way back. It takes no memory, and always succeeds.
+    /// Exchanges the delta for what the state has in its place, which is the way back. It takes no memory, and always succeeds.
     pub fn swap(&mut self, delta: &mut Delta)
         ensures state { standing_of self.new ≡ delta_after delta.old (standing_of self.old) }
         ensures known { self.new.known ≡ self.old.known }
@@ -123,7 +123,7 @@ impl Served {
         delta.undo(&mut self.state);
     }
 
-    /// The state.
+    /// The served state.
     pub fn state(&self) -> &State
         ensures state { state_of result.now ≡ self.now.state }
         ensures knows { KnowsFor self.now.known self.now.state }
@@ -161,7 +161,7 @@ impl Served {
         self.known.clone()
     }
 
-    /// The same again.
+    /// A copy, which shares the `Known`.
     pub fn copy(&self) -> Result<Served, AllocError>
         ensures { IfOk result (λ s. standing_of s ≡ standing_of self.now) }
     {

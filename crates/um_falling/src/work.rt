@@ -95,7 +95,7 @@ impl<'g> Work<'g> {
         self.graph
     }
 
-    /// The moment.
+    /// The moment at which the step happens.
     pub fn moment(&self) -> Moment
         ensures { result ≡ self.now.moment }
     {
@@ -142,7 +142,7 @@ impl<'g> Work<'g> {
         !self.unit(unit).holds_nothing() || self.jobs(unit).has_job()
     }
 
-    /// The next process number.
+    /// The number of the next process that starts.
     pub fn next(&self) -> NextNumber
         ensures { result ≡ (state_of self.now.now).next }
     {
@@ -180,7 +180,7 @@ impl<'g> Work<'g> {
         self.rows.set_next(next);
     }
 
-    /// Appends these actions.
+    /// Appends these actions to those so far.
     pub fn ask(&mut self, actions: &mut Vec<Action>) -> Result<(), AllocError>
         ensures ok { OnOk result (self.new.actions ≡ self.old.actions ++ map action_of actions.old.items) }
         ensures now { self.new.now ≡ self.old.now }

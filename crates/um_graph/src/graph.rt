@@ -75,7 +75,7 @@ impl Graph {
         self.count
     }
 
-    /// The number of units.
+    /// The number of known units.
     pub fn len(&self) -> usize
         ensures len { result ≡ length self.now.names }
         ensures graph { IsGraph self.now }

@@ -41,7 +41,7 @@ impl<'t> Resolved<'t> {
         }
     }
 
-    /// The tree.
+    /// The tree in which names are resolved.
     pub(crate) fn tree(&self) -> &'t Tree
         ensures { result.now ≡ self.now }
     {

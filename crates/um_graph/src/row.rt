@@ -14,7 +14,7 @@ use std::alloc::{AllocError, Global};
 /// A unit beside another, and how that one stands to it.
 #[derive(Clone, Copy, Debug, PartialEq, Eq)]
 pub struct Neighbour {
-    /// Its number.
+    /// The number of the neighbour in the graph.
     pub unit: usize,
     /// The kinds in which the unit whose neighbour it is stands to it.
     pub kinds: Kinds,

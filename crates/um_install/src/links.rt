@@ -38,8 +38,7 @@ fn path_in_etc(alloc: Global, unit: &str, folder: &str, file: &str) -> Result<St
     Ok(path)
 }
 
-/// The name under which a unit is linked: its own, or that of a template with its default instance, where the whole is a unit
-/// name.
+/// The name under which a unit is linked: its own, or that of a template with its default instance, if the whole is a unit name.
 pub(crate) fn linked_name(unit: &LoadedUnit) -> Result<Option<UnitName>, AllocError>
     ensures { IfOk result (λ name. name ≡ model.linked_name (unit_of unit.now)) }
 {

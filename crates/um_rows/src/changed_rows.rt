@@ -1,4 +1,4 @@
-//! The number of units in which a step changes what is held, and the way back to the state before.
+//! The number of units whose held state a step changes, and the way back to the state before.
 use crate::answers::told;
 use crate::steps::{SIZE, committed, empty, engine_of, happened, obeyed, planned, standing};
 use std::process::Abort;

@@ -30,7 +30,7 @@ pub enum Action {
     },
 }
 
-/// The one action.
+/// A list of one action.
 fn only(alloc: Global, action: Action) -> Result<Vec<Action>, AllocError>
     ensures { IfOk result (λ actions. actions.items ≡ action ∷ []) }
 {
@@ -92,7 +92,7 @@ fn spawn(
     only(alloc, Action::Spawn { number, start })
 }
 
-/// The order as actions.
+/// The actions of the order, in their order.
 pub fn actions_of(
     alloc: Global,
     settings: &Rc<ServiceSettings>,

@@ -17,7 +17,7 @@ use um_unit::ServiceSettings;
 /// The actions on a unit's processes after an event, and the changes of its jobs.
 #[derive(Debug, Drop)]
 pub struct Actions {
-    /// In this order.
+    /// The actions, to be carried out in this order.
     pub actions: Vec<Action>,
     /// The change of the running start job, if there is one.
     pub start: StartJob,
@@ -58,7 +58,7 @@ impl Service {
         Service { unit }
     }
 
-    /// The unit's state.
+    /// The unit's state after its events so far.
     pub fn unit(&self) -> UnitState
         ensures { result ≡ self.now }
     {

@@ -73,7 +73,7 @@ pub fn exits(settings: &ServiceSettings, around: Around, unit: UnitState) -> Cha
     })
 }
 
-/// A stop was requested.
+/// Notes that a stop was requested.
 pub fn told_to_stop(unit: UnitState) -> UnitState
     ensures { result ≡ told_to_stop unit }
 {

@@ -47,7 +47,7 @@ impl BootId {
         Some(BootId { text })
     }
 
-    /// Its text.
+    /// The id's text; empty for the id of no boot.
     pub fn as_str(&self) -> &str
         ensures text { result.now ≡ self.now }
         ensures short { length self.now ≤ boot_limit }
@@ -55,7 +55,7 @@ impl BootId {
         self.text.as_str()
     }
 
-    /// The same id again.
+    /// A copy of the id.
     pub fn copy(&self) -> Result<BootId, AllocError>
         ensures { IfOk result (λ b. b ≡ self.now) }
     {

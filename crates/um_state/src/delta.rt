@@ -48,14 +48,14 @@ impl Delta {
         self.rows.len()
     }
 
-    /// The rows that differ.
+    /// The rows, one for each unit that differs.
     pub fn rows(&self) -> &[Row]
         ensures { result.now ≡ self.now.rows.items }
     {
         self.rows.as_slice()
     }
 
-    /// Exchanges the delta for the rows that the state has in their place: these are the way back. It takes no memory, and always succeeds.
+    /// Exchanges its rows, moment and next number for those of the state, which are the way back. It takes no memory, and always succeeds.
     pub fn swap(&mut self, state: &mut State)
         ensures state { state.new ≡ delta_after self.old state.old }
         ensures back { delta_before self.new state.new ≡ state.old }

@@ -90,21 +90,21 @@ impl Input {
         }
     }
 
-    /// Its profile.
+    /// The profile by which the tree in hand is read for the input.
     pub fn profile(&self) -> Profile
         ensures { result ≡ (input_of self.now).profile }
     {
         self.profile
     }
 
-    /// Its moment.
+    /// The moment of the input.
     pub fn moment(&self) -> Moment
         ensures { result ≡ (input_of self.now).moment }
     {
         self.moment
     }
 
-    /// Its command or happening.
+    /// The input's command or happening.
     pub fn event(&self) -> &Event
         ensures { event_of result.now ≡ (input_of self.now).event }
     {

@@ -57,7 +57,7 @@ impl Command {
         }
     }
 
-    /// Appends the fields.
+    /// Appends the fields of the command, without its tag.
     fn put_fields(&self, out: &mut Vec<u8>) -> Result<(), AllocError>
         ensures put { OnOk result (out.new.items ≡ out.old.items ++ command_fields (command_of self.now)) }
         ensures fits { OnOk result (FitCommand (command_of self.now)) }
@@ -97,7 +97,7 @@ impl Happening {
         }
     }
 
-    /// Appends the fields.
+    /// Appends the fields of the happening, without its tag.
     fn put_fields(&self, out: &mut Vec<u8>) -> Result<(), AllocError>
         ensures put { OnOk result (out.new.items ≡ out.old.items ++ happening_fields (happening_of self.now)) }
         ensures fits { OnOk result (FitHappening (happening_of self.now)) }
@@ -125,7 +125,7 @@ impl Event {
         }
     }
 
-    /// Appends the fields.
+    /// Appends the fields of the event, without its tag.
     fn put_fields(&self, out: &mut Vec<u8>) -> Result<(), AllocError>
         ensures put { OnOk result (out.new.items ≡ out.old.items ++ event_fields (event_of self.now)) }
         ensures fits { OnOk result (FitEvent (event_of self.now)) }

@@ -22,13 +22,13 @@ ghost use Rattle.um_state.specs.View.{input_of};
 use crate::fitting::{event_fits, moment_fits};
 use crate::input::Input;
 
-/// Units that are tidy are the same where each stands the same.
+/// Units that are tidy are the same if each stands the same.
 pub fn units_are_told_apart_by_look_ups()
     ensures { (a b : ByUnit UnitState) → AreTidyUnits a → AreTidyUnits b
         → ((unit : List ℕ) → state_of_unit a unit ≡ state_of_unit b unit) → a ≡ b }
 {}
 
-/// Pending jobs that are tidy are the same where each unit has the same.
+/// Pending jobs that are tidy are the same if each unit has the same.
 pub fn pending_jobs_are_told_apart_by_look_ups()
     ensures { (a b : ByUnit UnitJobs) → AreTidyJobs a → AreTidyJobs b
         → ((unit : List ℕ) → jobs_of_unit a unit ≡ jobs_of_unit b unit) → a ≡ b }

@@ -74,7 +74,7 @@ impl SharedTree {
         })
     }
 
-    /// The tree itself.
+    /// The tree, shared or not.
     pub(crate) fn tree(&self) -> &Tree
         ensures { result.now ≡ self.now }
     {

@@ -124,7 +124,7 @@ impl State {
         }
     }
 
-    /// The boot's id.
+    /// The id of the boot that the state knows.
     pub fn boot(&self) -> &BootId
         ensures { result.now ≡ (state_of self.now).boot }
     {
@@ -138,7 +138,7 @@ impl State {
         self.clock
     }
 
-    /// The next process number.
+    /// The number of the next process that starts.
     pub fn next(&self) -> NextNumber
         ensures { result ≡ (state_of self.now).next }
     {

@@ -107,7 +107,7 @@ impl Units {
         }
     }
 
-    /// These rows.
+    /// The units of these names, with these rows.
     fn made(alloc: Global, names: Names, states: Vec<UnitState>) -> Result<Units, AllocError>
         requires len { vec_len states ≡ length names }
         requires ascending { AreAscending names }
@@ -316,7 +316,7 @@ impl Units {
             && units_told_by(&other.names, &other.states, self)
     }
 
-    /// A copy.
+    /// A copy, with the same numbers.
     pub fn copy(&self) -> Result<Units, AllocError>
         ensures { IfOk result (λ u. u ≡ self.now) }
     {
@@ -504,7 +504,7 @@ impl Pending {
             && jobs_told_by(&other.names, &other.jobs, self)
     }
 
-    /// A copy.
+    /// A copy, with the same numbers.
     pub fn copy(&self) -> Result<Pending, AllocError>
         ensures { IfOk result (λ p. p ≡ self.now) }
     {

@@ -160,7 +160,7 @@ impl<'s> Work<'s> {
         self.jobs.as_slice()
     }
 
-    /// The next process number.
+    /// The number of the next process that starts.
     pub fn next(&self) -> NextNumber
         ensures { result ≡ (state_of self.now.now).next }
     {

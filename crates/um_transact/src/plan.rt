@@ -210,7 +210,7 @@ impl<'t> Transaction<'t> {
         &self.plan
     }
 
-    /// The plan by itself.
+    /// The plan, without the rest of the transaction.
     pub fn into_plan(self) -> Plan
         ensures plan { result ≡ self.entry.plan }
         ensures long { length self.entry.plan ≡ length self.entry.graph.names }

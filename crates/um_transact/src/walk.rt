@@ -33,7 +33,7 @@ impl Marks {
         }
     }
 
-    /// With the demand marked.
+    /// These marks and the demand's.
     fn with(self, demand: Demand) -> Marks
         ensures { result ≡ with_mark demand self }
     {

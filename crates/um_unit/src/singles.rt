@@ -55,7 +55,7 @@ pub fn last_read<R: Reader>(
     Ok(last)
 }
 
-/// A text with its specifiers expanded under a unit's name.
+/// Reads texts, with their specifiers expanded under a unit's name.
 #[derive(Clone, Copy)]
 pub struct Text<'u> {
     pub alloc: Global,
@@ -76,7 +76,7 @@ impl Reader for Text<'_> {
     }
 }
 
-/// A truth value.
+/// Reads truth values.
 #[derive(Clone, Copy)]
 pub struct Truth;
 
@@ -94,7 +94,7 @@ impl Reader for Truth {
     }
 }
 
-/// A number.
+/// Reads numbers.
 #[derive(Clone, Copy)]
 pub struct Count;
 
@@ -112,7 +112,7 @@ impl Reader for Count {
     }
 }
 
-/// When a service is started again.
+/// Reads restart policies.
 #[derive(Clone, Copy)]
 pub struct Policy;
 
@@ -140,7 +140,7 @@ fn micros_in(span: TimeSpan) -> Option<Span>
     }
 }
 
-/// A time span, or None if it never ends.
+/// Reads time spans; None never ends.
 #[derive(Clone, Copy)]
 pub struct Delay;
 
@@ -169,7 +169,7 @@ pub(crate) fn default_instance_in(value: &str) -> Option<Option<&str>>
     }
 }
 
-/// The instance that stands in a template's links if its name has none.
+/// Reads the default instance of a template's links.
 #[derive(Clone, Copy)]
 pub struct Instance {
     pub alloc: Global,
@@ -220,7 +220,7 @@ pub fn type_said(value: &str) -> Option<TypeSaid>
     }
 }
 
-/// The type of a service.
+/// Reads the types of services.
 #[derive(Clone, Copy)]
 pub struct Type;
 
@@ -238,7 +238,7 @@ impl Reader for Type {
     }
 }
 
-/// `Type=` of the unit.
+/// The last `Type=` of the unit that can be read.
 pub fn type_of(alloc: Global, assigned: &[Assigned<'_>]) -> Result<TypeSaid, AllocError>
     ensures { IfOk result (λ said. said_of said ≡ model.type_of (map assigned_of assigned.now)) }
 {
