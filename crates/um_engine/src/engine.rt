@@ -41,7 +41,7 @@ pub struct Engine {
     size: u64,
 }
 
-// One call, where a derived drop would be taken apart at each exit.
+// One call for the prover, which takes a derived `Drop` apart at each exit.
 impl Drop for Engine {
     fn drop(self) {
         let Engine {
@@ -58,8 +58,8 @@ pub(crate) enum Change {
     Nothing,
     /// The rows of some units, the moment and the next process number; trees and numbers stay.
     Rows(Delta),
-    /// All: the state and its `Known`; and how many units differ in what is held, if neither a tree, the boot's id nor the known units
-    /// differ.
+    /// All: the state and its `Known`; and the number of units whose held state differs, if neither a tree, the boot's id nor the known
+    /// units differ.
     Tables(Served, Option<usize>),
 }
 

@@ -47,7 +47,7 @@ impl Model for Known {
         × AreMarked k.graph.names k.extra.items k.is_extra.items };
 }
 
-// One call, where a derived drop would be taken apart at each exit.
+// One call for the prover, which takes a derived `Drop` apart at each exit.
 impl Drop for Known {
     fn drop(self) {
         let Known {

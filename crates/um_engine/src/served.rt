@@ -42,7 +42,7 @@ impl Model for Served {
     ghost invariant = { λ s. IsNumberedBy s.known.value.graph.names s.state × KnowsFor s.known.value (state_of s.state) × (s.trees ≡ trees_weight (state_of s.state)) };
 }
 
-// One call, where a derived drop would be taken apart at each exit.
+// One call for the prover, which takes a derived `Drop` apart at each exit.
 impl Drop for Served {
     fn drop(self) {
         let Served {

@@ -42,7 +42,7 @@ impl<'g> Model for Work<'g> {
     ghost invariant = { λ w. (w.rows.now.names ≡ w.graph.now.names) × Serves w.graph.now (state_of w.rows.now) };
 }
 
-// One call, where a derived drop would be taken apart at each exit.
+// One call for the prover, which takes a derived `Drop` apart at each exit.
 impl<'g> Drop for Work<'g> {
     fn drop(self) {
         let Work {

@@ -56,11 +56,13 @@ fn changed(
     }
 }
 
-/// The tree that the verb makes from this one, as it is read, for the unit, with the paths that are made and removed. It doesn't check
-/// whether the units that it takes can be enabled: `check_units` does.
+/// The tree that the verb makes from this one, as it is read, for the unit, with the paths that are made and removed. It doesn't check whether
+/// the units that it takes can be enabled: `check_units` does. It is refused for the first cause that applies:
+/// - the least path that isn't served or at which its link may not stand (E12);
+/// - the least path that has another entry or for which another link is requested (E11);
+/// - more new paths than there is room for (E13 `entries`).
 ///
-/// Refused, in this order: the least path that isn't served or at which its link may not stand (E12), the least that has another entry or
-/// for which another link is requested (E11), and more new paths than there is room for (E13 `entries`). Want of memory is E15.
+/// Want of memory is E15.
 pub fn relink(
     alloc: Global,
     reading: Reading<'_>,

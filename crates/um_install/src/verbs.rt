@@ -13,11 +13,13 @@ use um_unit::Reading;
 use um_wire::Refusal;
 
 /// Enables the unit (systemctl(1), "enable"): makes the links in `etc/` that the [Install] sections of the unit, of those in its Also=, and
-/// so on request.
+/// so on request. It is refused for the first cause that applies:
+/// - the least path that isn't served or at which its link may not stand (E12);
+/// - the least path that has another entry or for which another link is requested (E11);
+/// - more new paths than there is room for (E13 `entries`);
+/// - the least unit that isn't found (E4), is masked (E5), has a refused setting or is a template without a fit default instance (E6).
 ///
-/// Refused, in this order: the least path that isn't served or at which its link may not stand (E12), the least that has another entry or
-/// for which another link is requested (E11), more new paths than there is room for (E13 `entries`), and the least unit that isn't found
-/// (E4), is masked (E5), has a refused setting or is a template without a fit default instance (E6). Want of memory is E15.
+/// Want of memory is E15.
 pub fn enable(alloc: Global, reading: Reading<'_>, unit: &UnitName) -> Result<Installed, Refusal>
     ensures installed { IfOk result (λ i. model.Installs (tree_read reading.entry) InstallVerb.Enable unit.now i.tree) }
     ensures made { IfOk result (λ i. each string_bytes i.made.items ≡ model.paths_beyond reading.entry.tree.now i.tree) }

@@ -63,7 +63,7 @@ impl<'g> Model for Jobs<'g> {
         × ArePassed j.graph.now j.units.items j.held.items j.passed };
 }
 
-// One call, where a derived drop would be taken apart at each exit.
+// One call for the prover, which takes a derived `Drop` apart at each exit.
 impl<'g> Drop for Jobs<'g> {
     fn drop(self) {
         let Jobs {

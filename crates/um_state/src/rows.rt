@@ -149,7 +149,7 @@ fn hold_row(
     }
 }
 
-/// The units by name of those of these rows of which something is held.
+/// These rows as a map by name, without those of which nothing is held.
 pub(crate) fn unit_map_of(
     alloc: Global,
     names: &Names,
@@ -184,7 +184,7 @@ fn hold_job_row(
     }
 }
 
-/// The jobs by name of those of these rows that have a pending one.
+/// These rows as a map by name, without those that have no pending job.
 pub(crate) fn job_map_of(
     alloc: Global,
     names: &Names,

@@ -32,7 +32,7 @@ impl Model for SharedTree {
     ghost invariant = { λ t. IfSome t.shared (λ rc. model.has_run rc.value ≡ false) };
 }
 
-// One call, as of a `State`.
+// One call for the prover, as for a `State`.
 impl Drop for SharedTree {
     fn drop(self) {
         let SharedTree {

@@ -80,7 +80,7 @@ impl Model for Units {
     ghost invariant = { λ u. (vec_len u.states ≡ length u.names) × AreAscending u.names };
 }
 
-// One call, as of a `State`.
+// One call for the prover, as for a `State`.
 impl Drop for Units {
     fn drop(self) {
         let Units {
@@ -342,7 +342,7 @@ impl Model for Pending {
     ghost invariant = { λ p. (vec_len p.jobs ≡ length p.names) × AreAscending p.names };
 }
 
-// One call, as of a `State`.
+// One call for the prover, as for a `State`.
 impl Drop for Pending {
     fn drop(self) {
         let Pending {

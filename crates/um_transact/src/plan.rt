@@ -221,10 +221,13 @@ impl<'t> Transaction<'t> {
         self.plan
     }
 
-    /// Refuses the transaction in this mode (systemctl(1), `--job-mode=`) for the first cause that applies: E4 to E6 of the least unit that
-    /// would be started and can't be; E8 of the least unit that would be started and stopped; in mode fail E10 of the least unit of which a
-    /// pending job would be dropped; E9 with the units of a circle in which pending jobs would wait for one another, the least first. Want
-    /// of memory is E15.
+    /// Refuses the transaction in this mode (systemctl(1), `--job-mode=`) for the first cause that applies:
+    /// - E4 to E6 of the least unit that would be started and can't be;
+    /// - E8 of the least unit that would be started and stopped;
+    /// - in mode fail E10 of the least unit of which a pending job would be dropped;
+    /// - E9 with the units of a circle in which pending jobs would wait for one another, the least first.
+    ///
+    /// Want of memory is E15.
     pub fn check(&self, alloc: Global, mode: JobMode) -> Result<(), Refusal>
         ensures causes { (name : List ℕ) → IsNumberOf self.now.graph self.now.root.1 name
             → RefusesBy (CausesOfPlan (scene_in self.now) (self.now.root.0, name) mode (jobs_by self.now.graph.names self.now.plan)) result }
@@ -244,13 +247,15 @@ impl<'t> Transaction<'t> {
     }
 }
 
-/// The pending jobs after the demand on the unit with this number, in this mode (systemctl(1), `start`, `stop`, `restart`, `--job-mode=`),
-/// or the first refusal that applies: E4 to E6 of the least unit that would be started and can't be; E8 of the least unit that would be
-/// started and stopped; in mode fail E10 of the least unit of which a pending job would be dropped; E9 with the units of a circle in which
-/// pending jobs would wait for one another, the least first; and E15.
+/// The pending jobs after the demand on the unit with this number, in this mode (systemctl(1), `start`, `stop`, `restart`, `--job-mode=`). It is
+/// refused for the first cause that applies:
+/// - E4 to E6 of the least unit that would be started and can't be;
+/// - E8 of the least unit that would be started and stopped;
+/// - in mode fail E10 of the least unit of which a pending job would be dropped;
+/// - E9 with the units of a circle in which pending jobs would wait for one another, the least first.
 ///
-/// `activity` and `pending` have each unit's activity and pending jobs by number; a unit past their ends is inactive, or has none. A demand
-/// on a unit past the last of the graph demands nothing: the plan is the pending jobs.
+/// Want of memory is E15. `activity` and `pending` have each unit's activity and pending jobs by number; a unit past their ends is inactive,
+/// or has none. A demand on a unit past the last of the graph demands nothing: the plan is the pending jobs.
 pub fn build(
     alloc: Global,
     graph: &Graph,

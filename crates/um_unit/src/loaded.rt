@@ -16,7 +16,7 @@ pub struct LoadedUnit {
     pub warnings: Rc<Vec<FileWarnings>>,
 }
 
-// One call, where a derived drop would be taken apart at each exit.
+// One call for the prover, which takes a derived `Drop` apart at each exit.
 impl Drop for LoadedUnit {
     fn drop(self) {
         let LoadedUnit {

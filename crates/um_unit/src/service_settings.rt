@@ -45,7 +45,7 @@ pub struct ServiceSettings {
     pub forces_restart: ExitSet,
 }
 
-// One call, where a derived drop would be taken apart at each exit.
+// One call for the prover, which takes a derived `Drop` apart at each exit.
 impl Drop for ServiceSettings {
     fn drop(self) {
         let ServiceSettings {

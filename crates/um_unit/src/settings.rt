@@ -45,7 +45,7 @@ pub struct Dependencies {
     pub default_dependencies: bool,
 }
 
-// One call, where a derived drop would be taken apart at each exit.
+// One call for the prover, which takes a derived `Drop` apart at each exit.
 impl Drop for Dependencies {
     fn drop(self) {
         let Dependencies {
@@ -76,7 +76,7 @@ pub struct InstallSettings {
     pub default_instance: Option<String>,
 }
 
-// One call, where a derived drop would be taken apart at each exit.
+// One call for the prover, which takes a derived `Drop` apart at each exit.
 impl Drop for InstallSettings {
     fn drop(self) {
         let InstallSettings {
@@ -103,7 +103,7 @@ pub struct Settings {
     pub install: InstallSettings,
 }
 
-// One call, where a derived drop would be taken apart at each exit.
+// One call for the prover, which takes a derived `Drop` apart at each exit.
 impl Drop for Settings {
     fn drop(self) {
         let Settings {
