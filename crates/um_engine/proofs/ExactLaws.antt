@@ -43,7 +43,7 @@ use Rattle.um_engine.proofs.RowLaws.{delta_knows}
 pub exact_made : (v : ServedView) → KnowsFor v.known v.state → ((x : List ℕ) → Contains v.known.extra x → IsHeld v.state x) → IsExactIfFew v
 exact_made v knows made few = record { just = (exact_for v.state v.known knows made).known; made = made; few = few }
 
--- as it is for a state that is numbered, and known so
+-- the same for a state that is numbered, and whose `Known` is for it
 pub exact_at : (u : ServedView) (k : KnownView) (s : State) → u.state ≡ s → u.known ≡ k → KnowsFor k s → ((x : List ℕ) → Contains k.extra x → IsHeld s x) → IsExactIfFew u
 exact_at u k s state known knows made =
     exact_made u (subst (λ (x : State). KnowsFor u.known x) (sym state) (subst (λ (x : KnownView). KnowsFor x s) (sym known) knows))

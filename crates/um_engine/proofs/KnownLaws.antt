@@ -123,7 +123,7 @@ pub knows_made : (k : KnownView) (s : State) (tree : ReadTree) → IsGraphFor tr
     → KnowsFor k (record s { loaded = tree })
 knows_made k s tree made lasting extras = record { made = made; lasting = lasting; held = λ unit held. (made.of.known unit).1 (first (extra ((extras unit).1 held))) }
 
--- commands that leave the loaded tree make the state hold nothing new, but for plans
+-- a command other than a plan that leaves the loaded tree makes the state hold nothing new
 pub put_holds_no_more : {profile : Profile} (s u : State) (path text : List ℕ) → Changes profile s (PutFile path text) u → HoldsNoMore s u
 put_holds_no_more s _ path text (puts e) = record { loaded = refl; held = λ x h. h }
 

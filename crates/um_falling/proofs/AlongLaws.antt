@@ -210,7 +210,7 @@ module _ (g : GraphView) where
       let same = ap (left g) is in
       omega (arith, shorter, more, same)
 
--- ---- of no unit more jobs wait
+-- ---- no unit has more waiting jobs
 gone_waits : (c : State) (y n : List ℕ) → waits_in (jobs_of_unit (without_start_of c y).pending n) ≤ waits_in (jobs_of_unit c.pending n)
 gone_waits c y n = elim (same_name n y) as (λ _. waits_in (jobs_of_unit (without_start_of c y).pending n) ≤ waits_in (jobs_of_unit c.pending n)) [
   | inl is ↦

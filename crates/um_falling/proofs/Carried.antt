@@ -60,7 +60,7 @@ changes_so t unit event s u v w before after new fails e f g is asked all tidy_j
       tidy_units = tidy_units;
     }
 
--- ---- of no unit more jobs wait
+-- ---- no unit has more waiting jobs
 
 unless_waits : (o : Option JobState) → waits (unless_running o) ≤ waits o
 unless_waits None = omega arith

@@ -145,7 +145,7 @@ next_taken g h row i d before after whole within same is all =
 
 -- ---- the rows, by the graph's numbers
 
--- the work as it is seen
+-- the view of the work
 abbrev pub seen_as : GraphView → Standing → Standing → ℕ → List Action → WorkView
 seen_as g base now moment actions = record { graph = g; base = base; now = now; moment = moment; actions = actions }
 

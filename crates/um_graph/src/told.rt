@@ -90,7 +90,7 @@ fn tell_earlier(
     Ok(())
 }
 
-/// Whether the unit conflicts with `shutdown.target` and comes before it: each but that one does, unless it says
+/// Whether the unit conflicts with `shutdown.target` and comes before it. Each unit but that one does, unless it says
 /// `DefaultDependencies=no`.
 fn has_defaults(unit: &LoadedUnit) -> bool
     ensures { result ≡ model.has_defaults (loaded_of unit.now) }

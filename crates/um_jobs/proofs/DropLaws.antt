@@ -50,6 +50,6 @@ none_of : (kind : JobKind) (state : JobState) → job_of kind no_jobs ≡ Some s
 none_of Stop state e = cc
 none_of Start state e = cc
 
--- of a unit without a job none is dropped
+-- no job of a unit without jobs is dropped
 pub none_dropped : (after : UnitJobs) → DropsOne no_jobs after → ⊥
 none_dropped after (drops kind state e f) = none_of kind state e

@@ -35,7 +35,7 @@ nothing_there {A = A} nothing m x free = by (map.get m x) free
     by None h = refl
     by (Some v) h = absurd (h (λ e. none-some v (sym e)))
 
--- the names of two maps are those that one of them holds
+-- the names of two maps are those that either of them holds
 pub keys_held : {A B : Type 0} (m : ByUnit A) (n : ByUnit B) (unit : List ℕ) → Contains (map.keys m ++ map.keys n) unit ↔ ((map.get m unit ≢ None) ⊎ (map.get n unit ≢ None))
 keys_held m n unit = (
   λ key. elim (Contains-append_cases (map.keys m) (map.keys n) unit key) as (λ _. (map.get m unit ≢ None) ⊎ (map.get n unit ≢ None)) [

@@ -46,7 +46,7 @@ told_others [] (suc i) live n other = told_later live [] n (λ e. other (sym e))
 told_others (first ∷ more) zero live n other = told_later live (first ∷ more) n (λ e. other (sym e))
 told_others (first ∷ more) (suc i) live n other = ap (λ o. cond (first.number == n) (Some first.row) o) (told_others more i live n other)
 
--- if one is found, not none is
+-- a number that is not found stands nowhere in the list
 not_both : (list : List Live) (k n : ℕ) → IsRising list → k < length list → told list n ≡ None → live_number list k ≢ n
 not_both list k n rising l none is = none-some (live_row list k) (sym none ∙ one_told list k n rising l is)
 

@@ -66,7 +66,7 @@ impl Model for State {
     ghost invariant = { λ s. s.is_common ≡ true → s.pending.names ≡ s.units.names };
 }
 
-// A derived `Drop` would take a state apart wherever one is dropped, down to its last list; this is one call.
+// The prover would take a derived `Drop` apart wherever a state is dropped, down to its last list; this is one call.
 impl Drop for State {
     fn drop(self) {
         let State {
