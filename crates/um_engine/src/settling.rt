@@ -140,7 +140,7 @@ fn waits_to_restart(sub: SubState) -> bool
     matches!(sub, SubState::AutoRestart)
 }
 
-/// A deadline of the unit with this number comes due: the unit restarts if it waits for that.
+/// A deadline of the unit with this number comes due: the unit restarts if it waits for that, and otherwise its deadline passes.
 fn come_due(work: &mut Work<'_>, unit: usize) -> Result<(), AllocError>
     ensures comes { OnOk result ((name : List ℕ) → IsNumberOf work.old.graph unit name
         → Goes (model.ComesDue work.old.moment (state_of work.old.now) name) work.old work.new) }

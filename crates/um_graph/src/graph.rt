@@ -23,8 +23,8 @@ use um_name::UnitName;
 use um_unit::{Loading, Reading};
 use um_wire::Refusal;
 
-/// All known units of a tree, numbered from 0 in ascending order of their names, with the contents of their files and their neighbours. A neighbour
-/// is another unit that a unit depends on, that depends on it, or that it is ordered with.
+/// All known units of a tree, numbered from 0 in ascending order of their names, with the contents of their files and their neighbours. A
+/// neighbour is another unit that a unit depends on, that depends on it, or that it is ordered with.
 #[derive(Drop)]
 pub struct Graph {
     units: Units,

@@ -45,7 +45,7 @@ pub fn a_state_that_is_read_is_spelled_so()
         → (bytes ≡ state_spelling s ++ rest) × FitState s }
 {}
 
-/// No state is read only if no front of the bytes spells one.
+/// If no state is read, then no front of the bytes spells one.
 pub fn no_state_is_read_only_where_none_is()
     ensures { (bytes : List ℕ) → state_at bytes ≡ None → (s : model.State) (rest : List ℕ) → FitState s
         → bytes ≡ state_spelling s ++ rest → ⊥ }
@@ -68,7 +68,7 @@ pub fn each_state_of_a_run_has_a_spelling()
         → AllByRecursion FitInput inputs → Run size s inputs t → FitState t }
 {}
 
-/// It has at most as many bytes as the state weighs.
+/// The spelling of such a state of a run has at most as many bytes as the state weighs.
 pub fn no_spelling_of_a_run_is_longer_than_the_weight()
     ensures { (size : ℕ) (s : model.State) (inputs : List model.Input) (t : model.State) (units : ℕ) → IsBlank s → FitState s
         → AllByRecursion FitInput inputs → Run size s inputs t → CountsFor t.loaded (IsHeld t) units
@@ -84,7 +84,7 @@ pub fn each_input_has_a_spelling(input: &Input)
     event_fits(&input.event);
 }
 
-/// An input that is accepted after such a run has at most 66,078 bytes.
+/// An input that is accepted after a run from a state that has a spelling and in which nothing is held has at most 66,078 bytes.
 pub fn an_accepted_input_is_short()
     ensures { (size : ℕ) (s : model.State) (inputs : List model.Input) (t u : model.State) (input : model.Input) (reply : model.Reply)
         (actions : List Action) → IsBlank s → FitState s → AllByRecursion FitInput inputs → FitInput input → Run size s inputs t

@@ -1,4 +1,4 @@
-//! The state of the manager.
+//! The manager's state: its trees, its units and pending jobs, the boot's id, the clock and the next process number.
 
 ghost use Rattle.std.specs.Prelude.{◌≡◌, ◌↔◌, ℕ, List, true, is_some, Contains, string_bytes, IsTrue, IfOk, IfSome, OnOk, OnErr, IfErr, Ok, Err};
 ghost use Rattle.std.specs.Coded.{codes};

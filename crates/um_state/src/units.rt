@@ -152,7 +152,7 @@ impl Units {
         Units::over(alloc, names, entries)
     }
 
-    /// The units by name, of which anything is held.
+    /// The units of which anything is held, as a map by name.
     pub(crate) fn to_map(&self) -> Result<BTreeMap<UnitName, UnitState>, AllocError>
         ensures map { IfOk result (λ m. maps.from_entries {R = slice_cmp nat_cmp} m.entries ≡ self.now.held) }
         ensures tidy { AreTidyUnits self.now.held }
@@ -231,7 +231,7 @@ impl Units {
         push_held_units(names, &self.names, &self.states)
     }
 
-    /// The units by name of which anything is held.
+    /// The names of the units of which anything is held.
     pub fn names(&self) -> Result<Vec<UnitName>, AllocError>
         ensures { IfOk result (λ names. names.items ≡ maps.keys self.now.held) }
     {
@@ -394,7 +394,7 @@ impl Pending {
         Pending::over(alloc, names, entries)
     }
 
-    /// The jobs by name, of the units of which one is pending.
+    /// The jobs of the units of which one is pending, as a map by name.
     fn to_map(&self) -> Result<BTreeMap<UnitName, UnitJobs>, AllocError>
         ensures map { IfOk result (λ m. maps.from_entries {R = slice_cmp nat_cmp} m.entries ≡ self.now.held) }
         ensures tidy { AreTidyJobs self.now.held }

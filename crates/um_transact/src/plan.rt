@@ -247,8 +247,8 @@ impl<'t> Transaction<'t> {
     }
 }
 
-/// The pending jobs after the demand on the unit with this number, in this mode (systemctl(1), `start`, `stop`, `restart`, `--job-mode=`). It is
-/// refused for the first cause that applies:
+/// The pending jobs after the demand on the unit with this number, in this mode (systemctl(1), `start`, `stop`, `restart`,
+/// `--job-mode=`). It is refused for the first cause that applies:
 /// - E4 to E6 of the least unit that would be started and can't be;
 /// - E8 of the least unit that would be started and stopped;
 /// - in mode fail E10 of the least unit of which a pending job would be dropped;
