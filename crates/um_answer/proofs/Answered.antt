@@ -1,4 +1,4 @@
--- What is answered, from what the calls below tell.
+-- The replies, from the contracts of the functions called.
 use Rattle.std.proofs.Common.{◌≡◌, ℕ, List, sym, subst}
 use Rattle.um_model.specs.Install.{IsEnabledAs}
 use Rattle.um_model.specs.Jobs.{jobs_shown}

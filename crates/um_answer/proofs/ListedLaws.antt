@@ -1,4 +1,4 @@
--- The list of the known units is what is answered.
+-- The list of the known units is the reply.
 use Rattle.std.proofs.Common.{◌≡◌, ◌↔◌, ◌∙◌, ◌<◌, ◌+◌, ◌++◌, ◌∷◌, [], ℕ, List, Some, None, get_or, length, map, take, ap, sym, subst}
 use Rattle.std.proofs.lemmas.List.{map-append, take_more}
 use Rattle.std.proofs.lemmas.Option.{get_or_from_slice_get, none-some, slice_get-get_or}
@@ -38,6 +38,6 @@ listed_more s names i name before after unit low at is more so =
     ∙ (ap (λ l. l ++ listed_of unit ∷ []) so ∙ ap (λ u. map (unit_listed s) (take i names) ++ u ∷ []) (is ∙ ap (unit_listed s) (sym (get_or_from_slice_get names i name name at))))
     ∙ sym (ap (map (unit_listed s)) (take_more names i name low) ∙ map-append (unit_listed s) (take i names) (get_or names i name ∷ []))
 
--- below the length of a list something stands in it
+-- each number below a list's length has an item
 pub none_listed : (names : List (List ℕ)) (i : ℕ) → i < length names → slice_get names i ≡ None → ⊥
 none_listed names i low none = none-some (get_or names i []) (sym none ∙ slice_get-get_or names i [] low)

@@ -1,6 +1,6 @@
--- When what a graph holds of its units is what a tree tells of them.
+-- When a graph's loadings of its units are those of a tree.
 -- Follows no manual page: it turns numbers into names.
--- What a name that was asked for leads to stands on this file.
+-- The look-up of a requested name stands on this file.
 use Rattle.std.specs.Prelude.{◌≡◌, ℕ, Bool, true, false, List, Some, option_map, slice_get}
 use Rattle.um_model.specs.Profiles.{ReadTree}
 use Rattle.um_model.specs.Units.{Loading, NotFound, load}

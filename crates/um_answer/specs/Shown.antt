@@ -1,4 +1,4 @@
--- A unit that was loaded, as `show` tells it.
+-- A unit that was loaded, as `show` reports it.
 use Rattle.um_model.specs.Machine.{UnitShown}
 use Rattle.um_model.specs.Units.{LoadedUnit}
 use Rattle.um_model.specs.declared.service.UnitState.{UnitState}

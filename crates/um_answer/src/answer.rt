@@ -1,3 +1,5 @@
+//! The reply to a query, from the state and its graph.
+
 ghost use Rattle.std.specs.Prelude.{◌≡◌, IfOk};
 ghost use Rattle.um_model.specs.Install.{IsEnabledAs};
 ghost use Rattle.um_model.specs.Jobs.{jobs_shown};
@@ -74,7 +76,7 @@ fn shown(
     }
 }
 
-/// How the unit stands that counts for the name that was asked for, by what became of the look for it.
+/// The state of the unit that counts for the requested name, by the outcome of the look-up.
 fn show_by(
     alloc: Global,
     state: &State,
@@ -89,7 +91,7 @@ fn show_by(
     Ok(Reply::Shown(Box::new(alloc, shown)?))
 }
 
-/// How the unit stands that counts for the name that was asked for. Of a name that the graph of the loaded tree knows no file is read.
+/// The state of the unit that counts for the requested name. If the graph of the loaded tree knows the name, no file is read.
 #[tactic(auto, using(um_model::proofs::OwnNameLaws::named_by_loading))]
 fn show(alloc: Global, state: &State, graph: &Graph, asked: &UnitName) -> Result<Reply, AllocError>
     ensures { Loads graph.now (state_of state.now).loaded → IfOk result (λ reply. reply_of reply
@@ -116,7 +118,7 @@ fn activity(
     Ok(Reply::Activity(stands.sub.active_state()))
 }
 
-/// The files of a unit in the tree in hand. Refused is one that isn't found (E4) or is masked (E5).
+/// The files of a unit in the tree in hand. Refused if it isn't found (E4) or is masked (E5).
 fn cat(alloc: Global, tree: &Tree, asked: &UnitName) -> Result<Reply, AllocError>
     ensures { IfOk result (λ reply. reply_of reply ≡ model.files_told tree.now asked.now (resolution_of tree.now asked.now)) }
 {
@@ -127,7 +129,7 @@ fn cat(alloc: Global, tree: &Tree, asked: &UnitName) -> Result<Reply, AllocError
     }
 }
 
-/// The tree in hand as it is read where it is asked about: by the current profile.
+/// The tree in hand as queries read it: by the current profile.
 fn in_hand(state: &State) -> Reading<'_>
     ensures { tree_read result ≡ read_by current (state_of state.now).tree }
 {
@@ -144,15 +146,15 @@ fn enabled_as(alloc: Global, reading: Reading<'_>, asked: &UnitName) -> Result<R
     Ok(Reply::EnabledAs(is_enabled(alloc, reading, asked)?))
 }
 
-/// The pending jobs.
+/// The reply with all pending jobs.
 fn list_jobs(state: &State) -> Result<Reply, AllocError>
     ensures { IfOk result (λ reply. reply_of reply ≡ model.Jobs (jobs_shown (state_of state.now).pending)) }
 {
     Ok(Reply::Jobs(state.pending().shown()?))
 }
 
-/// The reply to a query, by a graph that holds what the loaded tree tells of its units: of these no file is read. The units are listed
-/// anew, since the graph may know more of them.
+/// The reply to a query, by a graph that holds the loaded tree's loadings: no file of its units is read. The list of units is made again,
+/// since the graph may know more of them.
 pub fn reply_to(
     alloc: Global,
     state: &State,

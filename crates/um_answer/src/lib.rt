@@ -1,4 +1,4 @@
-//! What a query is answered from the state; what a name that was asked for leads to, and which units are missing.
+//! The replies to queries, from the state; the outcome of looking up a requested name; and which units are missing.
 #![tactic(auto)]
 
 mod answer;

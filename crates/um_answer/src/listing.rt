@@ -1,4 +1,4 @@
-//! The known units, as `list-units` tells them.
+//! The known units, as `list-units` reports them.
 
 ghost use Rattle.std.specs.Prelude.{◌≡◌, IfOk, map};
 ghost use Rattle.um_graph.specs.Graph.{IsGraphOf};
@@ -10,7 +10,7 @@ use um_graph::{Graph, known_units};
 use um_name::UnitName;
 use um_state::{Reply, State, UnitListed};
 
-/// The unit, with how it stands.
+/// The unit, with its state.
 fn unit_listed(state: &State, name: &UnitName) -> Result<UnitListed, AllocError>
     ensures { IfOk result (λ unit. listed_of unit ≡ model.unit_listed (state_of state.now) name.now) }
 {
@@ -20,7 +20,7 @@ fn unit_listed(state: &State, name: &UnitName) -> Result<UnitListed, AllocError>
     })
 }
 
-/// These units, each with how it stands.
+/// These units, each with its state.
 fn listed(alloc: Global, state: &State, names: &[UnitName]) -> Result<Vec<UnitListed>, AllocError>
     ensures { IfOk result (λ listed. map listed_of listed.items ≡ map (model.unit_listed (state_of state.now)) names.now) }
 {
@@ -31,7 +31,7 @@ fn listed(alloc: Global, state: &State, names: &[UnitName]) -> Result<Vec<UnitLi
     Ok(listed)
 }
 
-/// The units of the graph, each with how it stands.
+/// The units of the graph, each with its state.
 fn listed_in(alloc: Global, state: &State, graph: &Graph) -> Result<Vec<UnitListed>, AllocError>
     ensures { IfOk result (λ listed. map listed_of listed.items ≡ map (model.unit_listed (state_of state.now)) graph.now.names) }
 {
@@ -44,7 +44,7 @@ fn listed_in(alloc: Global, state: &State, graph: &Graph) -> Result<Vec<UnitList
     Ok(listed)
 }
 
-/// The reply to `list-units`: the known units of the loaded tree and of what the state holds. Their files are read anew.
+/// The reply to `list-units`: the known units of the loaded tree, and those that the state holds. Their files are read again.
 pub(crate) fn list_units(alloc: Global, state: &State) -> Result<Reply, AllocError>
     ensures { IfOk result (λ reply. model.IsReplyTo (state_of state.now) model.ListUnits (reply_of reply)) }
 {
@@ -54,7 +54,7 @@ pub(crate) fn list_units(alloc: Global, state: &State) -> Result<Reply, AllocErr
     Ok(Reply::Listed(units))
 }
 
-/// The same, by the graph of just these units: no file is read.
+/// The same reply, by the graph of just these units: no file is read.
 pub fn list_known(alloc: Global, state: &State, graph: &Graph) -> Result<Reply, AllocError>
     ensures { IsGraphOf (state_of state.now).loaded (model.IsHeld (state_of state.now)) graph.now
         → IfOk result (λ reply. model.IsReplyTo (state_of state.now) model.ListUnits (reply_of reply)) }

@@ -1,4 +1,4 @@
-//! The name that counts for the one that was asked for.
+//! The name that counts for the requested one.
 
 ghost use Rattle.std.specs.Prelude.{◌≡◌, IfOk, IfSome, Contains};
 ghost use Rattle.um_answer.specs.Loaded.{Loads, is_found};
@@ -11,8 +11,8 @@ use um_graph::Graph;
 use um_name::UnitName;
 use um_unit::{LoadedUnit, Loading, Reading, load};
 
-/// The name that counts, by what was found: the last one to which the name that was asked for leads, or that name itself where it
-/// leads nowhere.
+/// The name that counts, by the outcome of the look-up: the last one to which the requested name leads, or that name itself if it leads
+/// nowhere.
 pub fn name_in<'u>(asked: &'u UnitName, loading: &'u Loading) -> &'u UnitName
     ensures { result.now ≡ name_in asked.now (loading_of loading.now) }
 {
@@ -24,7 +24,7 @@ pub fn name_in<'u>(asked: &'u UnitName, loading: &'u Loading) -> &'u UnitName
     }
 }
 
-/// The name of a unit that was found: apart, since the prover takes a minute for the field in the arm above.
+/// The name of a unit that was found. It is a function of its own because the prover takes a minute for the field in the arm above.
 fn name_of(found: &LoadedUnit) -> &UnitName
     ensures { result.now ≡ found.now.name }
 {
@@ -37,14 +37,14 @@ fn is_found(loading: &Loading) -> bool
     !matches!(loading, Loading::NotFound)
 }
 
-/// What became of the look for a name, where the graph knows it.
+/// The outcome of the look-up for a name, if the graph knows it.
 pub(crate) fn loading_in<'g>(graph: &'g Graph, asked: &UnitName) -> Option<&'g Loading>
     ensures { (tree : ReadTree) → Loads graph.now tree → IfSome result (λ loading. loading_of loading.now ≡ load_in tree asked.now) }
 {
     graph.loading(graph.number(asked)?)
 }
 
-/// What a name that was asked for leads to.
+/// The outcome of looking up a requested name.
 #[derive(Drop)]
 pub struct Asked {
     /// The unit that counts for it.
@@ -54,7 +54,7 @@ pub struct Asked {
 }
 
 impl Asked {
-    /// What the name leads to, by what became of the look for it.
+    /// The outcome for the name, by that of its look-up.
     fn by(asked: &UnitName, loading: &Loading) -> Result<Asked, AllocError>
         ensures unit { IfOk result (λ a. a.unit ≡ name_in asked.now (loading_of loading.now)) }
         ensures found { IfOk result (λ a. a.is_found ≡ is_found (loading_of loading.now)) }
@@ -65,7 +65,7 @@ impl Asked {
         })
     }
 
-    /// What the name leads to in the tree as it is read. Of a name that the tree's graph knows no file is read.
+    /// The outcome for the name in the tree as it is read. If the tree's graph knows the name, no file is read.
     pub fn of(
         alloc: Global,
         graph: &Graph,

@@ -1,4 +1,4 @@
--- Rows that are put one after another in the place of those that were, and the delta that comes of them.
+-- Rows that are put one after another in place of the old ones, and the delta that results.
 use Rattle.std.proofs.Common.{◌≡◌, ◌∙◌, ◌+◌, ◌<◌, ◌≤◌, ℕ, true, List, length, set, get_or, sym, ap, inl, inr, arith}
 use Rattle.std.proofs.lemmas.Bool.{cases_eq}
 use Rattle.std.proofs.lemmas.List.{get_or-set_same, get_or-set_other, get_or_default, length-set, same_lists}
@@ -17,7 +17,7 @@ use Rattle.um_state.proofs.PutLaws.{jobs_put_well, units_put}
 use Rattle.um_state.proofs.TableLaws.{row_set}
 use Rattle.um_engine.specs.Engine.{HasSameTreesAndNames}
 
--- the first n of these rows stand in the work, in the place of those from which it began
+-- the first n of these rows stand in the work, in place of those it began with
 pub record HasPut (b : Standing) (units : List UnitState) (jobs : List UnitJobs) (n : ℕ) (w : WorkView) : Type 0 where
   pub now_units : List UnitState
   pub now_jobs : List UnitJobs

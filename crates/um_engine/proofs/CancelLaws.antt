@@ -1,4 +1,4 @@
--- A cancel in a work that begins in what is served.
+-- A cancel in a work that begins in the served state.
 use Rattle.std.proofs.Common.{◌≡◌, ◌∙◌, ℕ, false, List, ap}
 use Rattle.um_model.specs.declared.profile.Profile.{Profile}
 use Rattle.um_model.specs.Profiles.{current}

@@ -1,4 +1,4 @@
--- What commands are refused for, and what they change, from what the calls below tell.
+-- Why commands are refused and what they change, from the contracts of the functions called.
 use Rattle.std.proofs.Common.{◌≡◌, ◌≢◌, ◌∙◌, ℕ, List, Some, None, false, Result, Ok, Err, sym, ap, subst, true, true≢false}
 use Rattle.um_model.specs.declared.profile.Profile.{Profile}
 use Rattle.um_model.specs.Machine.{as_loaded}
@@ -103,7 +103,7 @@ module _ (s : State) (verb : UnitVerb) (asked : List ℕ) (mode : JobMode) where
   free_by few there planned r (at_second n (at_first h)) = there r h
   free_by few there planned r (at_second n (at_second m h)) = planned r h
 
-  -- ---- where nothing is demanded
+  -- ---- nothing is demanded
   module _ (few : (q : Refused) → ¬ Crowds q) (nothing : demand_of verb (active_asked s asked) ≡ None) where
     pub few_at_rest : (q : Refused) → ¬ PlansTooMany s verb asked q
     few_at_rest q (by_name h) = few q h
@@ -115,12 +115,12 @@ module _ (s : State) (verb : UnitVerb) (asked : List ℕ) (mode : JobMode) where
   pub rests_so : {profile : Profile} (u : State) → demand_of verb (active_asked s asked) ≡ None → u ≡ s → Changes profile s (model.ForUnit verb asked mode) u
   rests_so {profile} u nothing is = subst (Changes profile s (model.ForUnit verb asked mode)) (sym is) (demands_nothing nothing)
 
-  -- ---- the plan for what is demanded
+  -- ---- the plan for a demand
   module _ (demand : Demand) (demanded : demand_of verb (active_asked s asked) ≡ Some demand) (u : State) (planned : HasPlan s (demand, model.unit_asked s asked) u) where
     abbrev named : List ℕ
     named = model.unit_asked s asked
 
-    -- what holds of some plan for what is demanded, holds of this one
+    -- a property of some plan for the demand is a property of this one
     of_this_plan : (Holds : Demand → ByUnit UnitJobs → Type 0) (d : Demand) (other : ByUnit UnitJobs) → demand_of verb (active_asked s asked) ≡ Some d
         → IsPlan (scene_at s named) (d, named) other → Holds d other → Holds demand u.pending
     of_this_plan Holds d other is plan holds =
@@ -184,7 +184,7 @@ module _ (s : State) (asked : List ℕ) where
       subst (Changes profile s (model.Cancel asked))
       (sym (is ∙ (ap (λ (x : State). model.with_plan x unit jobs) same ∙ (ap (λ x. model.with_plan s x jobs) e ∙ ap (λ x. model.with_plan s (model.unit_asked s asked) x) f)))) cancels
 
--- ---- what has no waiting job, and what isn't loaded
+-- ---- a unit without a waiting job, and a tree that isn't loaded
 
 pub none_waits : (s : State) (asked unit : List ℕ) (jobs : UnitJobs) → unit ≡ model.unit_asked s asked → jobs ≡ jobs_of_unit s.pending unit
     → (r : Refused) → (has_waiting jobs ≡ false) × (r ≡ no_such_job unit) → HasNoneWaiting s asked r

@@ -1,4 +1,4 @@
--- What is done in rows, by what is told of the work in which it was done and of the delta that comes of it.
+-- The effect of a command in rows, from its work and from the delta that results.
 use Rattle.std.proofs.Common.{◌≡◌, ◌≢◌, ◌∙◌, ◌↔◌, ℕ, true≢false, List, [], ◌∷◌, length, Contains, Ok, Err, vec_len, refl, sym, ap, subst, arith}
 use Rattle.std.proofs.lemmas.Option.{none-some}
 use Rattle.std.specs.Prelude.{IfErr, IsErrAnd, Result}
@@ -69,7 +69,7 @@ without_rows d s none = by d.rows.items (omega (arith, none))
     by [] e = refl
     by (r ∷ rows) e = absurd (omega (arith, e))
 
--- ---- what the delta of a work does
+-- ---- the effect of a work's delta
 
 -- the work leads to a state, and its delta to that state at the moment
 pub record EndsIn (s : Standing) (t : ℕ) (x : WorkView) (delta : Delta) (actions : List Action) : Type 0 where
@@ -100,7 +100,7 @@ module _ (s : Standing) (t : ℕ) (x : WorkView) (delta : Delta) (actions : List
     rows = rows_done;
   }
 
--- what another relation has of all that it has is done too
+-- a relation that holds whenever another one does is done too
 pub done_as : (Relation Other : List Action → State → Type 0) (t : ℕ) (s : Standing) (change : Change) (actions : List Action) → ((a : List Action) (v : State) → Relation a v → Other a v)
     → DoesBy Relation t s change actions → DoesBy Other t s change actions
 done_as Relation Other t s change actions more done = record {
@@ -108,7 +108,7 @@ done_as Relation Other t s change actions more done = record {
   tells = done.tells;
 }
 
--- ---- what the change of a delta does
+-- ---- the effect of a delta's change
 
 -- a change that leads where the delta does
 pub does_by : (Relation : List Action → State → Type 0) (t : ℕ) (s : Standing) (delta : Delta) (change : Change) (actions : List Action) → DoesRows Relation t s delta actions
@@ -140,7 +140,7 @@ same_trees s delta v is = record {
   boot = ap (λ (x : State). x.boot) is ∙ rows_boot delta.rows.items (timed delta.clock delta.next s);
 }
 
--- ---- jobs begin after what a command did
+-- ---- jobs begin after the effect of a command
 
 pub settled_rows : (size : ℕ) (v : ServedView) (w x : WorkView) (delta : Delta) (actions : List Action) → WorksOn v w → Keeps w x → Goes (Settles w.moment (state_of w.now)) w x
     → ¬ IsTooHeavy size (state_of x.now) → delta_after delta x.base ≡ timed x.moment (state_of x.now).next x.now
@@ -158,7 +158,7 @@ light_before size t s v is light heavy = light (subst (IsTooHeavy size) (sym is)
 pub heavy_before : (size t : ℕ) (s v : State) → v ≡ record s { clock = t } → IsTooHeavy size v → IsTooHeavy size s
 heavy_before size t s v is heavy = let h = subst (IsTooHeavy size) is heavy in record { units = h.units; count = h.count; heavy = h.heavy }
 
--- ---- jobs begin in what is served: nothing was asked before
+-- ---- jobs begin in the served state: no action was taken before
 
 pub settled_served : (v : ServedView) (t : ℕ) (w x : WorkView) (delta : Delta) (actions : List Action) → w ≡ begun_at (standing_of v) v.known.graph t → Keeps w x
     → Goes (Settles w.moment (state_of w.now)) w x → delta_after delta x.base ≡ timed x.moment (state_of x.now).next x.now
@@ -203,7 +203,7 @@ happened_rows v t unit event w x y delta actions begins first happens second set
     (FollowsUpon t v.state unit event)
     (follows_upon t v.state (state_of w.now) (state_of x.now) (state_of y.now) unit event w.actions x.actions y.actions same none happened settled)
 
--- ---- what happens
+-- ---- happenings
 
 pub end_met : (t : ℕ) (s : Standing) (number : ℕ) (end : End) (unit : List ℕ) (event : UnitEvent) (change : Change) (actions : List Action) → IsProcessOf (state_of s).units number unit
     → event ≡ end_of (state_of_unit (state_of s).units unit) number end → DoesBy (FollowsUpon t (state_of s) unit event) t s change actions
@@ -274,7 +274,7 @@ module _ (v : ServedView) (t : ℕ) (w x : WorkView) (delta : Delta) (actions : 
       (sym same.next) (asked ∙ nothing)))
       (does_by (Follows t v.state Tick) t (standing_of v) delta change actions (done_rows (standing_of v) t x delta actions ends_in (Follows t v.state Tick) follows) leads tells)
 
--- what is told of the trees holds still when jobs have begun
+-- the claim about the trees still holds when jobs have begun
 pub trees_settled : (trees : Trees) (s u v : State) (t : ℕ) (actions : List Action) → AreTrees trees s u → LeadsTo (Settles t u) t actions v → AreTrees trees s v
 trees_settled Stay s u v t actions same leads =
     let kept = settles_keeps t u actions leads.state leads.leads in

@@ -26,7 +26,7 @@ module _ {A B : Type 0} (view : A → B) (x : B) (xs more : List B) (is : xs ≡
     λ e. let both : x ∷ more ≡ x ∷ rest = sym is ∙ (e ∙ so) in cc,
   )
 
--- behind the last item, both are the same where the other has no more
+-- past the last item both are the same when the other list has no more
 pub both_end : {A B : Type 0} (view : A → B) (r : Option A) (b : Bool) (xs ys rest : List B) → xs ≡ [] → MatchOption r ((ys ≡ []) × (rest ≡ [])) (λ y. ys ≡ view y ∷ rest) → is_some r ≡ not b
     → IsTrue b ↔ (xs ≡ ys)
 both_end view None true xs ys rest empty steps e = (λ _. empty ∙ sym steps.0, λ _. refl)

@@ -1,4 +1,4 @@
--- What is known of units is exact where the state holds all for which the graph was made, and stays so by rows that let none of these go.
+-- `Known` is exact if the state holds each unit for which the graph was made. Rows that let none of these go keep it exact.
 use Rattle.std.proofs.Common.{◌≡◌, ◌≢◌, ◌⊎◌, ◌∙◌, ◌<◌, ◌≤◌, ℕ, Bool, true, false, true≢false, not, All, List, [], ◌∷◌, Contains, Some, None, length, refl, sym, ap, subst, inl, inr}
 use Rattle.std.proofs.lemmas.Bool.{cases_lt}
 use Rattle.std.proofs.lemmas.List.Elements.{All-head, All-tail}
@@ -43,7 +43,7 @@ use Rattle.um_engine.proofs.RowLaws.{delta_knows}
 pub exact_made : (v : ServedView) → KnowsFor v.known v.state → ((x : List ℕ) → Contains v.known.extra x → IsHeld v.state x) → IsExactIfFew v
 exact_made v knows made few = record { just = (exact_for v.state v.known knows made).known; made = made; few = few }
 
--- as it is for a state that is numbered, and known so
+-- the same for a state that is numbered, and whose `Known` is for it
 pub exact_at : (u : ServedView) (k : KnownView) (s : State) → u.state ≡ s → u.known ≡ k → KnowsFor k s → ((x : List ℕ) → Contains k.extra x → IsHeld s x) → IsExactIfFew u
 exact_at u k s state known knows made =
     exact_made u (subst (λ (x : State). KnowsFor u.known x) (sym state) (subst (λ (x : KnownView). KnowsFor x s) (sym known) knows))
@@ -59,7 +59,7 @@ pub full_less : (tree : ReadTree) (E F : List ℕ → Type 0) → ((x : List ℕ
 full_less tree E F into (inl many) = inl (more_known tree E F (λ x e. first (extra (into x e))) many)
 full_less tree E F into (inr many) = inr (more_known (lasting_tree tree) E F (λ x e. first (extra (into x e))) many)
 
--- where too many would be known for the state, nothing is said
+-- if too many units would be known for the state, nothing is claimed
 pub exact_full : (v : ServedView) → IsFull v.state.loaded (IsHeld v.state) → IsExactIfFew v
 exact_full v full few = absurd (few (too_large Units) (record { many = full; refusal = refl }))
 
@@ -93,12 +93,12 @@ module _ (x : List ℕ) (r : Row) (s : Standing) where
     jobs_are : (put_row r s).state.pending ≡ with_jobs s.state.pending (name_at s.names r.number) r.jobs
     jobs_are = put_within no_jobs with_jobs jobs_put_well s.names s.state.pending r.number r.jobs within
 
-    -- of another unit the same is held
+    -- of another unit the same is held as before
     put_other : x ≢ name_at s.names r.number → IsHeld s.state x → IsHeld (put_row r s).state x
     put_other apart (inl h) = inl (λ e. h (sym (units_apart s.state.units (name_at s.names r.number) r.unit x apart) ∙ (sym (ap (λ m. map.get m x) units_are) ∙ e)))
     put_other apart (inr h) = inr (λ e. h (sym (pending_apart s.state.pending (name_at s.names r.number) r.jobs x apart) ∙ (sym (ap (λ m. map.get m x) jobs_are) ∙ e)))
 
-    -- and of its own what it holds
+    -- of its own unit the row's contents are held
     put_own : x ≡ name_at s.names r.number → (holds_nothing r.unit ≡ false) ⊎ (has_job r.jobs ≡ true) → IsHeld (put_row r s).state x
     put_own is (inl h) =
         inl (λ e. unit_held s.state.units x r.unit h (ap (λ n. map.get (with_unit s.state.units n r.unit) x) is ∙ (sym (ap (λ m. map.get m x) units_are) ∙ e)))
@@ -129,23 +129,23 @@ rows_held x (r ∷ rows) s all held =
     let Holds : Row → Type 0 = λ r. slice_get s.names r.number ≡ Some x → holds_none r ≡ false in
     rows_held x rows (put_row r s) (All-tail Holds r rows all) (put_held x r s (All-head Holds r rows all) held)
 
--- a delta whose rows let none go leaves what is known exact
+-- a delta whose rows let no unit go leaves `Known` exact
 pub rows_exact : (v : ServedView) (d : Delta) → KnowsFor v.known v.state → All (LetsNoneGo v.known) d.rows.items → KeepsExact v (Rows d)
 rows_exact v d knows none exact =
     exact_made (served_by (Rows d) v) (delta_knows v.known d (standing_of v) ((refl, refl), knows)).1
     (λ x among. rows_held x d.rows.items (timed d.clock d.next (standing_of v)) (λ i default within number. none i default within x number among) (exact.made x among))
 
--- and so it is where it is given anew
+-- and so it is when `Known` is made again
 pub given_exact : (v after : ServedView) (change : Change) → served_by change v ≡ after → IsExactIfFew after → KeepsExact v change
 given_exact v after change is made exact = subst IsExactIfFew (sym is) made
 
--- the state that a change leads to is that of what is served after it
+-- the state that a change leads to is that of the value served after it
 pub same_state : (v : ServedView) (change : Change) → state_of (changed change (standing_of v)) ≡ (served_by change v).state
 same_state v Nothing = refl
 same_state v (Rows delta) = refl
 same_state v (Tables given rows) = refl
 
--- so a step from a state for which it is exact leads to one for which it is
+-- so a step from a state for which `Known` is exact leads to one for which it is exact
 pub exact_after : (size : ℕ) (v : ServedView) (i : Input) (reply : Reply) (actions : List Action) (change : Change) → Step size v.state i reply actions (state_of (changed change (standing_of v)))
     → KeepsExact v change → IsExact v → IsExact (served_by change v)
 exact_after size v i reply actions change step keeps exact =

@@ -1,4 +1,4 @@
--- What is known for a state, by what the tests of it tell.
+-- The `Known` of a state, from the results of its tests.
 use Rattle.std.proofs.Common.{◌≡◌, ◌⊎◌, ◌↔◌, ◌∙◌, ◌<◌, ◌≤◌, ℕ, List, [], Contains, Option, Some, None, Result, Ok, Err, is_some, Bool, true, true≢false, refl, sym, ap, subst, inl, inr, arith}
 use Rattle.std.specs.Prelude.{IfErr, IfOk, MatchOption, slice_get, unwrap_or}
 use Rattle.std.specs.Result.{IsErrAnd}
@@ -57,7 +57,7 @@ pub exact_for : (s : State) (k : KnownView) → KnowsFor k s → ((x : List ℕ)
 exact_for s k knows made =
     graph_too s.loaded (Contains k.extra) (IsHeld s) (same_here s k None knows made (λ x e. absurd (none-some x e))) k.graph knows.made.of
 
--- what is known for a state serves for it
+-- the `Known` of a state serves for it
 pub serves_for : (k : KnownView) (s : State) → KnowsFor k s → Serves k.graph s
 serves_for k s h = record { extra = k.extra; graph = h.made.graph; of = h.made.of; held = h.held }
 
@@ -85,7 +85,7 @@ few_known k s knows lasts r crowded = knows.made.few (by_tree crowded.many)
     by_tree (inr many) =
         inr (more_known (lasting_tree s.loaded) (IsHeld s) (Contains k.extra) (λ x is. (knows.lasting x).0 (lasts x (knows.held x is) is)) many)
 
--- nor after a boot: nothing is held then, and what stands under `run/` is gone
+-- nor after a boot: nothing is held then, and the entries under `run/` are gone
 pub few_booted : (k : KnownView) (s : State) (boot : List ℕ) → KnowsFor k s → IsFew (booted boot s)
 few_booted k s boot knows r crowded = knows.made.few (inr (by_tree crowded.many))
   where
@@ -106,7 +106,7 @@ pub known_by : (names : List (List ℕ)) (o : Option ℕ) (x y : List ℕ) (b : 
 known_by names None x y b e found is t = absurd (true≢false (sym t ∙ e))
 known_by names (Some i) x y b e found is t = (i, got_within names i y (found ∙ ap Some is), get_or_from_slice_get names i y y (found ∙ ap Some is))
 
--- what is known for the state with a tree that it may load is so for the one that loads it, and is told of the tree by itself
+-- if it is known for the state with a tree that may be loaded, it is known for the state that loads it; of the tree this holds by itself
 pub knows_loaded : (k : KnownView) (s u : State) (hand : Tree) (tree : ReadTree) → KnowsFor k (record s { loaded = tree }) → u ≡ record s { tree = hand; loaded = tree } → KnowsFor k u
 knows_loaded k s u hand tree knows is = subst (KnowsFor k) (sym is) (record { made = knows.made; lasting = knows.lasting; held = knows.held })
 
@@ -123,7 +123,7 @@ pub knows_made : (k : KnownView) (s : State) (tree : ReadTree) → IsGraphFor tr
     → KnowsFor k (record s { loaded = tree })
 knows_made k s tree made lasting extras = record { made = made; lasting = lasting; held = λ unit held. (made.of.known unit).1 (first (extra ((extras unit).1 held))) }
 
--- commands that leave the loaded tree make the state hold nothing new, but for plans
+-- a command other than a plan that leaves the loaded tree makes the state hold nothing new
 pub put_holds_no_more : {profile : Profile} (s u : State) (path text : List ℕ) → Changes profile s (PutFile path text) u → HoldsNoMore s u
 put_holds_no_more s _ path text (puts e) = record { loaded = refl; held = λ x h. h }
 
@@ -133,13 +133,13 @@ link_holds_no_more s _ path target (links e) = record { loaded = refl; held = λ
 pub remove_holds_no_more : {profile : Profile} (s u : State) (path : List ℕ) → Changes profile s (Remove path) u → HoldsNoMore s u
 remove_holds_no_more s _ path (removes e) = record { loaded = refl; held = λ x h. h }
 
--- the count for the list of what is held
+-- the count for the list of held units
 pub count_found : {E : Type 0} (s : State) (tree : ReadTree) (names : List (List ℕ)) → tree ≡ s.loaded → ((x : List ℕ) → Contains names x ↔ IsHeld s x)
     → (result : Result ℕ E) → IfOk result (λ units. CountsFor tree (Contains names) units) → IfOk result (λ units. CountsFor s.loaded (IsHeld s) units)
 count_found s tree names same held (Ok units) h = count_by s.loaded (Contains names) (IsHeld s) held units (subst (λ t. CountsFor t (Contains names) units) same h)
 count_found s tree names same held (Err e) h = h
 
--- a state isn't too heavy where its weight by one count isn't
+-- a state isn't too heavy if its weight by either count isn't
 pub light_by : (size : ℕ) (s : State) (units weight : ℕ) → CountsFor s.loaded (IsHeld s) units → weight ≡ weight_of s.tree s.loaded.entries units → weight ≤ size → ¬ IsTooHeavy size s
 light_by size s units weight counts is fits heavy =
     let same : heavy.units ≡ units = one_count s.loaded (IsHeld s) heavy.units units heavy.count counts in
@@ -153,7 +153,7 @@ pub lasting_known : (tree : ReadTree) (others : List (List ℕ)) (g : GraphView)
 lasting_known tree others g None of same unit = subst (λ t. Contains g.names unit ↔ IsKnown t (Contains others) unit) (sym same) (of.known unit)
 lasting_known tree others g (Some names) of each unit = each unit
 
--- ---- a step in work over what is served
+-- ---- a step in a work over the served state
 
 -- it does so still where the trees stay
 pub works_still : (v : ServedView) (w x : WorkView) → WorksOn v w → Keeps w x → (state_of x.now).tree ≡ (state_of w.now).tree → (state_of x.now).loaded ≡ (state_of w.now).loaded → WorksOn v x
@@ -169,12 +169,12 @@ works_settled v w x t works keeps (new, settles, is) =
     let kept = settles_keeps t (state_of w.now) new (state_of x.now) settles in
     works_still v w x works keeps kept.tree kept.loaded
 
--- what is known for the one is known for where the work has come
+-- units known for the first state are known for the one that the work has reached
 pub works_knows : (v : ServedView) (w : WorkView) → KnowsFor v.known v.state → WorksOn v w → Serves w.graph (state_of w.now) → KnowsFor v.known (state_of w.now)
 works_knows v w knows works serves =
     knows_still v.known v.state (state_of w.now) knows works.loaded (λ x held. subst (λ (g : GraphView). Contains g.names x) works.graph (serves.held x held))
 
--- what was made for those of the held units that the tree doesn't make known by itself is known for the state
+-- a `Known` that was made for those held units that the tree doesn't make known by itself is known for the state
 pub knows_by_named : (k : KnownView) (s : State) (tree : ReadTree) (held others : List (List ℕ)) → tree ≡ s.loaded → IsGraphFor tree (Contains k.extra) k.graph → k.extra ≡ others
     → ((unit : List ℕ) → Contains k.lasting unit ↔ IsKnown (lasting_tree tree) (Contains k.extra) unit) → ((unit : List ℕ) → Contains held unit ↔ IsHeld s unit)
     → ((unit : List ℕ) → Contains held unit → IsKnown tree (Contains others) unit) → KnowsFor k s
@@ -184,7 +184,7 @@ knows_by_named k s tree held others same made extras lasting is known = record {
   held = λ unit h. (made.of.known unit).1 (subst (λ xs. IsKnown tree (Contains xs) unit) (sym extras) (known unit ((is unit).1 h)));
 }
 
--- a call that gives on a refusal for too many units
+-- a call that passes on a refusal for too many units
 pub full_on : {X : Type 0} (Full : Type 0) (result : Result X Refusal) (e : Refusal) → IsErrAnd result (λ f. f ≡ e) → (¬ (e ≡ refusals.NoMemory) → (e ≡ refusals.TooLarge limits.Units) × Full)
     → IfErr result (λ f. ¬ (f ≡ refusals.NoMemory) → (f ≡ refusals.TooLarge limits.Units) × Full)
 full_on Full (Ok x) e on full = absurd on

@@ -1,4 +1,4 @@
--- Why a tree isn't loaded, by what the calls below tell.
+-- Why a tree isn't loaded, from the contracts of the functions called.
 use Rattle.std.proofs.Common.{◌≡◌, ◌≢◌, ◌∙◌, ℕ, List, Contains, Option, Some, None, Result, Ok, Err, unwrap_or, refl, sym, ap, subst, inl, inr}
 use Rattle.std.specs.Bool.{⊤}
 use Rattle.std.specs.Prelude.{IsErrAnd}
@@ -106,7 +106,7 @@ module _ (s : State) (tree : ReadTree) (Extra : List ℕ → Type 0) (g : GraphV
   circle_by_number =
       cycle_too (IsBefore tree) (Joins g before_bit) (Contains g.names) joins_back s.pending (jobs_by g.names pending) (λ x. sym (same_jobs x)) by_number_held
 
-  -- what is free of circles by number is by name
+  -- a set of jobs without a circle by number has none by name
   pub free_of_state : AreFree (Joins g before_bit) (jobs_by g.names pending) → AreFree (IsBefore tree) s.pending
   free_of_state free cycle closed =
       let back = comes_too (IsBefore tree) (Joins g before_bit) (Contains g.names) joins_back s.pending (jobs_by g.names pending) (λ x. sym (same_jobs x)) by_number_held in
@@ -124,7 +124,7 @@ module _ (s : State) (tree : ReadTree) where
   free_to_load few free r (at_first h) = few h.many
   free_to_load few free r (at_second n h) = free r h
 
--- a call that hands on a refusal is refused by the cause of that
+-- a call that passes on a refusal is refused for the cause of that refusal
 pub refused_is : {X : Type 0} (Cause : Refused → Type 0) (result : Result X Refusal) (e : Refusal) → IsErrAnd result (λ f. f ≡ e)
     → (e ≢ NoMemory → Cause (refused_of e)) → RefusesBy Cause result
 refused_is Cause (Ok done) e h step = absurd h

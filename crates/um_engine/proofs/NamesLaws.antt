@@ -23,7 +23,7 @@ found_in x ns = Contains-from_any (λ a b. (bytes_eq-Decides a b).0) x ns
 in_found : (x : List ℕ) (ns : List (List ℕ)) → Contains ns x → list_any (bytes_eq x) ns ≡ true
 in_found x ns = list_any-from_Contains nat_list_eq_equiv x ns
 
--- so names that were put in order are those that were given
+-- two lists in which each name tests the same have the same names
 pub given_names : (ns ms : List (List ℕ)) → ((x : List ℕ) → list_any (bytes_eq x) ns ≡ list_any (bytes_eq x) ms) → (x : List ℕ) → Contains ns x ↔ Contains ms x
 given_names ns ms whole x = (λ c. found_in x ms (sym (whole x) ∙ in_found x ns c), λ c. found_in x ns (whole x ∙ in_found x ms c))
 

@@ -1,4 +1,4 @@
--- What is found of a state by the numbers of a graph's units, and the plan that comes of it.
+-- The activity and the jobs of a state by the numbers of a graph's units, and the plan that results.
 use Rattle.std.proofs.Common.{◌≡◌, ◌≢◌, ◌⊎◌, ◌↔◌, ◌∙◌, ◌+◌, ◌<◌, ℕ, List, [], ◌∷◌, ◌++◌, length, get_or, Contains, Option, Some, None, Result, Ok, Err, unwrap_or, refl, sym, ap, subst, inl, inr, arith}
 use Rattle.std.specs.FinMap as map
 use Rattle.std.proofs.lemmas.Bool.{cases_lt}
@@ -124,7 +124,7 @@ module _ (s : State) (named : List ℕ) (g : GraphView) (exact : IsGraphFor s.lo
       causes_same (IsKnown s.loaded (IsHeldOr s named)) (demand, named) named_known (scene_at s named) (scene_of g activity pending)
       (alike_back (IsKnown s.loaded (IsHeldOr s named)) (scene_of g activity pending) (scene_at s named) alike)
 
--- a transaction by what it was made from
+-- a transaction, by the inputs it was made from
 pub made_for : {E : Type 0} (g : GraphView) (activity : List ActiveState) (pending : List UnitJobs) (demand : Demand) (unit : List ℕ) (number : ℕ) (result : Result TransactionView E)
     → IsNumberOf g number unit → IfOk result (λ t. t.graph ≡ g) → IfOk result (λ t. t.activity ≡ activity) → IfOk result (λ t. t.pending ≡ pending)
     → IfOk result (λ t. t.root ≡ (demand, number))

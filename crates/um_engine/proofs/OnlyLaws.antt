@@ -1,4 +1,4 @@
--- What refuses a step is never of a store; and what a state needs to be served, by the tree that was loaded for it.
+-- A refusal of a step is never one of a store. What a state needs to be served, by the tree loaded for it.
 use Rattle.std.proofs.Common.{◌≡◌, ◌≢◌, ◌⊎◌, inl, inr, ℕ, ◌≤◌, false, Result, Ok, Err, refl, sym, subst, arith}
 use Rattle.std.specs.Prelude.{IsErrAnd, IfErr}
 use Rattle.um_model.specs.Profiles.{ReadTree}
@@ -29,7 +29,7 @@ beyond : (n : ℕ) → (n ≤ 14) ⊎ (n ≡ 21) → 22 ≤ n → ⊥
 beyond n (inl low) least = omega (arith, low, least)
 beyond n (inr is) least = omega (arith, is, least)
 
--- a refusal with the number of a command's, but for want of memory, is of no store
+-- a refusal with a command's number, other than want of memory, is never one of a store
 of_no_store : (e : Refusal) → (e ≢ NoMemory → IsOfCommand (refused_of e)) → is_of_store e ≡ false
 of_no_store refusal.BadRequest of = refl
 of_no_store (refusal.UnknownVerb verb) of = refl
@@ -69,7 +69,7 @@ load_unservable size s tree e is causes differs = refused_unservable size s (ref
 pub heavy_unservable : (size : ℕ) (s v : State) → v ≡ s → IsTooHeavy size v → ¬ IsServable size s
 heavy_unservable size s v same heavy held = held.light (subst (IsTooHeavy size) same heavy)
 
--- a call that hands on a refusal refuses an unservable state
+-- a call that passes on a refusal refuses an unservable state
 pub unservable_is : {X : Type 0} (size : ℕ) (s : State) (result : Result X Refusal) (e : Refusal) → IsErrAnd result (λ f. f ≡ e) → (e ≢ NoMemory → ¬ IsServable size s)
     → IfErr result (λ f. f ≢ NoMemory → ¬ IsServable size s)
 unservable_is size s (Ok done) e h step = absurd h

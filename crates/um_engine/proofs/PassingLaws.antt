@@ -3,7 +3,7 @@ use Rattle.std.proofs.Common.{◌≡◌, ◌⊎◌, ◌+◌, ◌<◌, ◌++◌, 
 use Rattle.std.proofs.lemmas.Bool.{cases_lt}
 use Rattle.std.proofs.lemmas.List.Elements.{Contains-append_left, Contains-push}
 
--- so it is of the numbers below n
+-- the same for the numbers below n
 abbrev pub PassingBelow : (names lasting : List (List ℕ)) → ℕ → List ℕ → Type 0
 PassingBelow names lasting n passing = (i : ℕ) → i < n → (unit : List ℕ) → slice_get names i ≡ Some unit → Contains lasting unit ⊎ Contains passing i
 

@@ -50,13 +50,13 @@ use Rattle.um_engine.proofs.SameUnitsLaws.{full_by}
 use Rattle.um_engine.proofs.DoneLaws.{without_rows}
 use Rattle.um_engine.proofs.Causes.{by_absence, by_fullness, by_plan, few_at_rest, few_planned, free_to_plan, free_to_rest, plans_to, rests_so}
 
--- a call that gives on the refusal of another is refused for its cause
+-- a call that passes on another's refusal is refused for its cause
 pub refuses_on : {X : Type 0} (Cause : Refused → Type 0) (result : Result X Refusal) (e : Refusal) → IsErrAnd result (λ f. f ≡ e) → (e ≢ NoMemory → Cause (refused_of e))
     → RefusesBy Cause result
 refuses_on Cause (Ok done) e h cause = absurd h
 refuses_on Cause (Err f) e h cause = subst (λ (r : Refusal). r ≢ NoMemory → Cause (refused_of r)) (sym h) cause
 
--- what was asked for by the graph that is known is so by the state
+-- the unit of the requested name is the same by the known graph as by the state
 pub asked_so : (k : KnownView) (s : State) (g : GraphView) (tree : ReadTree) (asked unit : List ℕ) → KnowsFor k s → g ≡ k.graph → tree ≡ s.loaded
     → (Loads g tree → unit ≡ unit_named tree.entries asked) → unit ≡ model.unit_asked s asked
 asked_so k s g tree asked unit knows graph loaded leads =
@@ -89,7 +89,7 @@ not_pending g s held x isnt = by (map.get s.pending x) refl
 none_pends : (g : GraphView) (s : State) → ((x : List ℕ) → IsHeld s x → Contains g.names x) → (x : List ℕ) → IsApart g.names x → jobs_of_unit s.pending x ≡ no_jobs
 none_pends g s held x apart = not_pending g s held x (λ there. apart there.0 there.1 (get_or_default g.names there.0 [] x there.1 ∙ there.2))
 
--- from one work the other has come by putting the jobs of the first n units
+-- the second work is the first with the jobs of the first n units put
 pub record PutsBelow (u w : WorkView) (plan : List UnitJobs) (n : ℕ) : Type 0 where
   pub keeps : Keeps u w
   pub actions : w.actions ≡ u.actions
@@ -177,7 +177,7 @@ module _ (s u : State) (root : Demand × List ℕ) (t : TransactionView) (is : I
         → (r : Refused) → ¬ CausesOfPlan (scene_at s root.1) root mode u.pending r
     free_so mode none r cause = free_for s root t is mode none r (subst (λ p. CausesOfPlan (scene_at s root.1) root mode p r) jobs cause)
 
--- ---- why the command is refused and what it changes
+-- ---- why the command is refused, and what it changes
 
 module _ (s : State) (verb : UnitVerb) (asked : List ℕ) (mode : JobMode) (unit : List ℕ) (same : unit ≡ model.unit_asked s asked) where
   few_asked : ((q : Refused) → ¬ IsCrowded s.loaded (IsHeldOr s unit) q) → (q : Refused) → ¬ IsCrowded s.loaded (IsHeldOr s (model.unit_asked s asked)) q
@@ -186,7 +186,7 @@ module _ (s : State) (verb : UnitVerb) (asked : List ℕ) (mode : JobMode) (unit
   demanded_asked : (demand : Option Demand) → demand ≡ demand_of verb (active_state_of (state_of_unit s.units unit).sub) → demand_of verb (active_asked s asked) ≡ demand
   demanded_asked demand is = ap (λ x. demand_of verb (active_state_of (state_of_unit s.units x).sub)) (sym same) ∙ sym is
 
-  -- where nothing is demanded
+  -- with no demand
   module _ (is : None ≡ demand_of verb (active_state_of (state_of_unit s.units unit).sub)) (few : (q : Refused) → ¬ IsCrowded s.loaded (IsHeldOr s unit) q) where
     pub absent_at_rest : (r : Refused) → IsNotThere s verb asked r → Refuses current s (model.ForUnit verb asked mode) r
     absent_at_rest r h = by_absence s verb asked mode r (few_at_rest s verb asked mode (few_asked few) (demanded_asked None is)) h
@@ -197,7 +197,7 @@ module _ (s : State) (verb : UnitVerb) (asked : List ℕ) (mode : JobMode) (unit
     pub rests_asked : {profile : Profile} (u : State) → u ≡ s → Changes profile s (model.ForUnit verb asked mode) u
     rests_asked u = rests_so s verb asked mode u (demanded_asked None is)
 
-  -- where the state has the plan for what is demanded
+  -- with a plan for the demand
   module _ (demand : Demand) (is : Some demand ≡ demand_of verb (active_state_of (state_of_unit s.units unit).sub)) (u : State) (planned : HasPlan s (demand, unit) u) where
     abbrev demanded : demand_of verb (active_asked s asked) ≡ Some demand
     demanded = demanded_asked (Some demand) is

@@ -1,4 +1,4 @@
--- Of a file or a link that is put, and of what is removed, the tree tells by its path whether it differs then.
+-- For a put file or link, and for a removal, the entry at the path decides whether the tree differs.
 use Rattle.std.proofs.Common.{◌≡◌, ◌∙◌, ℕ, cond, List, Option, Some, None, Result, Ok, Err, sym, ap, subst}
 use Rattle.std.specs.Cmp.Lexicographic.{nat_list_cmp_total}
 use Rattle.std.specs.FinMap as map
@@ -13,11 +13,11 @@ use Rattle.um_model.specs.Tree.{Entry, Tree, File, Link, put_cause, link_cause, 
 use Rattle.um_model.proofs.TreeLaws.{insert-same}
 use Rattle.um_model.proofs.UnitLaws.{alike}
 
--- what was put at a path stands there
+-- an entry that was put at a path stands there
 inserted : (tree : Tree) (path : List ℕ) (entry : Entry) → map.get (map.insert tree path entry) path ≡ Some entry
 inserted tree path entry = map.get-insert nat_list_cmp_total tree path entry path ∙ ap (λ b. cond b (Some entry) (map.get tree path)) (alike path)
 
--- what was removed doesn't
+-- a removed entry doesn't
 taken_out : (tree : Tree) (path : List ℕ) → map.get (map.remove tree path) path ≡ None
 taken_out tree path = map.get-remove nat_list_cmp_total tree path path ∙ ap (λ b. cond b None (map.get tree path)) (alike path)
 
@@ -67,7 +67,7 @@ module _ (s : State) (path target : List ℕ) (none : link_cause s.tree path tar
       let is : map.insert s.tree path (Link target) ≡ tree = same_ok (map.insert s.tree path (Link target)) tree (put_link s.tree path target) (link_put s.tree path target none) e in
       other (ap (λ (t : Tree). map.get t path) (sym (is ∙ same)) ∙ inserted s.tree path (Link target))
 
--- something stands where it is removed
+-- there is an entry at the path of the removal
 some_there : (tree : Tree) (path : List ℕ) → remove_cause tree path ≡ None → map.get tree path ≡ None → ⊥
 some_there tree path none gone = none-some (bad_path path) (sym none ∙ ap (λ (o : Option Entry). if is_none o then Some (bad_path path) else None) gone)
 

@@ -43,7 +43,7 @@ nothing_held n i is = true≢false (sym is ∙ elim (cases_lt i n) as (λ _. hel
   | inr past ↦ get_or_past (replicate n false) i false (omega (arith, past, length-replicate n false))
 ])
 
--- as they are filled in: of no unit is told that it counts as deactivating
+-- while they are filled in, no unit is marked as deactivating
 pub none_told : (g : GraphView) (s : State) (v : JobsView) (pending : List UnitJobs) → IsGraph g → v.graph ≡ g → length pending ≡ length g.names → ArePending g s pending
     → v.units ≡ pending → v.held ≡ replicate (length g.names) false → Tells g s v
 none_told g s v pending graph same long pends e held = record {
@@ -81,7 +81,7 @@ not_deactivating a isnt = by (is_deactivating a) refl
     by true e = absurd (isnt (it_is a e))
     by false e = refl
 
--- ---- what is ready by the graph is ready by the tree
+-- ---- a job that is ready by the graph is ready by the tree
 module _ (g : GraphView) (s : State) (serves : Serves g s) (v : JobsView) (tells : Tells g s v) where
   once : (i j : ℕ) → i < length g.names → j < length g.names → name_at g.names i ≡ name_at g.names j → i ≡ j
   once = names_once g.names tells.graph.sorted
@@ -178,7 +178,7 @@ abbrev one_free : Bool → ℕ
 one_free true = 0
 one_free false = 1
 
--- of so many units isn't told that they count as deactivating
+-- the count of units that aren't marked as deactivating
 abbrev pub free_in : List Bool → ℕ
 free_in held = sum_by one_free held
 
@@ -263,7 +263,7 @@ begun_drops g s b u j w known is none =
           omega (arith, e, none n)
     ]
 
--- where a job of a unit is in another state by its number and its name, it is so in the state, which is told by number
+-- if a unit's job gets another state both by number and by name, it has that state in the state, and the table agrees with it
 module _ (to : JobState) (g : GraphView) (s b : State) (v w : JobsView) (n : ℕ) (name : List ℕ) (kind : JobKind) (tells : Tells g s v) (number : IsNumberOf g n name)
     (by_number : w ≡ with_jobs_at v n (with_job kind to (jobs_at v.units n))) (by_name : b ≡ record s { pending = with_jobs s.pending name (jobs_at w.units n) }) where
   within_all : n < length v.units
@@ -306,7 +306,7 @@ module _ (to : JobState) (g : GraphView) (s b : State) (v w : JobsView) (n : ℕ
             ∙ sym (ap (λ (x : State). jobs_of_unit x.pending unit) by_name ∙ jobs_apart s.pending name (jobs_at w.units n) unit apart)))
       ]
 
--- of one unit it is told anew
+-- the table's entry for one unit is refreshed
 pub told_anew : (g : GraphView) (s t : State) (v w : JobsView) (n : ℕ) (name : List ℕ) → Tells g s v → IsNumberOf g n name → KeepsOthers name s t → w ≡ told_of t n name v → Tells g t w
 told_anew g s t v w n name tells number keeps is = subst (Tells g t) (sym is) (record {
   graph = tells.graph;

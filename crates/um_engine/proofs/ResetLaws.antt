@@ -1,4 +1,4 @@
--- Failures that are forgotten, one after another; of a unit of which nothing is held there is nothing to forget.
+-- Failures are forgotten one after another. A unit of which nothing is held has no failure to forget.
 use Rattle.um_falling.specs.Carrying.{Adds}
 use Rattle.std.proofs.Common.{◌≡◌, ◌∙◌, ◌+◌, ◌<◌, ℕ, Bool, true, false, cond, List, [], ◌∷◌, ◌++◌, Contains, Option, None, unwrap_or, refl, sym, ap, subst, inl, inr, arith, append_assoc, append-nil}
 use Rattle.std.specs.Cmp.Lexicographic.{slice_cmp, nat_list_cmp_total}
@@ -28,7 +28,7 @@ out_of_none : {A : Type 0} (b : Bool) (o : Option A) → o ≡ None → cond b N
 out_of_none true o none = sym none
 out_of_none false o none = refl
 
--- what isn't there is taken out
+-- removing an absent key changes nothing
 removed_same : {A : Type 0} (m : ByUnit A) (k : List ℕ) → map.get m k ≡ None → map.remove m k ≡ m
 removed_same m k none =
     map.same_map nat_list_cmp_total (map.slice_cmp-IsAntisymmetric map.nat_cmp-IsAntisymmetric) (map.remove m k) m each
@@ -106,11 +106,11 @@ resets_more t xs ys all s u v before between after e (a, h, is) (b, k, so) = (
   so ∙ (ap (λ l. l ++ b) is ∙ append_assoc before a b),
 )
 
--- of no unit it is forgotten
+-- with no units, nothing is forgotten
 pub resets_no_unit : (t : ℕ) (s : State) (before : List Action) → Adds (AreReset t [] s) before s before
 resets_no_unit t s before = ([], all_reset, sym (append-nil before))
 
--- ---- in a work that begins in what is served
+-- ---- in a work that begins in the served state
 
 module _ (v : ServedView) (t : ℕ) (asked : Option (List ℕ)) (units : List (List ℕ)) (u w : WorkView) (begun : u ≡ begun_at (standing_of v) v.known.graph t) (is : units ≡ units_reset v.state asked)
     (keeps : Keeps u w) (goes : Goes (AreReset u.moment units (state_of u.now)) u w) where

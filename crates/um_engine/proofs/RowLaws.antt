@@ -1,4 +1,4 @@
--- What is known for a state is known for it still after rows are put into it under the numbers of the graph's units.
+-- The `Known` of a state stays known for it after rows are put under the numbers of the graph's units.
 use Rattle.std.proofs.Common.{◌≡◌, ◌≢◌, ◌∙◌, ◌<◌, ◌≤◌, ℕ, List, [], ◌∷◌, Contains, length, refl, sym, ap, subst, inl, inr}
 use Rattle.std.proofs.lemmas.Bool.{cases_lt}
 use Rattle.std.proofs.lemmas.List.{get_or_default}
@@ -67,7 +67,7 @@ module _ (k : KnownView) where
   pub back_knows : (d : Delta) (s : Standing) → Stands s → Stands (delta_before d s)
   back_knows d s h = timed_knows d.clock d.next (rows_before d.rows.items s) (before_knows d.rows.items s h)
 
-  -- their trees weigh what they did
+  -- the weight of the trees doesn't change
   after_weighs : (rows : List Row) (s : Standing) → trees_weight (rows_after rows s).state ≡ trees_weight s.state
   after_weighs [] s = refl
   after_weighs (r ∷ rows) s = after_weighs rows (put_row r s)
@@ -82,17 +82,17 @@ module _ (k : KnownView) where
   pub undo_weighs : (d : Delta) (s t : Standing) (n : ℕ) → t ≡ delta_before d s → n ≡ trees_weight s.state → n ≡ trees_weight t.state
   undo_weighs d s t n is so = so ∙ (sym (before_weighs d.rows.items s) ∙ ap (λ (x : Standing). trees_weight x.state) (sym is))
 
-  -- the standing of what is served is that of its state
+  -- the standing of a served value is that of its state
   pub standing_so : (s : Standing) → IsNumberedBy k.graph.names s → standing_of (record { state = s.state; known = k }) ≡ s
   standing_so s numbered = λ i. record { state = s.state; common = sym numbered.0 i; names = sym numbered.1 i }
 
--- work that begins in what is served begins in its state
+-- a work that begins in the served value begins in its state
 pub served_begun : (v : ServedView) (k : KnownView) (s : Standing) → record { state = s.state; known = k } ≡ v → IsNumberedBy k.graph.names s → (g : GraphView) → g ≡ k.graph → (w : WorkView) (t : ℕ)
     → w ≡ begun_at s g t → w ≡ begun_at (standing_of v) v.known.graph t
 served_begun v k s seen numbered g shown w t is =
     subst (λ (x : ServedView). w ≡ begun_at (standing_of x) x.known.graph t) seen (is ∙ (ap (λ h. begun_at s h t) shown ∙ ap (λ (y : Standing). begun_at y k.graph t) (sym (standing_so k s numbered))))
 
--- what is served after its state was given a delta, or was taken back
+-- the value that is served after its state was given a delta, or was taken back
 module _ (k : KnownView) (s : Standing) (numbered : IsNumberedBy k.graph.names s) (knows : KnowsFor k s.state) (d : Delta) where
   pub delta_stands : (t : Standing) → t ≡ delta_after d s → Stands k t
   delta_stands t is = subst (Stands k) (sym is) (delta_knows k d s (numbered, knows))

@@ -1,4 +1,4 @@
--- A step, by what is planned of it.
+-- A step, from its plan.
 use Rattle.um_falling.specs.Carrying.{Adds}
 use Rattle.std.proofs.Common.{◌≡◌, ◌≢◌, ◌∙◌, ◌↔◌, ℕ, Bool, true, false, true≢false, List, [], None, refl, sym, ap, subst}
 use Rattle.std.specs.Prelude.{IfErr, IfOk, IfSome, Result, Ok, Err}
@@ -57,26 +57,26 @@ idle_step size s i t happening reply all v e f none g h k =
     (subst (λ x. Step size s input Done [] x) (sym k)
     (idle (subst (λ n. HasNoEffect n s happening) f none)))))
 
--- what happens without effect is done at once
+-- a happening without effect is done at once
 pub idle_lacks : (t : ℕ) (s : State) (event : Event) (happening : Happening) → event ≡ Happened happening → HasNoEffect t s happening → LacksEffect t s event
 idle_lacks t s event happening e none = subst (LacksEffect t s) (sym e) none
 
 pub idle_done : (size : ℕ) (s : State) (i : Input) (happening : Happening) → i.event ≡ Happened happening → HasNoEffect (moment_of s i.moment) s happening → Step size s i Done [] s
 idle_done size s i happening e none = idle_step size s i (moment_of s i.moment) happening Done [] s e refl none refl refl refl
 
--- what has an effect is one
+-- a happening with an effect is an event with one
 acts_so : (t t' : ℕ) (s : State) (event : Event) (happening : Happening) (b : Bool) → event ≡ Happened happening → t ≡ t' → b ≡ true → ¬ HasNoEffect t s happening
     → (b ≡ false) ↔ LacksEffect t' s event
 acts_so t t' s event happening b e f g effect =
     (λ h. absurd (true≢false (sym g ∙ h)), λ h. absurd (effect (subst (λ n. HasNoEffect n s happening) (sym f) (subst (λ x. LacksEffect t' s x) e h))))
 
--- what leads to what follows is the step
+-- a change that leads to the state that follows is the step
 leads_step : (size : ℕ) (s : State) (i : Input) (t : ℕ) (happening : Happening) (reply : Reply) (all actions : List Action) (v : State) → i.event ≡ Happened happening
     → t ≡ moment_of s i.moment → ¬ HasNoEffect t s happening → LeadsTo (Follows t s happening) t actions v → reply ≡ Done → all ≡ actions → Step size s i reply all v
 leads_step size s i t happening reply all actions v e f effect leads g h =
     taken_step size s i t (Happened happening) reply all actions leads.state v e f (meets effect leads.leads) (λ none. none) g h leads.is
 
--- what comes of a happening is the step
+-- the outcome of a happening is the step
 pub met_step : (size : ℕ) (s : Standing) (i : Input) (t : ℕ) (happening : Happening) (reply : Reply) (all actions : List Action) (change : Change)
     → i.event ≡ Happened happening → t ≡ moment_of (state_of s) i.moment → MetBy t s happening change actions → reply ≡ Done → all ≡ actions
     → Step size (state_of s) i reply all (state_of (changed change s))
@@ -99,14 +99,14 @@ met_nothing t s happening Nothing all actions met h none = (refl, h ∙ met.1)
 met_nothing t s happening (Rows delta) all actions met h none = absurd (true≢false none)
 met_nothing t s happening (Tables given rows) all actions met h none = absurd (true≢false none)
 
--- and it tells how many rows it changes
+-- and it reports how many rows it changes
 pub met_rows : (t : ℕ) (s : Standing) (happening : Happening) (change : Change) (actions : List Action) → MetBy t s happening change actions
     → IfSome (rows_of change) (DiffersInRows (state_of s) (state_of (changed change s)))
 met_rows t s happening Nothing actions met = none_differ (state_of s)
 met_rows t s happening (Rows delta) actions met = met.1.tells.rows
 met_rows t s happening (Tables given rows) actions met = met.1.tells.rows
 
--- where it tells none, more than rows differs
+-- if it reports no count, more than rows differs
 pub met_tables : (t : ℕ) (s : Standing) (happening : Happening) (change : Change) (actions : List Action) → MetBy t s happening change actions → rows_of change ≡ None
     → ¬ HasSameTables (state_of s) (state_of (changed change s))
 met_tables t s happening Nothing actions met none = absurd (none-some 0 (sym none))
@@ -118,7 +118,7 @@ command_effect t s event command b e f = (λ h. absurd (true≢false (sym f ∙ 
 
 -- ---- a command
 
--- what it changes it does, and asks for nothing
+-- a command with these effects is done, and takes no action
 pub does_so : {profile : Profile} (t : ℕ) (s u v : State) (command : Command) (all : List Action) → Changes profile s command u → v ≡ u → all ≡ [] → Does profile t s command all v
 does_so {profile} t s u v command all h e f = subst (λ l. Does profile t s command l v) (sym f) (subst (Does profile t s command []) (sym e) (changes h))
 
@@ -131,7 +131,7 @@ pub declined_for_cause : (profile : Profile) (size t : ℕ) (s : State) (command
     → Declines profile size t s command (refused_of e)
 declined_for_cause profile size t s command e refuses differs = for_cause (refuses differs)
 
--- jobs that begin leave the tree in hand, and with it what is answered
+-- jobs that begin leave the tree in hand, and so the answer, unchanged
 pub same_answer : (t : ℕ) (event : Event) (s u v : State) (first all : List Action) (reply : Reply) → reply ≡ reply_after event s.tree u.tree
     → Adds (model.Settles t u) first v all → reply ≡ reply_after event s.tree v.tree
 same_answer t event s u v first all reply is (more, settles, whole) = is ∙ ap (reply_after event s.tree) (sym (settles_keeps t u more v settles).tree)
@@ -158,7 +158,7 @@ module _ (profile : Profile) (size t : ℕ) (s : Standing) (command : Command) (
       subst (Declines profile size t (state_of s) command) (sym h.refusal)
       (for_room (obeyed_so profile t (state_of s) (state_by o) h.state command (actions_by o) h.actions free does h.settles) h.heavy)
 
-  -- what the call that lets jobs begin tells is told of the command
+  -- the result of the call that lets jobs begin holds of the command
   pub obeys_by : (result : Result Next Refusal) → reply_by o ≡ reply_after (Commanded command) (state_of s).tree (state_by o).tree
       → IfOk result (λ n. Settled size t s (state_by o) (actions_by o) n.change (actions_in n)) → IfOk result (λ n. reply_in n ≡ reply_by o) → IfOk result (λ n. Obeys profile size t s command n)
   obeys_by (Ok n) answer settled reply = obeys_so n answer settled reply

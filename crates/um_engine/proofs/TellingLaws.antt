@@ -1,4 +1,4 @@
--- What is told of units by their numbers: the jobs of one, the stop first and then the start, and one unit after another.
+-- The job table is filled by number: for one unit first the stop and then the start, and one unit after another.
 use Rattle.std.proofs.Common.{◌≡◌, ◌∙◌, ◌+◌, ◌<◌, ◌≤◌, ℕ, List, length, set, Option, Some, None, MatchOption, false, refl, sym, ap, subst, inl, inr, arith}
 use Rattle.std.proofs.lemmas.Bool.{cases_lt}
 use Rattle.std.proofs.lemmas.Grind.{get_or-set_at}
@@ -20,7 +20,7 @@ use Rattle.um_engine.specs.Filled.{Tells, deactivates, told_of}
 
 -- ---- the jobs of one unit
 
--- of a unit is told how far its job of the kind is, or that none is pending
+-- the table records how far the unit's job of the kind is, or that none is pending
 abbrev pub TellsJob : JobKind → ℕ → Option JobState → JobsView → JobsView → Type 0
 TellsJob kind u job v w =
     MatchOption job (w ≡ with_jobs_at v u (without_job kind (jobs_at v.units u))) (λ state. w ≡ with_jobs_at v u (with_job kind state (jobs_at v.units u)))
@@ -58,7 +58,7 @@ module _ (u : ℕ) (told : UnitJobs) (v w : JobsView) (stop : TellsJob Stop u to
 
 -- ---- one unit after another
 
--- they are jobs of the graph's units, and of those with a number below n is told what the state holds of them
+-- the table is for the graph's units, and for each number below n it records what the state holds
 pub record TellsFirst (g : GraphView) (s : State) (n : ℕ) (v : JobsView) : Type 0 where
   pub graph : IsGraph g
   pub same : v.graph ≡ g

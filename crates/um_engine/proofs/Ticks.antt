@@ -1,4 +1,4 @@
--- What follows from what happens, and whether it has an effect, by what it leaves.
+-- The results of happenings, and whether a happening has an effect, by the state that it leads to.
 use Rattle.um_falling.specs.Carrying.{Adds}
 use Rattle.um_model.specs.Machine.{Settles}
 use Rattle.std.proofs.Common.{◌≡◌, ◌∙◌, ◌&&◌, ◌++◌, ℕ, Bool, true, false, true≢false, cond, List, [], Option, Some, None, refl, sym, ap, subst}
@@ -29,7 +29,7 @@ use Rattle.um_engine.specs.declared.engine.Change.TheVariants.{Nothing, Tables}
 same_after : (t : ℕ) (s v : State) (new : List Action) → Follows t s Tick new v → IsSame s v → v ≡ s
 same_after t s v new (ticks timers are fired) same = same_state s v (fires_keeps t timers s new v fired) (sym same.units) (sym same.pending) (sym same.next)
 
--- and if it asks for nothing it has no effect
+-- and if it takes no action it has no effect
 pub tick_is_idle : (t : ℕ) (s v : State) (new : List Action) → Follows t s Tick new v → new ≡ [] → IsSame s v → HasNoEffect t s Tick
 tick_is_idle t s v new follows none same =
     is_idle (subst (λ x. Follows t s Tick [] x) (same_after t s v new follows same) (subst (λ l. Follows t s Tick l v) none follows))
@@ -47,7 +47,7 @@ follows_upon t s copy u v unit event none between all same e happens (more, sett
     let (first, happened, is) = subst (λ x. Adds (Happens t unit event x) none u between) same happens in
     record { between = u; first = first; more = more; happens = happened; settles = settles; all = whole ∙ ap (λ l. l ++ more) (is ∙ ap (λ l. l ++ first) e) }
 
--- the end of a live process, by what became of its unit and of jobs
+-- the end of a live process, by the result for its unit and for jobs
 pub end_follows : (t : ℕ) (s v : State) (number : ℕ) (end : End) (unit : List ℕ) (event : UnitEvent) (all : List Action) → IsProcessOf s.units number unit
     → event ≡ end_of (state_of_unit s.units unit) number end → FollowsUpon t s unit event all v → Follows t s (ProcessEnded number end) all v
 end_follows t s v number end unit event all process is h =
@@ -72,7 +72,7 @@ pub report_is_unawaited : (t : ℕ) (s : State) (number : ℕ) → IsUnawaited s
 report_is_unawaited t s number none = isnt_awaited (λ unit is awaits.
     none unit (ap (λ b. cond b (state_of_unit s.units unit).main None) awaits.starts ∙ awaits.main))
 
--- the number of a process, as it is tested
+-- the test of a process's number
 number_told : (number : ℕ) (o : Option ℕ) → is_number number o ≡ true → o ≡ Some number
 number_told number None t = absurd (true≢false (sym t))
 number_told number (Some n) t = ap Some ((Decides-eqb n number).0 t)

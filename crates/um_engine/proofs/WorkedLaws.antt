@@ -1,4 +1,4 @@
--- What settles, fires and is forgotten step by step in a work, over the graph and the moment with which it began.
+-- Settling, firing and forgetting step by step in a work, over the graph and the moment with which it began.
 use Rattle.std.proofs.Common.{◌≡◌, ◌∙◌, ◌<◌, ℕ, Bool, false, List, ◌++◌, Contains, Some, length, sym, subst}
 use Rattle.std.specs.FinMap as map
 use Rattle.um_model.specs.Jobs.{Job, state_of_job}
@@ -28,7 +28,7 @@ use Rattle.um_engine.proofs.Steps.{fires_more, none_fires, settled, settles_more
 
 -- ---- jobs begin, one after another
 
--- from where the work began to settle it has come so far, and what is told of its jobs is what its state tells
+-- the work has settled this far from its beginning, and the job table agrees with its state
 pub record Settling (u v : WorkView) (jobs : JobsView) : Type 0 where
   pub keeps : Keeps u v
   pub serves : Serves u.graph (state_of v.now)
@@ -38,7 +38,7 @@ pub record Settling (u v : WorkView) (jobs : JobsView) : Type 0 where
 pub settling_first : (u : WorkView) (jobs : JobsView) → Serves u.graph (state_of u.now) → Tells u.graph (state_of u.now) jobs → Settling u u jobs
 settling_first u jobs serves tells = record { keeps = keeps_all u; serves = serves; tells = tells; whole = λ t after later. later }
 
--- the graph serves where the work has come to
+-- the graph serves for the state that the work has reached
 pub settling_serves : (u v : WorkView) (jobs : JobsView) → Settling u v jobs → Serves v.graph (state_of v.now)
 settling_serves u v jobs at = subst (λ g. Serves g (state_of v.now)) (sym at.keeps.graph) at.serves
 
@@ -48,7 +48,7 @@ settling_tells u v jobs at = subst (λ g. Tells g (state_of v.now) jobs) (sym at
 pub settling_done : (u v : WorkView) (jobs : JobsView) → Settling u v jobs → IsStill (state_of v.now) → Goes (Settles u.moment (state_of u.now)) u v
 settling_done u v jobs at still = at.whole (state_of v.now) v.actions (settled u.moment (state_of v.now) v.actions still)
 
--- a job that begins, with what is told of the jobs by then
+-- a job begins, and the job table at that moment
 module _ (u v : WorkView) (jobs found : JobsView) (at : Settling u v jobs) (tells_here : Tells v.graph (state_of v.now) found) (unit : ℕ) (kind : JobKind)
     (within : unit < length v.graph.names) (next : (x : List ℕ) → IsNumberOf v.graph unit x → Begins (state_of v.now) (record { unit = x; kind = kind })) where
   abbrev name : List ℕ
@@ -119,7 +119,7 @@ module _ (u v : WorkView) (jobs found : JobsView) (at : Settling u v jobs) (tell
 
 -- ---- deadlines fire, one after another
 
--- from where the work began to fire these it has come so far, with those that are left
+-- the work has fired this far from its beginning, with those deadlines that are left
 pub record Firing (u v : WorkView) (all left : Timers) : Type 0 where
   pub keeps : Keeps u v
   pub whole : (t : State) (after : List Action) → Adds (Fires u.moment left (state_of v.now)) v.actions t after → Adds (Fires u.moment all (state_of u.now)) u.actions t after

@@ -1,4 +1,4 @@
--- What an engine stands on, what a planned step and the way back make of that; and what the engine's helpers do, with the actions before and after.
+-- What an engine serves, how a planned step and the way back change it, and what the helpers do, with the actions before and after.
 use Rattle.std.specs.Prelude.{◌≡◌, ◌↔◌, ℕ, ◌<◌, ◌≤◌, Bool, true, false, List, [], ◌++◌, Option, Some, None, IfSome, map, vec_len}
 use Rattle.std.specs.FinMap as finite
 use Rattle.um_falling.specs.Carrying.{Adds}
@@ -30,7 +30,7 @@ use Rattle.um_engine.specs.declared.between.Trees.TheVariants.{Stay, Differ, Unt
 abbrev pub state_in : Engine → model.State
 state_in e = e.served.state
 
--- what an engine stands on: its state, and the names that have a number in it
+-- an engine's standing: its state, and the names that have a number in it
 abbrev pub standing_in : Engine → Standing
 standing_in e = standing_of e.served
 
@@ -38,13 +38,13 @@ standing_in e = standing_of e.served
 abbrev pub size_in : Engine → ℕ
 size_in e = e.size
 
--- what a change makes of a standing
+-- the standing after a change
 abbrev pub changed : Change → Standing → Standing
 changed Nothing s = s
 changed (Rows delta) s = delta_after delta s
 changed (Tables given rows) s = standing_of given
 
--- what a change that leads back makes of a standing
+-- the standing after a change that leads back
 abbrev pub unchanged : Change → Standing → Standing
 unchanged Nothing s = s
 unchanged (Rows delta) s = delta_before delta s
@@ -56,7 +56,7 @@ is_change Nothing = false
 is_change (Rows delta) = true
 is_change (Tables given rows) = true
 
--- of how many units it changes what is held, where it tells that
+-- the number of units whose held state it changes, if it reports that
 abbrev pub rows_of : Change → Option ℕ
 rows_of Nothing = Some 0
 rows_of (Rows delta) = Some (vec_len delta.rows)
@@ -82,39 +82,39 @@ has_effect_in n = is_change n.change
 abbrev pub state_before : Back → Standing → Standing
 state_before b s = unchanged b.change s
 
--- what an engine serves: its state, and what it knows of units
+-- the served value of an engine: its state, and its `Known`
 abbrev pub served_in : Engine → ServedView
 served_in e = e.served
 
--- what is served after a change
+-- the served value after a change
 abbrev pub served_by : Change → ServedView → ServedView
 served_by Nothing v = v
 served_by (Rows delta) v = record v { state = state_of (delta_after delta (standing_of v)) }
 served_by (Tables given rows) v = given
 
--- what was served before it, by a change that leads back
+-- the served value before it, by a change that leads back
 abbrev pub served_back : Change → ServedView → ServedView
 served_back Nothing v = v
 served_back (Rows delta) v = record v { state = state_of (delta_before delta (standing_of v)) }
 served_back (Tables given rows) v = given
 
--- what is served after a planned step that is taken
+-- the served value after a planned step that is taken
 abbrev pub served_after : Next → ServedView → ServedView
 served_after n v = served_by n.change v
 
--- what was served before a step that was taken
+-- the served value before a step that was taken
 abbrev pub served_before : Back → ServedView → ServedView
 served_before b v = served_back b.change v
 
--- a change leaves what is known exact, where no more units are known behind it than may be
+-- the change leaves `Known` exact, unless too many units are known after it
 abbrev pub KeepsExact : ServedView → Change → Type 0
 KeepsExact v change = IsExact v → IsExactIfFew (served_by change v)
 
--- of how many units a planned step changes how they stand or their pending jobs, where it tells that
+-- the number of units whose standing or pending jobs a planned step changes, if it reports that
 abbrev pub rows_in : Next → Option ℕ
 rows_in n = rows_of n.change
 
--- the trees stay, and so many are the units of which the states hold different things
+-- the trees stay, and the states hold different things of exactly this number of units
 abbrev pub DiffersInRows : model.State → model.State → ℕ → Type 0
 DiffersInRows s t n = (t.tree ≡ s.tree) × (t.loaded ≡ s.loaded) × CountsDiffering s t n
 
@@ -124,13 +124,13 @@ pub record HasSameTrees (s t : model.State) : Type 0 where
   pub loaded : t.loaded ≡ s.loaded
   pub boot : t.boot ≡ s.boot
 
--- what is told of the trees that a command leaves holds of them
+-- the claim of `Trees` about the trees after a command is true
 abbrev pub AreTrees : Trees → model.State → model.State → Type 0
 AreTrees Stay s t = HasSameTrees s t
 AreTrees Differ s t = ¬ (t.tree ≡ s.tree)
 AreTrees Untold s t = Unit {0}
 
--- just the same units are known: those of the loaded tree, and all of which the state holds anything
+-- the same units are known: those of the loaded tree, and all of which the state holds anything
 abbrev pub KnowsTheSame : model.State → model.State → Type 0
 KnowsTheSame s t = (unit : List ℕ) → IsKnown s.loaded (model.IsHeld s) unit ↔ IsKnown t.loaded (model.IsHeld t) unit
 
@@ -139,14 +139,14 @@ pub record HasSameTables (s t : model.State) : Type 0 where
   pub trees : HasSameTrees s t
   pub known : KnowsTheSame s t
 
--- all is the same but how units stand, their pending jobs, the moment and the next process number; and so are the names with a number
+-- all is the same but how units stand, their pending jobs, the moment and the next process number; the numbered names are the same too
 pub record HasSameTreesAndNames (s t : Standing) : Type 0 where
   pub tree : (state_of t).tree ≡ (state_of s).tree
   pub loaded : (state_of t).loaded ≡ (state_of s).loaded
   pub boot : (state_of t).boot ≡ (state_of s).boot
   pub names : t.names ≡ s.names
 
--- an event without effect: a command that isn't refused has one always
+-- an event without effect; a command that isn't refused always has one
 abbrev pub LacksEffect : ℕ → model.State → model.Event → Type 0
 LacksEffect t s (model.Commanded command) = ⊥
 LacksEffect t s (model.Happened happening) = model.HasNoEffect t s happening
@@ -156,7 +156,7 @@ abbrev pub waits_to_restart : SubState → Bool
 waits_to_restart AutoRestart = true
 waits_to_restart other = false
 
--- the deadline that is due first, and not past the moment
+-- the deadline that is due first, and not after the moment
 abbrev pub IsDue : ℕ → Timers → ℕ → List ℕ → Type 0
 IsDue t timers deadline unit = IsDueFirst timers deadline unit × (deadline ≤ t)
 
@@ -178,34 +178,34 @@ pub record IsSame (s v : model.State) : Type 0 where
   pub pending : s.pending ≡ v.pending
   pub next : s.next ≡ v.next
 
--- the relation leads to a state, and this is it at the moment
+-- the relation leads to a state, and this is that state with its clock at the moment
 pub record LeadsTo (Relation : List Action → model.State → Type 0) (t : ℕ) (actions : List Action) (v : model.State) : Type 0 where
   pub state : model.State
   pub leads : Relation actions state
   pub is : v ≡ record state { clock = t }
 
--- the rows of a delta lead there, and it has just the rows that differ
+-- the rows of a delta lead there, and the delta has just the rows that differ
 pub record DoesRows (Relation : List Action → model.State → Type 0) (t : ℕ) (s : Standing) (delta : Delta) (actions : List Action) : Type 0 where
   pub leads : LeadsTo Relation t actions (state_of (delta_after delta s))
   pub rows : DiffersInRows (state_of s) (state_of (delta_after delta s)) (vec_len delta.rows)
 
--- a change is one, and tells of how many units what is held differs unless a tree, the boot's id or the known units do
+-- the change has an effect, and reports for how many units the held state differs, unless a tree, the boot's id or the known units differ
 pub record TellsRows (s : Standing) (change : Change) : Type 0 where
   pub effect : is_change change ≡ true
   pub rows : IfSome (rows_of change) (DiffersInRows (state_of s) (state_of (changed change s)))
   pub tables : rows_of change ≡ None → ¬ HasSameTables (state_of s) (state_of (changed change s))
 
--- a change leads there, and tells its rows
+-- a change leads there, and reports its rows
 pub record DoesBy (Relation : List Action → model.State → Type 0) (t : ℕ) (s : Standing) (change : Change) (actions : List Action) : Type 0 where
   pub leads : LeadsTo Relation t actions (state_of (changed change s))
   pub tells : TellsRows s change
 
--- a change to the state that jobs lead to that begin after these actions, at the moment, and what is asked of processes by then
+-- the change leads to the state in which jobs have begun after these actions, at the moment, and these are all actions by then
 pub record Settled (size t : ℕ) (s : Standing) (u : model.State) (before : List Action) (change : Change) (actions : List Action) : Type 0 where
   pub leads : LeadsTo (λ all v. Adds (model.Settles t u) before v all × (¬ model.IsTooHeavy size v)) t actions (state_of (changed change s))
   pub tells : TellsRows s change
 
--- what jobs lead to that begin after these actions is too heavy
+-- the state in which jobs have begun after these actions is too heavy
 pub record SettlesTooHeavy (size t : ℕ) (u : model.State) (before : List Action) (r : Refused) : Type 0 where
   pub actions : List Action
   pub state : model.State
@@ -222,7 +222,7 @@ pub record Obeys (profile : Profile) (size t : ℕ) (s : Standing) (command : mo
   pub room : ¬ model.IsTooHeavy size state
   pub tells : TellsRows s n.change
 
--- what changes by a happening: nothing, where it has no effect; else it leads to what follows, at the moment
+-- the change by a happening: none if it has no effect; otherwise it leads to the state that follows, at the moment
 abbrev pub MetBy : ℕ → Standing → model.Happening → Change → List Action → Type 0
 MetBy t s happening Nothing actions = model.HasNoEffect t (state_of s) happening × (actions ≡ [])
 MetBy t s happening (Rows delta) actions =

@@ -1,4 +1,4 @@
--- When the pending jobs by number are those of the state, and what the state's units tell of deactivating.
+-- When the job table, by number, agrees with the state's pending jobs and with its deactivating units.
 -- Follows no manual page: it turns names into numbers.
 -- Settling stands on this file.
 use Rattle.std.specs.Prelude.{◌≡◌, ◌⊎◌, ◌↔◌, ℕ, Bool, true, false, List, Contains, length}
@@ -21,16 +21,16 @@ is_deactivating other = false
 abbrev pub deactivates : State → List ℕ → Bool
 deactivates s unit = is_deactivating (active_state_of (state_of_unit s.units unit).sub)
 
--- a job of this kind of the unit waits while that counts as deactivating: a start does
+-- a job of this kind waits while its unit counts as deactivating: a start does
 abbrev pub is_held_back : State → List ℕ → JobKind → Bool
 is_held_back s unit Stop = false
 is_held_back s unit Start = deactivates s unit
 
--- with what the state tells of the unit of this number and name
+-- the table with the state's entry for the unit of this number and name
 abbrev pub told_of : State → ℕ → List ℕ → JobsView → JobsView
 told_of s i unit v = with_held_at (with_jobs_at v i (jobs_of_unit s.pending unit)) i (deactivates s unit)
 
--- the jobs are told by the numbers of the graph's units as the state holds them; of a unit that counts as deactivating it may be told, of no other
+-- the table has the state's pending jobs by the graph's numbers; it may mark a unit as deactivating, but only one that is
 pub record Tells (g : GraphView) (s : State) (v : JobsView) : Type 0 where
   pub graph : IsGraph g
   pub same : v.graph ≡ g
@@ -43,6 +43,6 @@ pub record Tells (g : GraphView) (s : State) (v : JobsView) : Type 0 where
 abbrev pub Begins : State → Job → Type 0
 Begins s job = BeginsNext (IsBefore s.loaded) s.units s.pending job
 
--- the names are those that were there, and that of the unit where the state holds anything of it
+-- the names are those from before, and the unit's name if the state holds anything of it
 abbrev pub AddsHeld : State → List ℕ → List (List ℕ) → List (List ℕ) → Type 0
 AddsHeld s name before after = (x : List ℕ) → Contains after x ↔ (Contains before x ⊎ ((x ≡ name) × IsHeld s name))

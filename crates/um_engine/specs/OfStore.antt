@@ -1,6 +1,6 @@
 -- Which refusals are of a store, its device or the children, and never of a step.
 -- Follows no manual page: the refusals are this project's own protocol (docs/FORMATS.md, "Refusals").
--- What the engine says of its refusals stands on this file.
+-- The engine's contracts about refusals stand on this file.
 use Rattle.std.specs.Prelude.{Bool, true, false}
 use Rattle.um_wire.specs.declared.refusal.Refusal.{Refusal}
 use Rattle.um_wire.specs.declared.refusal.Refusal.TheVariants.{Device, Reopen, Damaged, NotFormatted, GenerationsSpent, OtherLayout}

@@ -1,5 +1,5 @@
--- What a command leads to before any job begins, as the state after it, the reply and the actions.
--- Follows no manual page: it is how the engine hands on what a command makes of the state.
+-- The outcome of a command before any job begins: the state after it, the reply and the actions.
+-- Follows no manual page: it is how the engine passes on a command's outcome.
 -- Commands stand on this file.
 use Rattle.std.specs.Prelude.{◌≡◌, ℕ, List, []}
 use Rattle.um_model.specs.Machine as model
@@ -22,12 +22,12 @@ abbrev pub actions_by : Outcome → List Action
 actions_by (Rows work) = work.actions
 actions_by (Tables served reply trees) = []
 
--- work in rows goes over what is served, at the moment; and of tables it is told whether the trees differ
+-- work in rows goes over the served value, at the moment; with tables, the claim of `Trees` about them is true
 abbrev pub IsBasedOn : ServedView → ℕ → Outcome → Type 0
 IsBasedOn v t (Rows work) = WorksOn v work × (work.moment ≡ t)
 IsBasedOn v t (Tables served reply trees) = AreTrees trees v.state served.state
 
--- nothing is answered, and nothing is asked of processes yet
+-- the reply is Done, and there are no actions yet
 pub record IsSilent (o : Outcome) : Type 0 where
   pub reply : reply_by o ≡ model.Done
   pub actions : actions_by o ≡ []

@@ -1,4 +1,4 @@
--- What the code finds of a state by the numbers of a graph's units.
+-- A state's activity and pending jobs, by the numbers of a graph's units.
 -- Follows no manual page: it turns numbers into names.
 -- Plans stand on this file.
 use Rattle.std.specs.Prelude.{◌≡◌, ℕ, List}
@@ -25,7 +25,7 @@ AreActive g s activity = (i : ℕ) (x : List ℕ) → IsNumberOf g i x → activ
 abbrev pub ArePending : GraphView → State → List UnitJobs → Type 0
 ArePending g s pending = (i : ℕ) (x : List ℕ) → IsNumberOf g i x → jobs_at pending i ≡ jobs_of_unit s.pending x
 
--- the state has the jobs of the plan for what is demanded
+-- the state has the jobs of the plan for the demand
 pub record HasPlan (s : State) (root : Demand × List ℕ) (u : State) : Type 0 where
   pub plan : IsPlan (scene_at s root.1) root u.pending
   pub rest : u ≡ record s { pending = u.pending }
@@ -38,7 +38,7 @@ pub record IsTransactionFor (s : State) (root : Demand × List ℕ) (t : Transac
   pub number : IsNumberOf t.graph t.root.1 root.1
   pub demand : t.root.0 ≡ root.0
 
--- a command of an input of this profile is refused for a cause of its own, or for want of room for what comes of it
+-- a command of an input of this profile is refused for a cause of its own, or for want of room for the state that it leads to
 pub data Declines (profile : Profile) (size t : ℕ) (s : State) (command : Command) : Refused → Type 0 where
   for_cause : {r : Refused} → Refuses profile s command r → Declines profile size t s command r
   for_room : {actions : List Action} {u : State} → TakesEffect profile t s (Commanded command) actions u → IsTooHeavy size u

@@ -1,5 +1,5 @@
--- A state with what is known of its units, and the standing that both make.
--- Follows no manual page: it is how the engine keeps what it knows of units.
+-- A state with its `Known`, and the standing that both make.
+-- Follows no manual page: it is how the engine keeps its knowledge of units.
 -- The engine, its steps and the ways back stand on this file.
 use Rattle.std.specs.Prelude.{◌≡◌, ◌+◌, ℕ, true, List, []}
 use Rattle.um_model.specs.Machine.{State}
@@ -14,23 +14,23 @@ pub record ServedView : Type 0 where
   pub state : State
   pub known : KnownView
 
--- units and pending jobs have the numbers of these names in common
+-- units and pending jobs are both numbered by these names
 abbrev pub IsNumberedBy : List (List ℕ) → Standing → Type 0
 IsNumberedBy names s = (s.common ≡ true) × (s.names ≡ names)
 
--- the names that have a number are those of the graph
+-- the numbered names are those of the graph
 abbrev pub standing_of : ServedView → Standing
 standing_of v = record { state = v.state; common = true; names = v.known.graph.names }
 
--- what the trees of a state weigh together
+-- the weight of both trees of a state
 abbrev pub trees_weight : State → ℕ
 trees_weight s = tree_weight s.tree + tree_weight s.loaded.entries
 
--- a step in work that begins in this standing, at the moment
+-- a work that begins in this standing, at the moment
 abbrev pub begun_at : Standing → GraphView → ℕ → WorkView
 begun_at s g moment = record { graph = g; base = s; now = s; moment = moment; actions = [] }
 
--- the step in work goes over what is known and began in what is served, whose trees it leaves as they are
+-- the work goes over `Known` and began in the served state, whose trees it leaves as they are
 pub record WorksOn (v : ServedView) (w : WorkView) : Type 0 where
   pub graph : w.graph ≡ v.known.graph
   pub base : w.base ≡ standing_of v

@@ -1,4 +1,4 @@
-//! Of how many units two states differ, where nothing else does.
+//! The number of units in which two states differ, if nothing else does.
 
 ghost use Rattle.std.specs.Prelude.{◌≡◌, ◌↔◌, ℕ, true, List, Contains, None, length, vec_len, IfOk, IfSome, IsTrue};
 ghost use Rattle.um_engine.specs.Engine.{AreTrees, DiffersInRows, HasSameTreesAndNames, HasSameTables, HasSameTrees, KnowsTheSame};
@@ -16,17 +16,17 @@ use um_graph::known_units;
 use um_name::Names;
 use um_state::{Delta, Numbered, State, Work};
 
-/// What is told of the trees that a command leaves, with no look into them.
+/// Which of a command's trees are new, without a look into them.
 #[derive(Clone, Copy)]
 pub enum Trees {
-    /// Both are as they were, and so is the boot's id.
+    /// Neither tree has changed, nor has the boot's id.
     Stay,
-    /// The tree in hand is another one.
+    /// The tree in hand has changed.
     Differ,
     Untold,
 }
 
-/// Whether the tree in hand, the loaded one, by the same profile, and the boot's id are the same.
+/// Whether the tree in hand, the loaded one with its profile, and the boot's id are the same.
 fn has_same_trees(state: &State, other: &State) -> bool
     ensures { IsTrue result ↔ (((state_of other.now).tree ≡ (state_of state.now).tree)
         × ((state_of other.now).loaded ≡ (state_of state.now).loaded) × ((state_of other.now).boot ≡ (state_of state.now).boot)) }
@@ -40,7 +40,7 @@ fn has_same_trees(state: &State, other: &State) -> bool
     other.boot().as_str() == state.boot().as_str()
 }
 
-/// The same, with a look into the trees only where nothing is told of them.
+/// Whether they are the same, with a look into the trees only if `trees` doesn't say.
 fn are_same(trees: Trees, state: &State, other: &State) -> bool
     requires { AreTrees trees (state_of state.now) (state_of other.now) }
     ensures { IsTrue result ↔ HasSameTrees (state_of state.now) (state_of other.now) }
@@ -52,7 +52,7 @@ fn are_same(trees: Trees, state: &State, other: &State) -> bool
     }
 }
 
-/// The names of the units that are known for the state that is served.
+/// The names of the units that are known for the served state.
 fn known_names(alloc: Global, served: &Served) -> Result<Names, AllocError>
     ensures known { IfOk result (λ names. (unit : List ℕ) → Contains names unit ↔ IsKnown served.now.state.loaded (IsHeld served.now.state) unit) }
     ensures ascending { IfOk result AreAscending }
@@ -69,7 +69,7 @@ fn known_names(alloc: Global, served: &Served) -> Result<Names, AllocError>
     Ok(names)
 }
 
-/// Whether just the same units are known for both.
+/// Whether the same units are known for both.
 fn knows_the_same(alloc: Global, served: &Served, after: &Served) -> Result<bool, AllocError>
     ensures { IfOk result (λ same. IsTrue same ↔ KnowsTheSame served.now.state after.now.state) }
 {
@@ -78,7 +78,7 @@ fn knows_the_same(alloc: Global, served: &Served, after: &Served) -> Result<bool
     Ok(is_same_names(&names, &others))
 }
 
-/// Puts these rows in the place of those that were, from which the work begins. It takes no memory.
+/// Puts these rows in place of those the work began with. It takes no memory.
 fn put_rows(work: &mut Work<'_>, was: Numbered<'_>, rows: Numbered<'_>)
     requires begins { work.old.now ≡ work.old.base }
     requires was { AreRowsOf work.old.base was }
@@ -93,7 +93,7 @@ fn put_rows(work: &mut Work<'_>, was: Numbered<'_>, rows: Numbered<'_>)
     }
 }
 
-/// The rows that differ, where nothing else does.
+/// The rows that differ, if nothing else does.
 fn delta_to(
     alloc: Global,
     base: &State,
@@ -117,7 +117,7 @@ fn delta_to(
     Ok(delta)
 }
 
-/// Of how many units what is held differs, by rows under the same numbers.
+/// The number of units whose held state differs, by rows under the same numbers.
 fn rows_to(alloc: Global, base: &State, after: &State) -> Result<usize, AllocError>
     requires same { HasSameTreesAndNames base.now after.now }
     requires base { base.now.common ≡ true }
@@ -134,7 +134,7 @@ fn rows_to(alloc: Global, base: &State, after: &State) -> Result<usize, AllocErr
     Ok(delta.len())
 }
 
-/// Of how many units what is held differs, where the trees and the known units are the same: by name, since the numbers may be others.
+/// The number of units whose held state differs, if the trees and the known units are the same: by name, since the numbers may differ.
 fn rows_by_name(alloc: Global, served: &Served, after: &Served) -> Result<usize, AllocError>
     requires { HasSameTables served.now.state after.now.state }
     ensures { IfOk result (λ rows. CountsDiffering served.now.state after.now.state rows) }
@@ -145,7 +145,7 @@ fn rows_by_name(alloc: Global, served: &Served, after: &Served) -> Result<usize,
     Ok(rows)
 }
 
-/// Of how many units what is held differs after a step. None where a tree, the boot's id or the known units differ.
+/// The number of units whose held state differs after a step. None if a tree, the boot's id or the known units differ.
 pub fn rows_between(
     alloc: Global,
     served: &Served,

@@ -1,4 +1,4 @@
-//! What a command does, and why it is refused.
+//! The effects of commands, and why they are refused.
 
 ghost use Rattle.std.specs.Prelude.{◌≡◌, [], ℕ, false, None, Err, IfOk, IfErr, OnOk};
 ghost use Rattle.um_engine.specs.Known.{KnowsFor};
@@ -38,7 +38,7 @@ use um_tree::{Entry, Tree};
 use um_unit::Reading;
 use um_wire::{Refusal, no_such_job};
 
-/// Takes out the jobs of the unit that wait. Where none of them waits it is refused (E21).
+/// Takes out the waiting jobs of the unit. It is refused if there is none (E21).
 fn cancel_waiting(work: &mut Work<'_>, unit: &UnitName) -> Result<(), Refusal>
     ensures state { OnOk result (state_of work.new.now
         ≡ model.with_plan (state_of work.old.now) unit.now (cancelled (jobs_of_unit (state_of work.old.now).pending unit.now))) }
@@ -55,7 +55,8 @@ fn cancel_waiting(work: &mut Work<'_>, unit: &UnitName) -> Result<(), Refusal>
     Ok(())
 }
 
-/// The work without the waiting jobs of a unit. Refused is one that is neither found nor held (E7), and one of which no job waits (E21).
+/// The work without the waiting jobs of a unit. It is refused if the unit is neither found nor held (E7), and if none of its jobs waits
+/// (E21).
 fn without_waiting<'s>(
     alloc: Global,
     served: &'s Served,
@@ -74,7 +75,7 @@ fn without_waiting<'s>(
     Ok(work)
 }
 
-/// Refuses a file with the text at the path for the first cause there is, before anything is copied.
+/// Refuses a file with the text at the path for the first cause that applies, before anything is copied.
 fn check_put(alloc: Global, state: &State, path: &str, text: &str) -> Result<(), Refusal>
     ensures ok { OnOk result (put_cause (state_of state.now).tree path.now text.now ≡ None) }
     ensures refused { IfErr result (λ e. ¬ (e ≡ NoMemory) → put_file (state_of state.now).tree path.now text.now ≡ Err (refused_of e)) }
@@ -95,7 +96,7 @@ fn with_file(state: &State, path: &str, text: &str) -> Result<State, Refusal>
     Ok(changed)
 }
 
-/// Refuses a link to the target at the path for the first cause there is, before anything is copied.
+/// Refuses a link to the target at the path for the first cause that applies, before anything is copied.
 fn check_link(alloc: Global, state: &State, path: &str, target: &str) -> Result<(), Refusal>
     ensures ok { OnOk result (link_cause (state_of state.now).tree path.now target.now ≡ None) }
     ensures refused { IfErr result (λ e. ¬ (e ≡ NoMemory) → put_link (state_of state.now).tree path.now target.now ≡ Err (refused_of e)) }
@@ -116,7 +117,7 @@ fn with_link(state: &State, path: &str, target: &str) -> Result<State, Refusal>
     Ok(changed)
 }
 
-/// Refuses a removal at the path for the first cause there is, before anything is copied.
+/// Refuses a removal at the path for the first cause that applies, before anything is copied.
 fn check_remove(alloc: Global, state: &State, path: &str) -> Result<(), Refusal>
     ensures ok { OnOk result (remove_cause (state_of state.now).tree path.now ≡ None) }
     ensures refused { IfErr result (λ e. ¬ (e ≡ NoMemory) → remove_at (state_of state.now).tree path.now ≡ Err (refused_of e)) }
@@ -127,7 +128,7 @@ fn check_remove(alloc: Global, state: &State, path: &str) -> Result<(), Refusal>
     }
 }
 
-/// The state without what stands in its tree in hand at the path.
+/// The state without the entry at the path in its tree in hand.
 fn without_path(state: &State, path: &str) -> Result<State, Refusal>
     ensures changed { (profile : Profile) → IfOk result (λ u. model.Changes profile (state_of state.now) (model.Remove path.now) (state_of u)) }
     ensures refused { (profile : Profile) → RefusesBy (model.Refuses profile (state_of state.now) (model.Remove path.now)) result }
@@ -137,16 +138,16 @@ fn without_path(state: &State, path: &str) -> Result<State, Refusal>
     Ok(changed)
 }
 
-/// What a command leads to, before any job begins, and what is answered.
+/// The outcome of a command before any job begins, and its reply.
 #[derive(Drop)]
 pub enum Outcome<'s> {
-    /// Units and pending jobs alone change, and nothing is answered.
+    /// Units and pending jobs alone change, and the reply is Done.
     Rows(Work<'s>),
-    /// A tree, or what is known of units, is made anew; and what is told of the trees.
+    /// A tree or the `Known` is a new one; with a note which trees are.
     Tables(Served, Reply, Trees),
 }
 
-/// The state as a command left its trees, with nothing new that it holds: what is known stays.
+/// The served value with a command's new trees; the state holds nothing new, so `Known` stays.
 fn kept(served: &Served, state: State) -> Result<Served, AllocError>
     requires { HoldsNoMore served.now.state (state_of state) }
     ensures { IfOk result (λ u. u.state ≡ state_of state) }
@@ -154,7 +155,7 @@ fn kept(served: &Served, state: State) -> Result<Served, AllocError>
     Served::numbered(state, served.share_known()?)
 }
 
-/// What a file with the text at the path leads to: no rows, where it stands there already. No other text is looked into.
+/// The outcome of a file with the text at the path: no rows if it stands there already. No other text is read.
 fn filed<'s>(
     alloc: Global,
     served: &'s Served,
@@ -176,7 +177,7 @@ fn filed<'s>(
     Ok(Outcome::Tables(kept(served, changed)?, Reply::Done, Trees::Differ))
 }
 
-/// What a link to the target at the path leads to: no rows, where it stands there already.
+/// The outcome of a link to the target at the path: no rows if it stands there already.
 fn linked<'s>(
     alloc: Global,
     served: &'s Served,
@@ -198,7 +199,7 @@ fn linked<'s>(
     Ok(Outcome::Tables(kept(served, changed)?, Reply::Done, Trees::Differ))
 }
 
-/// What it leads to that what stands in the tree in hand at the path is removed.
+/// The outcome of removing the entry at the path from the tree in hand.
 fn removed<'s>(alloc: Global, served: &'s Served, path: &str) -> Result<Outcome<'s>, Refusal>
     ensures changed { (profile : Profile) → IfOk result (λ o. model.Changes profile served.now.state (model.Remove path.now) (state_by o)) }
     ensures silent { IfOk result (λ o. IsSilent o) }
@@ -211,7 +212,7 @@ fn removed<'s>(alloc: Global, served: &'s Served, path: &str) -> Result<Outcome<
     Ok(Outcome::Tables(kept(served, changed)?, Reply::Done, Trees::Differ))
 }
 
-/// The tree as it is read once it is loaded for an input of this profile.
+/// The tree as it is read once an input of this profile loads it.
 fn as_loaded<'t>(state: &State, profile: Profile, tree: &'t Tree) -> Reading<'t>
     ensures { tree_read result ≡ model.as_loaded profile (state_of state.now) tree.now }
 {
@@ -231,7 +232,8 @@ fn with_loaded(state: &State, profile: Profile) -> Result<State, AllocError>
     Ok(changed)
 }
 
-/// The state with its tree in hand loaded, for an input of this profile. Refused are too many known units (E13), and pending jobs in a circle (E9).
+/// The state with its tree in hand loaded, for an input of this profile. Refused with too many known units (E13), and with pending jobs in
+/// a circle (E9).
 fn reloaded(alloc: Global, state: &State, profile: Profile) -> Result<Served, Refusal>
     ensures changed { IfOk result (λ u. model.Changes profile (state_of state.now) model.DaemonReload u.state) }
     ensures refused { RefusesBy (model.Refuses profile (state_of state.now) model.DaemonReload) result }
@@ -241,7 +243,7 @@ fn reloaded(alloc: Global, state: &State, profile: Profile) -> Result<Served, Re
     Ok(Served::numbered(changed, known)?)
 }
 
-/// The state with that tree, loaded for an input of this profile, of whose units that is known.
+/// The state with that tree, loaded for an input of this profile, and with this `Known`.
 fn with_tree(
     state: &State,
     tree: Tree,
@@ -256,9 +258,9 @@ fn with_tree(
     Served::numbered(changed, known)
 }
 
-/// The state with the tree that comes of enabling the unit or its kin, loaded, for an input of this profile. Refused are, in this order, links that can't be made
-/// (E12, E11, E13 `entries`), too many known units (E13 `units`), a unit that can't be enabled (E4 to E6), and pending jobs in a
-/// circle (E9).
+/// The state after the unit was enabled, disabled or the like and the tree loaded, for an input of this profile. Refused, in this order:
+/// links that can't be made (E12, E11, E13 `entries`), too many known units (E13 `units`), a unit that can't be enabled (E4 to E6), and
+/// pending jobs in a circle (E9).
 fn installed(
     alloc: Global,
     state: &State,
@@ -287,7 +289,7 @@ fn installed(
     Ok((served, Reply::Relinked { made, removed }))
 }
 
-/// What a command of an input of this profile leads to at the moment, before any job begins; or it is refused.
+/// The outcome of a command of an input of this profile at the moment, before any job begins; or its refusal.
 pub fn done<'s>(
     alloc: Global,
     served: &'s Served,

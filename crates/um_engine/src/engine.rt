@@ -1,3 +1,5 @@
+//! The engine: it plans a step, takes it, takes it back, and answers queries.
+
 ghost use Rattle.std.specs.Prelude.{◌≡◌, ◌≢◌, ◌↔◌, [], true, false, All, None, is_some, map, vec_len, IfOk, IfErr, IfSome, IsTrue, OnOk};
 ghost use Rattle.um_engine.specs.Engine.{AreTrees, DiffersInRows, HasSameTables, KeepsExact, LacksEffect, LeadsTo, Obeys, Settled, SettlesTooHeavy, TellsRows, changed, standing_in, state_in, size_in, has_effect_in, rows_in, state_after, reply_in, actions_in, state_before, served_after, served_before, served_by, served_in};
 ghost use Rattle.um_engine.specs.Exact.{IsExact, IsExactIfFew, LetsNoneGo};
@@ -32,14 +34,14 @@ use um_model::{Moment, Profile};
 use um_state::{Action, Command, Delta, Event, Input, Query, Reply, State};
 use um_wire::Refusal;
 
-/// The manager's state, what is known of its units, and the size of its store.
+/// The manager's state, its `Known`, and the size of its store.
 pub struct Engine {
     alloc: Global,
     served: Served,
     size: u64,
 }
 
-// One call, where a derived one is taken apart at each exit.
+// One call for the prover, which takes a derived `Drop` apart at each exit.
 impl Drop for Engine {
     fn drop(self) {
         let Engine {
@@ -50,17 +52,18 @@ impl Drop for Engine {
     }
 }
 
-/// What a step changes.
+/// The change that a step makes.
 #[derive(Drop)]
 pub(crate) enum Change {
     Nothing,
     /// The rows of some units, the moment and the next process number; trees and numbers stay.
     Rows(Delta),
-    /// All: the state, and what is known of its units. And of how many units what is held differs, where neither trees nor known units do.
+    /// All: the state and its `Known`; and the number of units whose held state differs, if neither a tree, the boot's id nor the known
+    /// units differ.
     Tables(Served, Option<usize>),
 }
 
-/// A step that is planned and not yet taken: of use for the engine that planned it, in the state that it had then.
+/// A step that is planned and not yet taken. Only the engine that planned it may take it, in the state that it had then.
 #[derive(Drop)]
 pub struct Next {
     change: Change,
@@ -69,8 +72,8 @@ pub struct Next {
 }
 
 impl Next {
-    /// Of how many units the fields or pending jobs differ after the step. None where it changes a tree, the boot's id or which units are known.
-    /// It takes no memory.
+    /// The number of units whose fields or pending jobs differ after the step. None if it changes a tree, the boot's id or which units are
+    /// known. It takes no memory.
     pub fn rows(&self) -> Option<usize>
         ensures { result ≡ rows_in self.now }
     {
@@ -81,8 +84,8 @@ impl Next {
         }
     }
 
-    /// Whether the step changes anything: the end of a process that isn't live, a report for which no unit waits, a tick at which
-    /// nothing happens and the boot that is known don't, and need no record.
+    /// Whether the step changes anything. Four steps don't, and need no record: the end of a process that isn't live, a report for which no
+    /// unit waits, a tick at which nothing happens, and a boot with the known id.
     pub fn has_effect(&self) -> bool
         ensures { result ≡ has_effect_in self.now }
     {
@@ -93,15 +96,15 @@ impl Next {
     }
 }
 
-/// The way back from a step that was taken: of use for the engine that took it, in the state in which it was left.
+/// The way back from a step that was taken. Only the engine that took it may go back, in the state that the step left.
 #[derive(Drop)]
 pub struct Back {
     change: Change,
 }
 
 impl Engine {
-    /// The engine in this state, over a store of so many bytes. None where such a store may not hold the state: where it weighs too
-    /// much, where too many units are known by its loaded tree, or where its pending jobs wait for one another in a circle.
+    /// The engine in this state, over a store of `size` bytes. None if such a store may not hold the state: it weighs too much, too many
+    /// units are known by its loaded tree, or its pending jobs wait for one another in a circle.
     pub fn of(alloc: Global, state: State, size: u64) -> Result<Option<Engine>, AllocError>
         ensures state { IfOk result (λ made. IfSome made (λ e. state_in e ≡ state_of state)) }
         ensures size { IfOk result (λ made. IfSome made (λ e. size_in e ≡ size)) }
@@ -137,7 +140,7 @@ impl Engine {
         self.served.state().clock()
     }
 
-    /// The step that a command is at the moment, in an input of this profile.
+    /// The step of a command at the moment, in an input of this profile.
     fn obeyed(&self, moment: Moment, profile: Profile, command: &Command) -> Result<Next, Refusal>
         ensures obeys { IfOk result (λ next. Obeys profile (size_in self.now) moment (standing_in self.now) (command_of command.now) next) }
         ensures exact { IfOk result (λ next. KeepsExact (served_in self.now) next.change) }
@@ -152,7 +155,7 @@ impl Engine {
         }
     }
 
-    /// The step to where the work comes once jobs have begun.
+    /// The step to the state of the work, once jobs have begun.
     fn with_rows(&self, mut work: Work<'_>) -> Result<Next, Refusal>
         requires { WorksOn self.now.served work }
         ensures settled { IfOk result (λ next.
@@ -172,7 +175,7 @@ impl Engine {
         })
     }
 
-    /// Lets jobs begin in the work until none is ready. Refused is what weighs too much then (E14).
+    /// Lets jobs begin in the work until none is ready. It is refused if the state weighs too much then (E14).
     fn settle_rows(&self, work: &mut Work<'_>) -> Result<(), Refusal>
         requires { WorksOn self.now.served work.old }
         ensures settles { OnOk result (Goes (model.Settles work.old.moment (state_of work.old.now)) work.old work.new) }
@@ -186,7 +189,7 @@ impl Engine {
         Ok(())
     }
 
-    /// The step to these tables once jobs have begun at the moment.
+    /// The step to these tables, once jobs have begun at the moment.
     fn with_tables(
         &self,
         served: Served,
@@ -209,7 +212,7 @@ impl Engine {
         })
     }
 
-    /// The change to these tables once jobs have begun at the moment, and what is asked of processes.
+    /// The change to these tables once jobs have begun at the moment, and the actions.
     fn change_to(
         &self,
         served: Served,
@@ -227,8 +230,8 @@ impl Engine {
         Ok((change, actions))
     }
 
-    /// Lets jobs begin in these tables at the moment, with what is known of just the units that count then, and tells what is asked of
-    /// processes. Refused is what weighs too much then (E14).
+    /// Lets jobs begin in these tables at the moment, with a `Known` of just the units that count then, and returns the actions. It is
+    /// refused if the state weighs too much then (E14).
     fn settle_in_room(
         &self,
         served: Served,
@@ -246,7 +249,7 @@ impl Engine {
         Ok((after, actions))
     }
 
-    /// The step that the input is. It is refused as the machine refuses it, or for want of memory (E15); nothing has changed then.
+    /// The step of the input. It is refused as the machine refuses it, or for want of memory (E15); nothing has changed then.
     pub fn plan(&self, input: &Input) -> Result<Next, Refusal>
         ensures ok { IfOk result (λ next.
             Step (size_in self.now) (state_in self.now) (input_of input.now) (reply_in next) (actions_in next)
@@ -282,8 +285,8 @@ impl Engine {
         }
     }
 
-    /// Whether the input is one of those without effect that are known without a plan: a report for which no unit waits, as most are. Of any
-    /// other input nothing is told. It takes no memory.
+    /// Whether the input has no effect and that is clear without a plan: a report for which no unit waits, as most are. `false` says
+    /// nothing of the input. It takes no memory.
     pub fn is_idle(&self, input: &Input) -> bool
         ensures lacks { result ≡ true
             → LacksEffect (moment_of (state_in self.now) (input_of input.now).moment) (state_in self.now) (input_of input.now).event }
@@ -295,7 +298,7 @@ impl Engine {
         }
     }
 
-    /// Takes a step that this engine planned in the state in which it stands. It takes no memory and always succeeds.
+    /// Takes a step that this engine planned in its present state. It takes no memory and always succeeds.
     pub fn commit(&mut self, next: Next) -> (Reply, Vec<Action>, Back)
         ensures state { standing_in self.new ≡ state_after next (standing_in self.old) }
         ensures size { size_in self.new ≡ size_in self.old }
@@ -324,7 +327,7 @@ impl Engine {
         (reply, actions, Back { change })
     }
 
-    /// Takes back the step that the last commit of this engine took. It takes no memory and always succeeds, as `commit`.
+    /// Takes back the step that the last commit of this engine took. Like `commit`, it takes no memory and always succeeds.
     pub fn back(&mut self, back: Back)
         ensures state { standing_in self.new ≡ state_before back (standing_in self.old) }
         ensures serves { served_in self.new ≡ served_before back (served_in self.old) }
@@ -353,8 +356,7 @@ impl Engine {
     }
 }
 
-/// The state with what is known of its units. Refused are too many known units (E13), and pending jobs that wait for one another in a
-/// circle (E9).
+/// The state with its `Known`. Refused with too many known units (E13), and with pending jobs that wait for one another in a circle (E9).
 fn served_of(alloc: Global, state: State) -> Result<Served, Refusal>
     ensures state { IfOk result (λ served. served.state ≡ state_of state) }
     ensures exact { IfOk result IsExactIfFew }
@@ -364,8 +366,8 @@ fn served_of(alloc: Global, state: State) -> Result<Served, Refusal>
     Ok(Served::numbered(state, known)?)
 }
 
-/// The state with what is known of its units, if a store of so many bytes may hold it. Refused are too many known units (E13), pending
-/// jobs that wait for one another in a circle (E9), and a weight beyond the size (E14).
+/// The state with its `Known`, if a store of `size` bytes may hold it. Refused with too many known units (E13), with pending jobs that wait
+/// for one another in a circle (E9), and with a weight above the size (E14).
 fn servable(alloc: Global, state: State, size: u64) -> Result<Served, Refusal>
     ensures state { IfOk result (λ served. served.state ≡ state_of state) }
     ensures servable { IfOk result (λ _. IsServable size (state_of state)) }
@@ -377,7 +379,7 @@ fn servable(alloc: Global, state: State, size: u64) -> Result<Served, Refusal>
     Ok(served)
 }
 
-/// Lets jobs begin at the moment until none is ready, and tells what is asked of processes.
+/// Lets jobs begin at the moment until none is ready, and returns the actions.
 fn settle_served(
     alloc: Global,
     served: &mut Served,
@@ -392,7 +394,7 @@ fn settle_served(
     Ok(actions)
 }
 
-/// What leads from what is served to these tables: with a count of rows, where no tree differs and the same units are known.
+/// The change from the served value to these tables: with a count of rows, if no tree differs and the same units are known.
 fn change_between(
     alloc: Global,
     served: &Served,
@@ -408,7 +410,7 @@ fn change_between(
     Ok(Change::Tables(after, rows))
 }
 
-/// What is served with the delta taken, and with what is known of just its units then.
+/// The served value with the delta taken, and with a `Known` of just its units then.
 fn after_delta(alloc: Global, served: &Served, delta: Delta) -> Result<Served, AllocError>
     ensures state { IfOk result (λ after. after.state ≡ state_of (delta_after delta (standing_of served.now))) }
     ensures exact { IfOk result IsExactIfFew }
@@ -420,7 +422,7 @@ fn after_delta(alloc: Global, served: &Served, delta: Delta) -> Result<Served, A
     Ok(exact)
 }
 
-/// The change that a delta is. Where after it nothing is held any more of a unit that is known by that alone, what is known is made anew.
+/// The change that a delta makes. `Known` is made again if a unit that was known only for what the state held of it is no longer held.
 pub(crate) fn change_by(alloc: Global, served: &Served, delta: Delta) -> Result<Change, AllocError>
     requires { CountsDiffering served.now.state (state_of (delta_after delta (standing_of served.now))) (vec_len delta.rows) }
     ensures leads { IfOk result (λ change. state_of (changed change (standing_of served.now)) ≡ state_of (delta_after delta (standing_of served.now))) }

@@ -1,4 +1,4 @@
-//! What follows from what happens.
+//! The changes that happenings make.
 
 ghost use Rattle.std.specs.Bool.{Decides};
 ghost use Rattle.std.specs.Prelude.{◌≡◌, ◌↔◌, ◌&&◌, ℕ, true, [], Contains, map, vec_len, IfOk, IsTrue};
@@ -25,7 +25,7 @@ use um_service::has_one_command;
 use um_state::{Action, BootId, Delta, Happening, State};
 use um_wire::Refusal;
 
-/// What the end of a process is for its unit.
+/// The unit's event at the end of its process.
 fn end_of(state: UnitState, number: u64, end: End) -> UnitEvent
     ensures { result ≡ model.end_of state number end }
 {
@@ -35,8 +35,7 @@ fn end_of(state: UnitState, number: u64, end: End) -> UnitEvent
     }
 }
 
-/// What changes where something happens to a unit of the graph, and jobs begin where that makes them ready; and what is asked of
-/// processes.
+/// The change when something happens to a unit of the graph and jobs that this makes ready begin; and the actions.
 fn after_happening(
     alloc: Global,
     served: &Served,
@@ -57,7 +56,7 @@ fn after_happening(
     Ok((change, actions))
 }
 
-/// What changes by the end of a process; nothing where no live process has the number.
+/// The change by the end of a process; none if no live process has the number.
 fn after_end(
     alloc: Global,
     served: &Served,
@@ -88,15 +87,15 @@ fn is_number(number: u64, process: Option<ProcessNumber>) -> bool
     }
 }
 
-/// Whether a unit that stands so may wait for a report of the process with the number: it is its main process, and the start goes on.
+/// Whether a unit that stands so may wait for a report of the process with this number: it is the main process, and the start isn't done.
 fn may_await(stands: UnitState, number: u64) -> bool
     ensures { result ≡ (waits_for_report stands.sub && is_number number stands.main) }
 {
     stands.sub.waits_for_report() && is_number(number, stands.main)
 }
 
-/// Whether the unit waits for the report that the program of its main process runs, and that process has the number. The graph is asked
-/// only where the unit stands so.
+/// Whether the unit waits for the report that the program of its main process runs, and that process has the number. The graph is looked
+/// into only if the unit stands so.
 fn awaits_report(graph: &Graph, stands: UnitState, number: u64, unit: &UnitName) -> bool
     ensures { (s : model.State) → Serves graph.now s → Contains graph.now.names unit.now → stands ≡ state_of_unit s.units unit.now
         → Decides result (model.AwaitsReport s number unit.now) }
@@ -110,7 +109,7 @@ fn awaits_report(graph: &Graph, stands: UnitState, number: u64, unit: &UnitName)
     }
 }
 
-/// Whether what happens is a report for which no unit waits, as it is known without a look at any unit. Of anything else nothing is told.
+/// Whether this is a report for which no unit waits, as far as that is clear without a look at any unit. `false` says nothing.
 pub fn is_unawaited(state: &State, happening: &Happening) -> bool
     ensures { result ≡ true → (t : ℕ) → model.HasNoEffect t (state_of state.now) (happening_of happening.now) }
 {
@@ -120,7 +119,7 @@ pub fn is_unawaited(state: &State, happening: &Happening) -> bool
     }
 }
 
-/// What changes by the report that the program of a process runs; nothing where no unit waits for it.
+/// The change by the report that a process's program runs; none if no unit waits for it.
 fn after_report(
     alloc: Global,
     served: &Served,
@@ -143,14 +142,14 @@ fn after_report(
     Ok((change, actions))
 }
 
-/// Whether the next number is as it was.
+/// Whether the next number hasn't changed.
 fn keeps_next(work: &Work<'_>, state: &State) -> bool
     ensures { IsTrue result ↔ ((state_of work.now.now).next ≡ (state_of state.now).next) }
 {
     work.next().get() == state.next().get()
 }
 
-/// Whether a tick changed no row and no number, and asked for nothing.
+/// Whether a tick changed no row and no number, and took no action.
 fn is_idle(keeps_next: bool, delta: &Delta, actions: &[Action]) -> bool
     ensures { IsTrue result ↔ ((keeps_next ≡ true) × (vec_len delta.now.rows ≡ 0) × (map action_of actions.now ≡ [])) }
 {
@@ -169,8 +168,8 @@ fn fired<'s>(alloc: Global, served: &'s Served, moment: Moment) -> Result<Work<'
     Ok(work)
 }
 
-/// What changes by a tick; nothing where it leaves all rows as they are and asks for nothing. Where no deadline is due that is so, and
-/// nothing is copied.
+/// The change by a tick; none if it leaves all rows as they are and takes no action. With no deadline due there is none, and nothing is
+/// copied.
 fn after_tick(
     alloc: Global,
     served: &Served,
@@ -193,7 +192,7 @@ fn after_tick(
     Ok((change, actions))
 }
 
-/// Want of memory, as the one cause for which nothing else is refused.
+/// Want of memory, as the one cause for which a happening is refused.
 fn want_of_memory(refusal: Refusal) -> AllocError
     requires { ¬ ¬ (refusal ≡ NoMemory) }
 {
@@ -203,8 +202,7 @@ fn want_of_memory(refusal: Refusal) -> AllocError
     }
 }
 
-/// What changes by a boot with this id: what stood under `run/` is gone, and units are known anew. Nothing where that is the boot that is
-/// known.
+/// The change by a boot with this id: the entries under `run/` are gone, and `Known` is made again. None if the id is the known one.
 fn after_boot(
     alloc: Global,
     served: &Served,
@@ -228,7 +226,7 @@ fn after_boot(
     }
 }
 
-/// What changes by what happens at the moment, and what is asked of processes.
+/// The change by a happening at the moment, and the actions.
 pub fn met(
     alloc: Global,
     served: &Served,

@@ -1,4 +1,4 @@
-//! What a command demands of a unit, and what a job that begins is for it.
+//! The demand of a command on its unit, and the event with which a job begins.
 
 ghost use Rattle.std.specs.Prelude.{◌≡◌};
 ghost use Rattle.um_model.specs.Machine.{begins, demand_of};
@@ -6,7 +6,7 @@ ghost use Rattle.um_model.specs.Machine.{begins, demand_of};
 use um_jobs::is_active;
 use um_model::{ActiveState, Demand, JobKind, UnitEvent, UnitVerb};
 
-/// What a command demands of its unit: a try-restart nothing where that isn't active.
+/// A command's demand on its unit; for try-restart there is none unless the unit is active.
 pub fn demand_of(verb: UnitVerb, active: ActiveState) -> Option<Demand>
     ensures { result ≡ demand_of verb active }
 {
@@ -19,7 +19,7 @@ pub fn demand_of(verb: UnitVerb, active: ActiveState) -> Option<Demand>
     }
 }
 
-/// What a job that begins is for its unit.
+/// The unit's event when a job of this kind begins.
 pub fn begins(kind: JobKind) -> UnitEvent
     ensures { result ≡ begins kind }
 {

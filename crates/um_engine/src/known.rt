@@ -1,4 +1,4 @@
-//! What is known of the units of a tree.
+//! What the engine knows of the units of a tree.
 
 ghost use Rattle.std.specs.Prelude.{◌≡◌, ◌⊎◌, ◌↔◌, ◌<◌, ℕ, false, true, All, List, Contains, IfOk, IfErr, IsTrue, OnOk, Option, Some, length, option_copied, option_map, unwrap_or};
 ghost use Rattle.um_engine.specs.Exact.{LetsNoneGo, holds_none};
@@ -22,8 +22,8 @@ use um_state::{Row, State};
 use um_unit::Reading;
 use um_wire::Refusal;
 
-/// The graph of a tree, the units beside those of the tree for which it was made, and the units that are known without the tree's
-/// entries under `run/`.
+/// The graph of a tree, the units beside those of the tree for which it was made, and the units that are known without the tree's entries
+/// under `run/`.
 pub struct Known {
     graph: Graph,
     /// Those of its units, each with the number that it has there.
@@ -31,9 +31,9 @@ pub struct Known {
     extra: Vec<UnitName>,
     /// By number: whether the unit is one of those.
     is_extra: Vec<bool>,
-    /// In the order of their names; None where no entry stands under `run/`, since they are those of the graph then.
+    /// In the order of their names; None if no entry stands under `run/`, since they are those of the graph then.
     lasting: Option<Vec<UnitName>>,
-    /// The numbers of the graph's units that aren't among them: those that only entries under `run/` name, and few as a rule.
+    /// The numbers of the graph's units that aren't among `lasting`: those that only entries under `run/` name, and few as a rule.
     passing: Vec<usize>,
 }
 
@@ -47,7 +47,7 @@ impl Model for Known {
         × AreMarked k.graph.names k.extra.items k.is_extra.items };
 }
 
-// One call, where a derived one is taken apart at each exit.
+// One call for the prover, which takes a derived `Drop` apart at each exit.
 impl Drop for Known {
     fn drop(self) {
         let Known {
@@ -104,8 +104,8 @@ fn names_of(alloc: Global, graph: &Graph) -> Result<Names, AllocError>
     Ok(names)
 }
 
-/// The units that are known by the tree without its entries under `run/`, with those that are named beside it; None where it has no
-/// such entries.
+/// The units that are known by the tree without its entries under `run/`, with those that are named beside it; None if it has no such
+/// entries.
 fn lasting(
     alloc: Global,
     reading: Reading<'_>,
@@ -185,7 +185,7 @@ fn marked(alloc: Global, graph: &Graph, units: &[UnitName]) -> Result<Vec<bool>,
     Ok(marks)
 }
 
-/// Adds the unit behind the others, unless it is among the ones that are known and those that last; these stand in the order of their names.
+/// Appends the unit, unless it is among the known and the lasting ones; these stand in the order of their names.
 fn push_other(
     others: &mut Vec<UnitName>,
     known: &[UnitName],
@@ -203,7 +203,7 @@ fn push_other(
     Ok(())
 }
 
-/// Those of the units that aren't among the ones that are known, or not among those that last; these stand in the order of their names.
+/// Those of the units that aren't among the known ones, or not among the lasting ones; these stand in the order of their names.
 fn others(
     alloc: Global,
     units: &[UnitName],
@@ -220,7 +220,7 @@ fn others(
     Ok(others)
 }
 
-/// Whether the unit is among the ones that are known, and among those that last where these are told apart.
+/// Whether the unit is among the known ones, and among the lasting ones if there is a list of these.
 fn is_named(known: &[UnitName], lasting: &Option<Vec<UnitName>>, unit: &UnitName) -> bool
     ensures { IsTrue result → Contains known.now unit.now }
 {
@@ -233,7 +233,7 @@ fn is_named(known: &[UnitName], lasting: &Option<Vec<UnitName>>, unit: &UnitName
     }
 }
 
-/// Those of the units that aren't known by the tree itself, with its entries under `run/` and without them.
+/// Those of the units that aren't known by the tree itself, both with its entries under `run/` and without them.
 fn unnamed(
     alloc: Global,
     reading: Reading<'_>,
@@ -252,7 +252,7 @@ fn unnamed(
 }
 
 impl Known {
-    /// What is known of the units of the tree as it is read, with those that the state holds and one that is named. Refused are too many (E13
+    /// The `Known` of the tree as it is read, with the units that the state holds and the named one. Refused with too many units (E13
     /// `units`).
     pub fn of(
         alloc: Global,
@@ -273,7 +273,7 @@ impl Known {
         Ok(Rc::new(alloc, known)?)
     }
 
-    /// What is known of the units of the tree, with these beside them. Refused are too many (E13 `units`).
+    /// The `Known` of the tree, with these units beside it. Refused with too many units (E13 `units`).
     pub fn with_units(
         alloc: Global,
         reading: Reading<'_>,
@@ -300,8 +300,8 @@ impl Known {
         })
     }
 
-    /// What is known of the units of the state's loaded tree, with just those that the state holds: made for those of them alone that the
-    /// tree doesn't name by itself, so that it stays when all else is let go. Refused are too many (E13 `units`).
+    /// The `Known` of the state's loaded tree, with just the units that the state holds. It is made for those alone that the tree doesn't
+    /// name by itself, so that it stays when all others are let go. Refused with too many units (E13 `units`).
     pub fn of_held(alloc: Global, state: &State) -> Result<Rc<Known>, Refusal>
         ensures knows { IfOk result (λ k. KnowsFor k.value (state_of state.now)) }
         ensures held { IfOk result (λ k. (unit : List ℕ) → Contains k.value.extra unit → IsHeld (state_of state.now) unit) }
@@ -315,7 +315,7 @@ impl Known {
         Ok(Rc::new(alloc, known)?)
     }
 
-    /// The graph.
+    /// The graph of the tree and of the units beside it.
     pub fn graph(&self) -> &Graph
         ensures { result.now ≡ self.now.graph }
     {
@@ -329,7 +329,7 @@ impl Known {
         &self.names
     }
 
-    /// Whether each unit for which the graph was made is held by the state, or is the one that is named.
+    /// Whether each unit for which the graph was made is held by the state, or is the named one.
     fn is_made_for(&self, state: &State, named: Option<&UnitName>) -> bool
         ensures { IsTrue result → (unit : List ℕ) → Contains self.now.extra unit → IsHeldWith (state_of state.now) (option_copied named.entry) unit }
     {
@@ -341,7 +341,7 @@ impl Known {
         true
     }
 
-    /// Whether the unit that is named is known.
+    /// Whether the named unit is known.
     fn knows(&self, named: Option<&UnitName>) -> bool
         ensures { IsTrue result → (unit : List ℕ) → option_copied named.entry ≡ Some unit → Contains self.now.graph.names unit }
     {
@@ -361,8 +361,8 @@ impl Known {
         }
     }
 
-    /// Whether each unit of the graph that the state holds, or that is named, is known without the entries under `run/` too: those
-    /// that only such entries name aren't, and no other is looked at.
+    /// Whether each unit of the graph that the state holds, or that is named, is known without the entries under `run/` too. Only the units
+    /// in `passing` are looked at: no other can fail.
     pub fn lasts_for(&self, state: &State, named: Option<&UnitName>) -> bool
         ensures { IsTrue result → (unit : List ℕ) → Contains self.now.graph.names unit → IsHeldWith (state_of state.now) (option_copied named.entry) unit
             → Contains self.now.lasting unit }
@@ -375,7 +375,7 @@ impl Known {
         true
     }
 
-    /// The same of the unit with this number.
+    /// The same for the unit with this number.
     fn lasts_at(&self, state: &State, named: Option<&UnitName>, number: usize) -> bool
         ensures { IsTrue result → (unit : List ℕ) → IsNumberOf self.now.graph number unit → IsHeldWith (state_of state.now) (option_copied named.entry) unit
             → Contains self.now.lasting unit }
@@ -386,7 +386,7 @@ impl Known {
         }
     }
 
-    /// Whether after these rows nothing is held any more of a unit for which the graph was made: no other row is looked at.
+    /// Whether after these rows nothing is held any more of a unit for which the graph was made. No other row is looked at.
     pub fn is_let_go(&self, rows: &[Row]) -> bool
         ensures stays { result ≡ false → All (LetsNoneGo self.now) rows.now }
         ensures goes { result ≡ true → ¬ All (LetsNoneGo self.now) rows.now }
@@ -423,8 +423,7 @@ impl Known {
         self.is_made_for(state, None)
     }
 
-    /// Whether what is known for a state is exactly what counts by its loaded tree, with the units that it holds and the one that
-    /// is named.
+    /// Whether this is exactly the `Known` of the state's loaded tree, with the units that the state holds and the named one.
     pub fn fits(&self, state: &State, named: Option<&UnitName>) -> bool
         ensures graph { IsTrue result → KnowsFor self.now (state_of state.now)
             → IsGraphFor (state_of state.now).loaded (IsHeldWith (state_of state.now) (option_copied named.entry)) self.now.graph }
@@ -452,7 +451,7 @@ impl Known {
         true
     }
 
-    /// The same of the unit with this number.
+    /// The same for the unit with this number.
     fn lasts_at_in(&self, work: &Work<'_>, number: usize) -> bool
         requires { work.now.graph ≡ self.now.graph }
         ensures { IsTrue result → (unit : List ℕ) → IsNumberOf self.now.graph number unit → IsHeld (state_of work.now.now) unit → Contains self.now.lasting unit }
@@ -463,7 +462,7 @@ impl Known {
         }
     }
 
-    /// Whether of each unit for which the graph was made the work holds something.
+    /// Whether the work holds something of each unit for which the graph was made.
     fn is_made_in(&self, work: &Work<'_>) -> bool
         ensures { IsTrue result → (unit : List ℕ) → Contains self.now.extra unit → IsHeld (state_of work.now.now) unit }
     {
@@ -475,7 +474,7 @@ impl Known {
         true
     }
 
-    /// Whether what is known is exactly what counts by the loaded tree, with the units of which the work holds anything.
+    /// Whether this is exactly the `Known` of the loaded tree, with the units of which the work holds anything.
     pub fn fits_in(&self, work: &Work<'_>) -> bool
         requires { work.now.graph ≡ self.now.graph }
         ensures { IsTrue result → KnowsFor self.now (state_of work.now.now) → IsGraphFor (state_of work.now.now).loaded (IsHeld (state_of work.now.now)) self.now.graph }
@@ -497,7 +496,7 @@ fn is_held_in(work: &Work<'_>, unit: &UnitName) -> bool
     }
 }
 
-/// Whether by the row nothing is held of its unit.
+/// Whether nothing is held of the row's unit by the row.
 fn is_empty(row: &Row) -> bool
     ensures { result ≡ holds_none row.now }
 {

@@ -1,3 +1,5 @@
+//! Theorems about the machine: its steps, its runs and its weight.
+
 ghost use Rattle.std.specs.Prelude.{◌≡◌, ◌≢◌, ◌↔◌, ◌<◌, ◌≤◌, ◌++◌, ℕ, List, All, length, None};
 ghost use Rattle.um_model.specs.Begun.{WasNext, begun_in};
 ghost use Rattle.um_model.specs.Finished.{Finishes, IsAtRest, PutsNoStart};
@@ -25,7 +27,7 @@ pub fn a_step_has_one_outcome()
         → Step size s input r a t → Step size s input q b u → IsSameOutcome r q a b t u }
 {}
 
-/// A query has one reply, which the state tells.
+/// A query has one reply, which the state determines.
 pub fn a_query_has_one_reply()
     ensures { (s : State) (query : Query) (r q : Reply) → IsReplyTo s query r → IsReplyTo s query q → r ≡ q }
 {}
@@ -41,7 +43,7 @@ pub fn a_run_has_one_end()
     ensures { (size : ℕ) (s t u : State) (inputs : List Input) → Run size s inputs t → Run size s inputs u → t ≡ u }
 {}
 
-/// A run over two lists, one behind the other, is a run over the first and then one over the second.
+/// A run over two lists, one after the other, is a run over the first and then one over the second.
 pub fn runs_join()
     ensures { (size : ℕ) (s u : State) (p q : List Input)
         → ((t : State) × Run size s p t × Run size t q u) ↔ Run size s (p ++ q) u }
@@ -57,8 +59,8 @@ pub fn the_pending_jobs_have_no_cycle()
     ensures { (size : ℕ) (s : State) (inputs : List Input) (t : State) → IsBlank s → Run size s inputs t → IsFree t }
 {}
 
-/// The machine is never stuck: where a job is pending after a run from a state in which nothing is held, some pending job's unit is in
-/// start or in a stop state and has a live process.
+/// The machine is never stuck: if a job is pending after a run from a state in which nothing is held, some pending job's unit is in start
+/// or in a stop state and has a live process.
 pub fn the_machine_is_never_stuck()
     ensures { (size : ℕ) (s : State) (inputs : List Input) (t : State) → IsBlank s → Run size s inputs t → IsNotStuck t }
 {}
@@ -76,7 +78,7 @@ pub fn each_state_has_one_weight()
     ensures heavy { (size : ℕ) (s : State) (weight : ℕ) → Weighs s weight → IsTooHeavy size s ↔ size < weight }
 {}
 
-/// What happens is never refused, and never raises the weight of the state.
+/// A happening is never refused, and never raises the weight of the state.
 pub fn what_happens_never_raises_the_weight()
     ensures { (size : ℕ) (s : State) (profile : Profile) (moment : ℕ) (happening : Happening) (reply : Reply) (actions : List Action) (t : State)
         → Step size s (record { profile = profile; moment = moment; event = Happened happening }) reply actions t → (reply ≡ Done) × WeighsNoMore t s }
@@ -111,8 +113,8 @@ pub fn an_input_that_is_not_refused_is_short()
         → (10 ≤ length (input_spelling input)) × (length (input_spelling input) ≤ input_limit) }
 {}
 
-/// A finished job isn't repeated: where a oneshot finished in a step and no start of it is pending after that, it is at rest after
-/// each further run in which no command puts a start of it.
+/// A finished job isn't repeated: if a oneshot finished in a step and no start of it is pending after that, it is at rest after each
+/// further run in which no command puts a start of it.
 pub fn a_finished_job_is_not_repeated()
     ensures { (size : ℕ) (s t u : State) (unit : List ℕ) (input : Input) (inputs : List Input) (reply : Reply) (actions : List Action)
         → Step size s input reply actions t → Finishes s t unit → (jobs_of_unit t.pending unit).start ≡ None

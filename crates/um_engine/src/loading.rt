@@ -1,4 +1,4 @@
-//! What becomes of the state where a tree is loaded (systemctl(1), "daemon-reload").
+//! What loading a tree does to the state (systemctl(1), "daemon-reload").
 
 ghost use Rattle.std.specs.Prelude.{◌≡◌, IfOk, Contains, ℕ, List};
 ghost use Rattle.um_engine.specs.Known.{KnowsFor};
@@ -18,7 +18,7 @@ use um_transact::check_pending;
 use um_unit::Reading;
 use um_wire::Refusal;
 
-/// Refuses pending jobs that would wait for one another in a circle by the order of the tree for which that is known (E9).
+/// Refuses pending jobs that would wait for one another in a circle by the order of this `Known`'s tree (E9).
 pub fn check_order(alloc: Global, known: &Known, state: &State) -> Result<(), Refusal>
     ensures { (tree : ReadTree) → KnowsFor known.now (record (state_of state.now) { loaded = tree })
         → RefusesBy (NamesCycle (IsBefore tree) (state_of state.now).pending) result }
@@ -28,8 +28,8 @@ pub fn check_order(alloc: Global, known: &Known, state: &State) -> Result<(), Re
     Ok(())
 }
 
-/// What is known of the units of a tree that the state may load, as it is read then. Refused are too many known units (E13), and pending jobs that would
-/// wait for one another in a circle (E9).
+/// The `Known` of a tree that the state may load, as it is read then. Refused with too many known units (E13), and with pending jobs that
+/// would wait for one another in a circle (E9).
 pub fn known_of_loaded(
     alloc: Global,
     state: &State,

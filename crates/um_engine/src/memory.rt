@@ -1,4 +1,4 @@
-//! Want of memory, told from what is refused for a cause.
+//! Want of memory, as distinct from a refusal with a cause.
 
 ghost use Rattle.std.specs.Prelude.{◌≡◌, ◌↔◌, IsTrue};
 ghost use Rattle.um_wire.specs.declared.refusal.Refusal.TheVariants.{NoMemory};

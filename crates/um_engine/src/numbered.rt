@@ -1,4 +1,4 @@
-//! The pending jobs of a state by the numbers of a graph's units, with what of them counts as deactivating.
+//! The pending jobs of a state by the numbers of a graph's units, with a mark at those that count as deactivating.
 
 ghost use Rattle.std.specs.Prelude.{◌≡◌, ℕ, List, Contains, IfOk, MatchOption, length};
 ghost use Rattle.um_engine.specs.Filled.{Tells, is_deactivating, is_held_back, told_of};
@@ -53,7 +53,7 @@ fn is_deactivating(stands: UnitState) -> bool
     matches!(stands.sub.active_state(), ActiveState::Deactivating)
 }
 
-/// Whether a job of this kind of the unit with this number waits while that counts as deactivating: a start does.
+/// Whether a job of this kind waits because the unit with this number counts as deactivating: a start does.
 pub fn is_held_back(work: &Work<'_>, unit: usize, kind: JobKind) -> bool
     ensures { (x : List ℕ) → IsNumberOf work.now.graph unit x → result ≡ is_held_back (state_of work.now.now) x kind }
 {
@@ -63,7 +63,7 @@ pub fn is_held_back(work: &Work<'_>, unit: usize, kind: JobKind) -> bool
     }
 }
 
-/// The pending jobs of the units by their numbers. Of no unit is told that it counts as deactivating.
+/// The pending jobs of the units by their numbers. No unit is marked as deactivating.
 pub fn jobs_in<'g>(work: &Work<'g>) -> Result<Jobs<'g>, AllocError>
     ensures { IfOk result (λ jobs. Tells work.now.graph (state_of work.now.now) jobs) }
 {
@@ -71,7 +71,7 @@ pub fn jobs_in<'g>(work: &Work<'g>) -> Result<Jobs<'g>, AllocError>
     Jobs::of(work.alloc(), graph, work.pending())
 }
 
-/// Tells of the job of this kind of the unit with this number.
+/// Records the job of this kind of the unit with this number.
 fn tell_job(jobs: &mut Jobs<'_>, unit: usize, kind: JobKind, job: Option<JobState>)
     ensures { MatchOption job
         (jobs.new ≡ with_jobs_at jobs.old unit (without_job kind (jobs_at jobs.old.units unit)))
@@ -84,7 +84,7 @@ fn tell_job(jobs: &mut Jobs<'_>, unit: usize, kind: JobKind, job: Option<JobStat
     }
 }
 
-/// Tells of the unit with this number that it has just these jobs.
+/// Records that the unit with this number has just these jobs.
 fn tell_jobs(jobs: &mut Jobs<'_>, unit: usize, told: UnitJobs)
     ensures { jobs.new ≡ with_jobs_at jobs.old unit told }
 {
@@ -92,7 +92,7 @@ fn tell_jobs(jobs: &mut Jobs<'_>, unit: usize, told: UnitJobs)
     tell_job(jobs, unit, JobKind::Start, told.start);
 }
 
-/// Tells of the unit with this number what is held of it by now.
+/// Records what the work now holds of the unit with this number.
 pub fn tell(jobs: &mut Jobs<'_>, work: &Work<'_>, unit: usize)
     ensures { (x : List ℕ) → IsNumberOf work.now.graph unit x → jobs.new ≡ told_of (state_of work.now.now) unit x jobs.old }
 {
@@ -100,7 +100,7 @@ pub fn tell(jobs: &mut Jobs<'_>, work: &Work<'_>, unit: usize)
     jobs.hold(unit, is_deactivating(work.unit(unit)));
 }
 
-/// Tells of each unit what is held of it by now, where that of another state was told. It takes no memory.
+/// Records what the work now holds of each unit, over a table of another state. It takes no memory.
 pub fn tell_all(jobs: &mut Jobs<'_>, work: &Work<'_>)
     ensures { (before : model.State) → Tells work.now.graph before jobs.old → Tells work.now.graph (state_of work.now.now) jobs.new }
 {

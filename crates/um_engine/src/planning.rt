@@ -1,4 +1,4 @@
-//! What the plan of a command for a unit makes of the state (systemctl(1), "start", "stop", "restart", "try-restart").
+//! How the plan of a unit command changes the state (systemctl(1), "start", "stop", "restart", "try-restart").
 
 ghost use Rattle.std.specs.Prelude.{◌≡◌, [], ℕ, List, Contains, false, IfOk, MatchOption, OnOk, length};
 ghost use Rattle.um_answer.specs.Loaded.{is_found as finds};
@@ -113,7 +113,7 @@ fn put_jobs(work: &mut Work<'_>, jobs: &[UnitJobs])
     }
 }
 
-/// Puts the jobs of the plan, of each unit by its number. Where memory is refused all is as before.
+/// Puts the jobs of the plan, of each unit by its number. If memory is refused, all is as before.
 fn put_plan(work: &mut Work<'_>, plan: &[UnitJobs]) -> Result<(), AllocError>
     requires long { length plan.now ≡ length work.old.graph.names }
     requires tidy { AreTidyJobs (state_of work.old.now).pending }
@@ -127,21 +127,21 @@ fn put_plan(work: &mut Work<'_>, plan: &[UnitJobs]) -> Result<(), AllocError>
     Ok(())
 }
 
-/// What a command demands of the unit.
+/// A command's demand on the unit.
 fn demand_for(state: &State, verb: UnitVerb, unit: &UnitName) -> Option<Demand>
     ensures { result ≡ model.demand_of verb (active_state_of (state_of_unit (state_of state.now).units unit.now).sub) }
 {
     demand_of(verb, state.units().get(unit).sub.active_state())
 }
 
-/// Whether the command is for a unit that is there already.
+/// Whether the command is for a unit that must be there already.
 fn wants_it_there(verb: UnitVerb) -> bool
     ensures { result ≡ wants_it_there verb }
 {
     matches!(verb, UnitVerb::Stop | UnitVerb::TryRestart)
 }
 
-/// Refuses a command for a unit that is there already where it is missing (E7).
+/// Refuses a command for a unit that must be there already if it is missing (E7).
 fn check_there(
     alloc: Global,
     state: &State,
@@ -172,7 +172,7 @@ fn check_crowded(alloc: Global, served: &Served, work: &Work<'_>) -> Result<(), 
     Ok(())
 }
 
-/// A command for a unit: the verb, the name that was asked for, whether that is found, and the mode.
+/// A command for a unit: the verb, the requested name, whether that is found, and the mode.
 #[derive(Clone, Copy)]
 struct Wanted<'a> {
     verb: UnitVerb,
@@ -181,8 +181,8 @@ struct Wanted<'a> {
     mode: JobMode,
 }
 
-/// Puts the jobs of the transaction. Refused are, in this order, too many known units with the jobs of the plan (E13), a unit that isn't
-/// there (E7), and what `Transaction::check` refuses; the work is of no use then.
+/// Puts the jobs of the transaction. Refused, in this order: too many known units with the jobs of the plan (E13), a unit that isn't there
+/// (E7), and what `Transaction::check` refuses. After a refusal the work is of no use.
 fn put_checked(
     alloc: Global,
     served: &Served,
@@ -217,7 +217,7 @@ fn put_checked(
     Ok(())
 }
 
-/// Puts the plan for the demand on a unit that is known. Refused is what `put_checked` refuses; the work is of no use then.
+/// Puts the plan for the demand on a known unit. Refused as `put_checked` is; the work is of no use then.
 fn plan_in(
     alloc: Global,
     served: &Served,
@@ -241,7 +241,7 @@ fn plan_in(
     put_checked(alloc, served, work, &transaction, wanted)
 }
 
-/// The work with the plan for the demand on a unit that is known. Refused is what `put_checked` refuses.
+/// The work with the plan for the demand on a known unit. Refused as `put_checked` is.
 fn planned_in<'s>(
     alloc: Global,
     served: &'s Served,
@@ -263,8 +263,8 @@ fn planned_in<'s>(
     Ok(work)
 }
 
-/// Carries out the plan for the demand on a unit that is known, at the moment that the state has, and tells whether that changes any job.
-/// Refused is what `put_checked` refuses.
+/// Carries out the plan for the demand on a known unit, at the state's moment, and returns whether that changes any job. Refused as
+/// `put_checked` is.
 fn carry_out(
     alloc: Global,
     served: &mut Served,
@@ -286,7 +286,7 @@ fn carry_out(
     Ok(changes)
 }
 
-/// The state after a plan by other known units, at the moment that it has. None where the plan changes no job.
+/// The state after a plan by other known units, at its own moment. None if the plan changes no job.
 fn planned_with(
     alloc: Global,
     served: &Served,
@@ -311,7 +311,7 @@ fn planned_with(
     Ok(None)
 }
 
-/// What the plan for the demand on a unit leads to: rows, where what is known of units fits and stays, or the plan changes no job.
+/// The outcome of the plan for the demand on a unit: rows, if `Known` fits and stays, or if the plan changes no job.
 fn planned_by<'s>(
     alloc: Global,
     served: &'s Served,
@@ -342,7 +342,7 @@ fn planned_by<'s>(
     Ok(Outcome::Tables(changed, Reply::Done, Trees::Stay))
 }
 
-/// What the plan of a command leads to for the unit that was found for it.
+/// The outcome of the plan of a command for the unit that was found for it.
 fn planned_for<'s>(
     alloc: Global,
     served: &'s Served,
@@ -367,9 +367,8 @@ fn planned_for<'s>(
     Ok(outcome)
 }
 
-/// What the plan of a command for a unit leads to, before any job begins: rows, where what is known of units stays. Refused are, in this
-/// order, too many known units with the one that is named, or with the jobs of the plan (E13), one that isn't there (E7), and what
-/// `Transaction::check` refuses.
+/// The outcome of the plan of a unit command, before any job begins: rows, if `Known` stays. Refused, in this order: too many known units
+/// with the named one or with the jobs of the plan (E13), a missing unit (E7), and what `Transaction::check` refuses.
 pub fn planned<'s>(
     alloc: Global,
     served: &'s Served,

@@ -16,7 +16,7 @@ use um_model::{Moment, UnitEvent};
 use um_name::UnitName;
 use um_wire::Refusal;
 
-/// That the unit failed is forgotten. Of one of which nothing is held there is nothing to forget.
+/// Forgets that the unit failed. A unit of which nothing is held has no failure to forget.
 fn reset(work: &mut Work<'_>, unit: &UnitName) -> Result<(), AllocError>
     ensures resets { OnOk result (Goes (model.AreReset work.old.moment (unit.now ∷ []) (state_of work.old.now)) work.old work.new) }
     ensures keeps { OnOk result (Keeps work.old work.new) }
@@ -33,7 +33,7 @@ fn reset(work: &mut Work<'_>, unit: &UnitName) -> Result<(), AllocError>
     Ok(())
 }
 
-/// That these units failed is forgotten, one after another.
+/// Forgets that these units failed, one after another.
 fn reset_all(work: &mut Work<'_>, units: &[UnitName]) -> Result<(), AllocError>
     ensures resets { OnOk result (Goes (model.AreReset work.old.moment units.now (state_of work.old.now)) work.old work.new) }
     ensures keeps { OnOk result (Keeps work.old work.new) }
@@ -44,7 +44,7 @@ fn reset_all(work: &mut Work<'_>, units: &[UnitName]) -> Result<(), AllocError>
     Ok(())
 }
 
-/// The unit that counts for the name that was asked for; refused is one that is neither found nor held (E7).
+/// The unit that counts for the requested name. Refused if it is neither found nor held (E7).
 pub fn asked_unit(alloc: Global, served: &Served, asked: &UnitName) -> Result<UnitName, Refusal>
     ensures unit { IfOk result (λ unit. unit ≡ model.unit_asked served.now.state asked.now) }
     ensures refused { RefusesBy (model.IsMissing served.now.state asked.now) result }
@@ -55,7 +55,7 @@ pub fn asked_unit(alloc: Global, served: &Served, asked: &UnitName) -> Result<Un
     Ok(unit)
 }
 
-/// The units whose failures are forgotten: the one that is asked for, or all of which it is held how they stand.
+/// The units whose failures are forgotten: the requested one, or all whose standing is held.
 fn units_reset(
     alloc: Global,
     served: &Served,
@@ -74,7 +74,7 @@ fn units_reset(
     }
 }
 
-/// The work in which it is forgotten that the unit failed, or that all units did.
+/// The work after the failure of the unit, or of all units, was forgotten.
 pub fn without_failures<'s>(
     alloc: Global,
     served: &'s Served,

@@ -37,8 +37,8 @@ fn are_free(alloc: Global, graph: &Graph, jobs: &Jobs<'_>) -> Result<bool, Alloc
     }
 }
 
-/// Puts a start of the unit with this number, of which no job is pending: unless the pending jobs, which are told here, would then wait for
-/// one another in a circle.
+/// Puts a start of the unit with this number, which has no pending job, unless the pending jobs in `jobs` would then wait for one another
+/// in a circle.
 fn start_in(work: &mut Work<'_>, jobs: &mut Jobs<'_>, unit: usize) -> Result<(), AllocError>
     requires { Tells work.old.graph (state_of work.old.now) jobs.old }
     ensures state { OnOk result ((name : List ℕ) → IsNumberOf work.old.graph unit name
@@ -54,8 +54,8 @@ fn start_in(work: &mut Work<'_>, jobs: &mut Jobs<'_>, unit: usize) -> Result<(),
     Ok(())
 }
 
-/// Puts a start of the unit with this number as its one job: unless a job of it is pending or the pending jobs would then wait for one
-/// another in a circle. Where memory is refused the work is of no use.
+/// Puts a start of the unit with this number as its one job, unless a job of it is pending or the pending jobs would then wait for one
+/// another in a circle. If memory is refused, the work is of no use.
 pub fn restart(work: &mut Work<'_>, unit: usize) -> Result<(), AllocError>
     ensures state { OnOk result ((name : List ℕ) → IsNumberOf work.old.graph unit name
         → model.Restarts (state_of work.old.now) name (state_of work.new.now)) }

@@ -19,13 +19,13 @@ use um_name::UnitName;
 use um_state::State;
 use um_wire::Refusal;
 
-/// What a state weighs beside its trees and units.
+/// The weight of a state without trees and units.
 const BASE_WEIGHT: u64 = 256;
 
-/// What a known unit weighs.
+/// The weight of a known unit.
 const UNIT_WEIGHT: u64 = 2_048;
 
-/// For how many units the loaded tree counts, with those that the state holds.
+/// The loaded tree's count of units, with those that the state holds.
 fn units(alloc: Global, served: &Served) -> Result<usize, AllocError>
     ensures { IfOk result (λ units. CountsFor served.now.state.loaded (IsHeld served.now.state) units) }
 {
@@ -38,7 +38,7 @@ fn units(alloc: Global, served: &Served) -> Result<usize, AllocError>
     count_of(alloc, state.loaded(), &held)
 }
 
-/// What a state weighs with trees that weigh so much and so many units; nothing where the number would be too great for a `u64`.
+/// The weight of a state whose trees have this weight and that has this number of units; None if it is too great for a `u64`.
 fn weight(trees: u64, units: usize) -> Option<u64>
     ensures { MatchOption result (2 ^ 64 ≤ 256 + trees + 2048 * units) (λ w. w ≡ 256 + trees + 2048 * units) }
 {
@@ -47,7 +47,7 @@ fn weight(trees: u64, units: usize) -> Option<u64>
     trees.checked_add(units)
 }
 
-/// Refuses a state that weighs more than a store of so many bytes holds (E14).
+/// Refuses a state that weighs more than a store of `size` bytes holds (E14).
 pub fn check_room(alloc: Global, served: &Served, size: u64) -> Result<(), Refusal>
     ensures room { IfOk result (λ _. ¬ IsTooHeavy size served.now.state) }
     ensures refused { IfErr result (λ e. ¬ (e ≡ NoMemory) → (refused_of e ≡ no_room) × IsTooHeavy size served.now.state) }
@@ -59,7 +59,7 @@ pub fn check_room(alloc: Global, served: &Served, size: u64) -> Result<(), Refus
     }
 }
 
-/// Adds the name with this number behind the others.
+/// Appends the name with this number.
 fn push_name(names: &mut Vec<UnitName>, graph: &Graph, unit: usize) -> Result<(), AllocError>
     ensures { OnOk result ((name : List ℕ) → IsNumberOf graph.now unit name → names.new.items ≡ names.old.items ++ name ∷ []) }
 {
@@ -70,7 +70,7 @@ fn push_name(names: &mut Vec<UnitName>, graph: &Graph, unit: usize) -> Result<()
     Ok(())
 }
 
-/// Adds the name of the unit with this number behind the others where the work holds anything of it.
+/// Appends the name of the unit with this number if the work holds anything of it.
 fn push_held(
     names: &mut Vec<UnitName>,
     graph: &Graph,
@@ -101,7 +101,7 @@ pub fn held_in(alloc: Global, graph: &Graph, work: &Work<'_>) -> Result<Vec<Unit
     Ok(held)
 }
 
-/// For how many units the loaded tree counts, with those of which the work holds anything.
+/// The loaded tree's count of units, with those of which the work holds anything.
 fn units_in(alloc: Global, served: &Served, work: &Work<'_>) -> Result<usize, AllocError>
     requires { WorksOn served.now work.now }
     ensures { IfOk result (λ units. CountsFor (state_of work.now.now).loaded (IsHeld (state_of work.now.now)) units) }
@@ -116,7 +116,7 @@ fn units_in(alloc: Global, served: &Served, work: &Work<'_>) -> Result<usize, Al
     count_of(alloc, served.state().loaded(), &held)
 }
 
-/// Refuses what a step leads to where that weighs more than a store of so many bytes holds (E14).
+/// Refuses the state of the work if it weighs more than a store of `size` bytes holds (E14).
 pub fn check_room_in(
     alloc: Global,
     served: &Served,

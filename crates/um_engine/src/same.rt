@@ -31,7 +31,7 @@ fn is_same_at(path: &str, entry: Entry<'_>, other: Option<(&str, Entry<'_>)>) ->
     }
 }
 
-/// Whether this entry stands in the tree at the path. It looks into no other text, and takes no memory.
+/// Whether this entry stands in the tree at the path. It reads no other text, and takes no memory.
 pub fn has_entry(tree: &Tree, path: &str, entry: Entry<'_>) -> bool
     ensures { IsTrue result ↔ (map.get tree.now path.now ≡ Some (entry_of entry.entry)) }
 {

@@ -1,4 +1,4 @@
-//! A state with what is known of its units.
+//! A state with its `Known`.
 
 ghost use Rattle.std.specs.Prelude.{◌≡◌, IfOk, IsTrue, Some};
 ghost use Rattle.std.specs.Coded.{codes};
@@ -23,12 +23,12 @@ use um_name::UnitName;
 use um_state::{Delta, State};
 use um_wire::Refusal;
 
-/// A state and what is known of the units of its loaded tree, all that the state holds among them. States that follow one another
-/// share what is known.
+/// A state and the `Known` of its loaded tree, which includes all units that the state holds. States that follow one another share the
+/// `Known`.
 pub struct Served {
     state: State,
     known: Rc<Known>,
-    /// What the trees weigh together: a step by rows leaves them as they are, so it doesn't go over them.
+    /// The weight of both trees. A step by rows leaves the trees as they are, so it doesn't go over them.
     trees: u64,
 }
 
@@ -42,7 +42,7 @@ impl Model for Served {
     ghost invariant = { λ s. IsNumberedBy s.known.value.graph.names s.state × KnowsFor s.known.value (state_of s.state) × (s.trees ≡ trees_weight (state_of s.state)) };
 }
 
-// One call, where a derived one is taken apart at each exit.
+// One call for the prover, which takes a derived `Drop` apart at each exit.
 impl Drop for Served {
     fn drop(self) {
         let Served {
@@ -54,7 +54,7 @@ impl Drop for Served {
 }
 
 impl Served {
-    /// The state with what is known of just its units. Refused are too many known units (E13).
+    /// The state with a `Known` of just its units. Refused with too many known units (E13).
     pub fn of(alloc: Global, state: State) -> Result<Served, Refusal>
         ensures state { IfOk result (λ s. s.state ≡ state_of state) }
         ensures exact { IfOk result IsExactIfFew }
@@ -65,7 +65,7 @@ impl Served {
         Ok(served)
     }
 
-    /// A state with what is known for it, and with the numbers that the units have there.
+    /// A state with the `Known` for it, and with the numbers that the units have there.
     pub fn numbered(state: State, known: Rc<Known>) -> Result<Served, AllocError>
         requires { KnowsFor known.value (state_of state) }
         ensures state { IfOk result (λ s. s.state ≡ state_of state) }
@@ -81,7 +81,7 @@ impl Served {
         })
     }
 
-    /// The state by itself.
+    /// Drops the `Known`, and returns the state.
     pub fn into_state(self) -> State
         ensures { state_of result ≡ self.state }
     {
@@ -93,7 +93,7 @@ impl Served {
         state
     }
 
-    /// A step in work, which begins in this state at the moment.
+    /// A work that begins in this state at the moment.
     pub fn work(&self, alloc: Global, moment: Moment) -> Result<Work<'_>, AllocError>
         ensures begins { IfOk result (λ w. w ≡ begun_at (standing_of self.now) self.now.known.graph moment) }
         ensures works { IfOk result (WorksOn self.now) }
@@ -106,7 +106,7 @@ impl Served {
         }
     }
 
-    /// Exchanges the delta for what the state has in its place: that is the way back. It takes no memory, and always succeeds.
+    /// Exchanges the delta for what the state has in its place, which is the way back. It takes no memory, and always succeeds.
     pub fn swap(&mut self, delta: &mut Delta)
         ensures state { standing_of self.new ≡ delta_after delta.old (standing_of self.old) }
         ensures known { self.new.known ≡ self.old.known }
@@ -123,7 +123,7 @@ impl Served {
         delta.undo(&mut self.state);
     }
 
-    /// The state.
+    /// The served state.
     pub fn state(&self) -> &State
         ensures state { state_of result.now ≡ self.now.state }
         ensures knows { KnowsFor self.now.known self.now.state }
@@ -138,14 +138,14 @@ impl Served {
         &self.state
     }
 
-    /// What its trees weigh together (`Tree::weight`). It takes no memory, and goes over no tree.
+    /// The weight of both trees (`Tree::weight`). It takes no memory, and goes over no tree.
     pub fn trees_weight(&self) -> u64
         ensures { result ≡ trees_weight self.now.state }
     {
         self.trees
     }
 
-    /// What is known of the units.
+    /// The `Known` of the state.
     pub fn known(&self) -> &Known
         ensures known { result.now ≡ self.now.known }
         ensures knows { KnowsFor self.now.known self.now.state }
@@ -153,7 +153,7 @@ impl Served {
         &self.known
     }
 
-    /// What is known, again.
+    /// The same `Known`, shared.
     pub fn share_known(&self) -> Result<Rc<Known>, AllocError>
         ensures known { IfOk result (λ k. k.value ≡ self.now.known) }
         ensures knows { KnowsFor self.now.known self.now.state }
@@ -161,7 +161,7 @@ impl Served {
         self.known.clone()
     }
 
-    /// The same again.
+    /// A copy, which shares the `Known`.
     pub fn copy(&self) -> Result<Served, AllocError>
         ensures { IfOk result (λ s. standing_of s ≡ standing_of self.now) }
     {
@@ -171,15 +171,15 @@ impl Served {
         Ok(served)
     }
 
-    /// Whether what is known is that of just its units.
+    /// Whether the `Known` is that of just the state's units.
     fn is_exact(&self) -> bool
         ensures { IsTrue result → IsExactIfFew self.now }
     {
         self.known().fits(self.state(), None)
     }
 
-    /// The same with what is known of just its units: made anew where that isn't so. It stays as it is where too many units would be known,
-    /// which no step leads to.
+    /// The same state with a `Known` of just its units, made again if it isn't. If too many units would be known, it stays as it is; no
+    /// step leads there.
     pub fn exactly(self, alloc: Global) -> Result<Served, AllocError>
         ensures state { IfOk result (λ s. s.state ≡ self.state) }
         ensures exact { IfOk result IsExactIfFew }
@@ -198,8 +198,7 @@ impl Served {
         }
     }
 
-    /// What is known of the units and of the one that a command names: the same again where that fits. Refused are too many known
-    /// units (E13).
+    /// The `Known` with the unit that a command names: the same one if that fits. Refused with too many known units (E13).
     pub fn known_with(&self, alloc: Global, named: &UnitName) -> Result<Rc<Known>, Refusal>
         ensures knows { IfOk result (λ k. KnowsFor k.value self.now.state) }
         ensures known { IfOk result (λ k. IsGraphFor self.now.state.loaded (IsHeldOr self.now.state named.now) k.value.graph) }

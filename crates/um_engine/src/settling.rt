@@ -1,3 +1,5 @@
+//! Jobs that begin until none is ready, and deadlines that fire.
+
 ghost use Rattle.std.specs.Prelude.{◌≡◌, ◌<◌, ℕ, List, false, Some, IfOk, IfSome, OnOk, MatchOption, length};
 ghost use Rattle.um_engine.specs.Engine.{waits_to_restart, IsDue, NoneIsDue};
 ghost use Rattle.um_engine.specs.Filled.{Begins, Tells};
@@ -19,8 +21,8 @@ use um_model::{Deadline, JobKind, Moment, SubState, UnitEvent};
 use um_name::UnitName;
 use um_timer::Timers;
 
-/// Behind so many jobs that are found one after another, what the others wait for is counted. As a rule an input lets one begin or none, and
-/// going over the units once for each of a few costs less than the counts.
+/// After this many jobs that were found one after another, a count is kept of what each job waits for. As a rule an input lets one job
+/// begin or none, and a walk over the units for each of a few costs less than the counts.
 const FEW: u32 = 4;
 
 /// The job runs from now on.
@@ -36,8 +38,8 @@ fn begin_job(jobs: &mut Jobs<'_>, work: &mut Work<'_>, unit: usize, kind: JobKin
     work.set_jobs(unit, jobs.get(unit));
 }
 
-/// Tells anew what is held of units, after a job of the one with this number began: of that one, or of all where others may have changed.
-/// It takes no memory.
+/// Refreshes the table after a job of the unit with this number began: the unit's entry, or all entries if others may have changed. It
+/// takes no memory.
 fn tell_anew(jobs: &mut Jobs<'_>, work: &Work<'_>, unit: usize, spreads: bool)
     ensures { (before : model.State) (name : List ℕ) → IsNumberOf work.now.graph unit name → Tells work.now.graph before jobs.old
         → (spreads ≡ false → KeepsOthers name before (state_of work.now.now)) → Tells work.now.graph (state_of work.now.now) jobs.new }
@@ -49,7 +51,7 @@ fn tell_anew(jobs: &mut Jobs<'_>, work: &Work<'_>, unit: usize, spreads: bool)
     }
 }
 
-/// One more job is found, behind so many others. Once those are a few, what comes before each job is counted from now on.
+/// Notes that one more job was found. From `FEW` on, what comes before each job is counted.
 fn count_behind(jobs: &mut Jobs<'_>, alloc: Global, found: &mut u32) -> Result<(), AllocError>
     ensures { jobs.new ≡ jobs.old }
 {
@@ -60,8 +62,8 @@ fn count_behind(jobs: &mut Jobs<'_>, alloc: Global, found: &mut u32) -> Result<(
     Ok(())
 }
 
-/// The job that begins next, behind so many that were found before; none where none is ready. A start that would be next is held back here where
-/// its unit counts as deactivating: to ask that of a few units costs less than to tell it of all.
+/// The job that begins next, or None if none is ready; `found` is the number of jobs found before it. A start that would be next is held
+/// back here if its unit counts as deactivating: to look at a few units costs less than to mark all.
 fn next_job(
     jobs: &mut Jobs<'_>,
     work: &Work<'_>,
@@ -84,7 +86,7 @@ fn next_job(
     Ok(None)
 }
 
-/// Lets these jobs begin, one after another, until none is ready. Where memory is refused the work is of no use.
+/// Lets these jobs begin, one after another, until none is ready. If memory is refused, the work is of no use.
 fn begin_all(jobs: &mut Jobs<'_>, work: &mut Work<'_>) -> Result<(), AllocError>
     requires serves { Serves work.old.graph (state_of work.old.now) }
     requires tells { Tells work.old.graph (state_of work.old.now) jobs.old }
@@ -100,7 +102,7 @@ fn begin_all(jobs: &mut Jobs<'_>, work: &mut Work<'_>) -> Result<(), AllocError>
     Ok(())
 }
 
-/// Lets jobs begin, one after another, until none is ready. Where memory is refused the work is of no use.
+/// Lets jobs begin, one after another, until none is ready. If memory is refused, the work is of no use.
 pub fn settle(work: &mut Work<'_>) -> Result<(), AllocError>
     ensures settles { OnOk result (Goes (model.Settles work.old.moment (state_of work.old.now)) work.old work.new) }
     ensures keeps { OnOk result (Keeps work.old work.new) }
@@ -118,7 +120,7 @@ struct Due {
     unit: UnitName,
 }
 
-/// The timer that is due first, where its deadline isn't past the moment.
+/// The timer that is due first, if its deadline isn't after the moment.
 fn next_due(timers: &Timers, moment: Moment) -> Result<Option<Due>, AllocError>
     ensures { IfOk result (λ next. MatchOption next (NoneIsDue moment timers.now) (λ due. IsDue moment timers.now due.deadline due.unit)) }
 {
@@ -138,7 +140,7 @@ fn waits_to_restart(sub: SubState) -> bool
     matches!(sub, SubState::AutoRestart)
 }
 
-/// What comes of a deadline of the unit with this number that is there: where it waits for that, its restart.
+/// A deadline of the unit with this number comes due: the unit restarts if it waits for that, and otherwise its deadline passes.
 fn come_due(work: &mut Work<'_>, unit: usize) -> Result<(), AllocError>
     ensures comes { OnOk result ((name : List ℕ) → IsNumberOf work.old.graph unit name
         → Goes (model.ComesDue work.old.moment (state_of work.old.now) name) work.old work.new) }
@@ -184,8 +186,8 @@ fn fire_all(work: &mut Work<'_>, timers: &mut Timers) -> Result<(), AllocError>
     Ok(())
 }
 
-/// Fires these deadlines that stand and aren't past the moment, earliest first, then by the names of their units; after each one jobs
-/// begin. One that is gone or changed by then doesn't fire. Where memory is refused the work is of no use.
+/// Fires these deadlines if they stand and aren't after the moment, earliest first, then by the names of their units; after each one jobs
+/// begin. One that is gone or changed by then doesn't fire. If memory is refused, the work is of no use.
 pub fn fire(work: &mut Work<'_>, timers: Timers) -> Result<(), AllocError>
     requires { model.AreDeadlines (state_of work.old.now).units timers }
     ensures follows { OnOk result (Goes (model.Follows work.old.moment (state_of work.old.now) model.Tick) work.old work.new) }

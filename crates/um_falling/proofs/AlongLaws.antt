@@ -1,4 +1,4 @@
--- What the code takes along, going from one unit to the next, is what a failed start takes along.
+-- The starts that the code takes along, going from one unit to the next, are those that a failed start takes along.
 use Rattle.std.proofs.Common.{◌≡◌, ◌≢◌, ◌⊎◌, ◌∙◌, ◌+◌, ◌<◌, ◌≤◌, ◌&&◌, ◌||◌, ℕ, zero, suc, Bool, true, false, true≢false, cond, List, [], ◌∷◌, ◌++◌, length, sum_by, Contains, Option, Some, None, get_or, slice_get, refl, sym, ap, subst, inl, inr, arith}
 use Rattle.std.proofs.lemmas.Bool.{cases_eq, cases_lt, or_cases}
 use Rattle.std.proofs.lemmas.List.{get_or_default, length-append}
@@ -56,7 +56,7 @@ pub cons_cases : {A : Type 0} (z : A) (xs : List A) (x : A) → Contains (z ∷ 
 cons_cases z xs x (zero, h, e) = inl e
 cons_cases z xs x (suc k, h, e) = inr (k, omega arith, e)
 
--- of a unit that stands in a row once there is one neighbour
+-- a unit that stands in a row once is one neighbour
 pub once_there : (row : List Neighbour) → AreOnce row → (m n : Neighbour) → Contains row m → Contains row n → m.unit ≡ n.unit → m ≡ n
 once_there row once m n (i, h, e) (j, k, f) same = elim (cases_eq i j) as (λ _. m ≡ n) [
   | inl is ↦ sym e ∙ (get_or_default row i m n h ∙ (ap (λ p. get_or row p n) is ∙ f))
@@ -71,7 +71,7 @@ waiting_is (Some Waiting) h = refl
 waiting_is (Some Running) h = absurd (true≢false (sym h))
 waiting_is None h = absurd (true≢false (sym h))
 
--- ---- what the state holds of a unit after that of another was put
+-- ---- the contents of the state for a unit after another unit was put
 pub units_apart : (units : ByUnit UnitState) (unit : List ℕ) (u : UnitState) (other : List ℕ) → other ≢ unit → map.get (with_unit units unit u) other ≡ map.get units other
 units_apart units unit u other apart = by (holds_nothing u)
   where
@@ -210,7 +210,7 @@ module _ (g : GraphView) where
       let same = ap (left g) is in
       omega (arith, shorter, more, same)
 
--- ---- of no unit more jobs wait
+-- ---- no unit has more waiting jobs
 gone_waits : (c : State) (y n : List ℕ) → waits_in (jobs_of_unit (without_start_of c y).pending n) ≤ waits_in (jobs_of_unit c.pending n)
 gone_waits c y n = elim (same_name n y) as (λ _. waits_in (jobs_of_unit (without_start_of c y).pending n) ≤ waits_in (jobs_of_unit c.pending n)) [
   | inl is ↦

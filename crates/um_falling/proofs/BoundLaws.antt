@@ -1,4 +1,4 @@
--- The units that fall with one stand in its row, which is gone through from its end: what one more neighbour makes of them, and that these are all.
+-- The units that fall with one stand in its row, which is walked from its end: the effect of one more neighbour, and that these are all.
 use Rattle.std.proofs.Common.{◌≡◌, ◌≢◌, ◌∙◌, ◌+◌, ◌<◌, ◌≤◌, ◌==◌, ◌&&◌, ◌||◌, ◌++◌, ℕ, zero, suc, Bool, true, false, cond, List, [], ◌∷◌, length, drop, get_or, All, refl, sym, ap, inl, inr, arith}
 use Rattle.std.proofs.Math.Seq.{drop-cons, drop-length}
 use Rattle.std.proofs.lemmas.Bool.{cases_eq}
@@ -66,7 +66,7 @@ module _ (s : State) (g : GraphView) where
       ap (λ b. (b && binds n) || is_bound ns unit) (others n.unit unit (λ e. absurd (omega (arith, above, e))))
       ∙ not_bound unit ns (All-tail (λ (n : Neighbour). unit < n.unit) n ns a)
 
-  -- a neighbour says nothing of greater numbers
+  -- a neighbour doesn't concern greater numbers
   passed : (n : Neighbour) (ns : List Neighbour) (unit : ℕ) (names : List (List ℕ)) → n.unit < unit → falling_from s (n ∷ ns) unit names ≡ falling_from s ns unit names
   passed n ns unit [] h = refl
   passed n ns unit (name ∷ names) h =
@@ -74,7 +74,7 @@ module _ (s : State) (g : GraphView) where
       (others n.unit unit (λ e. absurd (omega (arith, h, e))))
       ∙ ap (λ l. cond (is_bound ns unit && goes s name) (unit ∷ l) l) (passed n ns (suc unit) names (omega (arith, h)))
 
-  -- the neighbours behind one have greater numbers
+  -- the neighbours after one have greater numbers
   behind_above : (n : Neighbour) (ns : List Neighbour) → IsAscending (n ∷ ns) → All (λ (m : Neighbour). n.unit < m.unit) ns
   behind_above n ns up k d h = up 0 (suc k) d (omega arith) (omega (arith, h))
 

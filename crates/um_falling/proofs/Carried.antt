@@ -1,4 +1,4 @@
--- What happens to a unit is carried out, by what its parts have become.
+-- An event of a unit is carried out, by the results of its parts.
 use Rattle.um_falling.specs.Carrying.{Adds}
 use Rattle.std.proofs.Common.{◌≡◌, ◌⊎◌, ◌∙◌, ℕ, ◌+◌, ◌≤◌, Bool, true, false, List, ◌++◌, Contains, Option, Some, None, unwrap_or, sym, ap, subst, inl, inr, arith, refl, true≢false}
 use Rattle.std.proofs.lemmas.Option.{none-some}
@@ -60,7 +60,7 @@ changes_so t unit event s u v w before after new fails e f g is asked all tidy_j
       tidy_units = tidy_units;
     }
 
--- ---- of no unit more jobs wait
+-- ---- no unit has more waiting jobs
 
 unless_waits : (o : Option JobState) → waits (unless_running o) ≤ waits o
 unless_waits None = omega arith
@@ -117,13 +117,13 @@ ends_own unit start stop_ends s u v w stands next e f g =
 pub no_more_then : (u v w : State) → NoMoreWait v.pending u.pending → NoMoreWait w.pending v.pending → NoMoreWait w.pending u.pending
 no_more_then u v w first later unit = omega (arith, first unit, later unit)
 
--- ---- what is carried out
+-- ---- the event is carried out
 
 module _ (t : ℕ) (unit : List ℕ) (event : UnitEvent) (s v : State) (before after : List Action) (fails : Bool) (changes : ChangesTo t unit event s before fails v after) where
   abbrev c : Change
   c = change_of t s unit event
 
-  -- where no start fails
+  -- if no start fails
   pub carried_alone : fails ≡ false → Adds (machine.Carries t unit event s) before v after
   carried_alone none = (
     changes.new,
@@ -134,7 +134,7 @@ module _ (t : ℕ) (unit : List ℕ) (event : UnitEvent) (s v : State) (before a
     changes.actions,
   )
 
-  -- where one does, and takes others along
+  -- if one fails, and takes others along
   pub carried_along : (w : State) (later : List Action) → fails ≡ true → (AreTidyJobs v.pending → AreTidyUnits v.units → TakesAlong v unit w) → later ≡ after
       → Adds (machine.Carries t unit event s) before w later
   carried_along w later one takes same =

@@ -1,4 +1,4 @@
--- What a stop at once makes of how far the units have come, and that telling units to stop at once ends.
+-- A stop at once changes which units are active, and stopping units at once ends.
 use Rattle.std.proofs.Common.{◌≡◌, ◌∙◌, ◌+◌, ◌<◌, ◌≤◌, ◌&&◌, ℕ, suc, Bool, true, false, cond, List, [], ◌∷◌, ◌++◌, length, sum_by, Contains, Option, Some, None, slice_get, refl, sym, ap, subst, inl, inr, arith}
 use Rattle.std.proofs.lemmas.List.{length-append}
 use Rattle.std.proofs.lemmas.List.Sums.{sum_by-cons}
@@ -24,7 +24,7 @@ use Rattle.um_falling.specs.Along.{Taking, is_later, needs_it, taken, taken_all,
 use Rattle.um_falling.specs.Falling.{AddsFalling, KeepsSubs, StopsIf, StopsOne, falling, falling_from, goes, is_bound, sub_of}
 use Rattle.um_falling.proofs.AlongLaws.{known_by, sum_falls, cons_cases}
 
--- ---- starts that are taken along leave how far their units have come
+-- ---- starts that are taken along leave the sub states of their units
 
 named_subs : (y : List ℕ) (u : ℕ) (m : Taking) → KeepsSubs m.0 (taken_named y u m).0
 named_subs y u m x = by (is_waiting (jobs_of_unit m.0.pending y).start)
@@ -83,7 +83,7 @@ stops_one unit s u v w stands jobs next e f g stopped = record {
     here : sub_of w unit ≡ stands.sub
     here = ap (λ p. (state_of_unit p unit).sub) units ∙ ap (λ (u : UnitState). u.sub) (state_here s.units unit stands)
 
--- and what is taken along then leaves it so
+-- and the starts taken along then leave it so
 pub stops_then : (unit : List ℕ) (s u v : State) → StopsOne unit s u → KeepsSubs u v → StopsOne unit s v
 stops_then unit s u v h keeps = record {
   down = ap goes_at (keeps unit) ∙ h.down;
@@ -91,13 +91,13 @@ stops_then unit s u v h keeps = record {
   others = λ x apart. keeps x ∙ h.others x apart;
 }
 
--- ---- telling units to stop ends
+-- ---- stopping units ends
 
 abbrev weighs : ℕ → Bool → ℕ
 weighs n true = n
 weighs n false = 0
 
--- each unit of the graph that is active or activating counts as many as can fall with it; and those that are yet to be told
+-- each unit of the graph that is active or activating counts as many as can fall with it; and each unit yet to be stopped counts one
 abbrev pub turns_left : GraphView → State → List ℕ → ℕ
 turns_left g s list = sum_by (λ n. weighs (length g.names) (goes s n)) g.names + length list
 

@@ -1,4 +1,4 @@
--- The units that the code finds to fall with one that came to rest are those that the definition says, by name.
+-- The units that the code finds to fall with one that came to rest are those of the definition, by name.
 use Rattle.um_falling.specs.Carrying.{Adds}
 use Rattle.std.proofs.Common.{◌≡◌, ◌∙◌, ◌+◌, ◌==◌, ◌&&◌, ℕ, zero, suc, Bool, true, false, true≢false, cond, List, [], ◌∷◌, ◌++◌, length, map, Contains, Some, slice_get, unwrap_or, refl, sym, ap, subst, inl, inr, arith, append_assoc, append-nil}
 use Rattle.std.proofs.lemmas.Bool.{and_parts}
@@ -179,20 +179,20 @@ module _ (g : GraphView) (s u : State) (serves : Serves g s) (holds : Serves g u
       let b = comes_to_rest (sub_of s name) (sub_of u name) in
       (those b, those_named b, falls_so b refl)
 
--- ---- telling goes on
+-- ---- stopping goes on
 
--- one is told, with those that fall with it, and then the others
+-- one is stopped, with those that fall with it, and then the others
 pub falls_more : (t : ℕ) (name : List ℕ) (units falling : List (List ℕ)) (s u v : State) (before between after : List Action)
     → Adds (model.Carries t name BoundStop s) before u between → AreByName (FallsWith s u name) falling → Adds (model.FallDown t (falling ++ units) u) between v after
     → Adds (model.FallDown t (name ∷ units) s) before v after
 falls_more t name units falling s u v before between after (first, carries, is) falls (more, later, all) =
     (first ++ more, told_next carries falls later, all ∙ (ap (λ l. l ++ more) is ∙ append_assoc before first more))
 
--- all are told
+-- all are stopped
 pub all_fell : (t : ℕ) (s : State) (before : List Action) → Adds (model.FallDown t [] s) before s before
 all_fell t s before = ([], all_told, sym (append-nil before))
 
--- something happens, and those that fall with it are told
+-- an event happens, and those that fall with the unit are stopped
 pub happens_so : (t : ℕ) (name : List ℕ) (event : UnitEvent) (falling : List (List ℕ)) (s u v : State) (before between after : List Action)
     → Adds (model.Carries t name event s) before u between → AreByName (FallsWith s u name) falling → Adds (model.FallDown t falling u) between v after → Adds (model.Happens t name event s) before v after
 happens_so t name event falling s u v before between after (first, carries, is) falls (more, later, all) =
@@ -219,19 +219,19 @@ none_named : (g : GraphView) (names : List (List ℕ)) → AreNamed g [] names �
 none_named g [] are = refl
 none_named g (name ∷ names) are = cc
 
--- what is to be told of a list yet: what falls with these numbers falls in all
+-- the rest of a list to be stopped: a run in which these numbers fall is one in which all fall
 pub record IsOnTheWay (g : GraphView) (t : ℕ) (names : List (List ℕ)) (s u : State) (before between : List Action) (list : List ℕ) : Type 0 where
   pub names_now : List (List ℕ)
   pub named : AreNamed g list names_now
   pub whole : (v : State) (after : List Action) → Adds (model.FallDown t names_now u) between v after → Adds (model.FallDown t names s) before v after
   pub serves : Serves g u
 
--- nothing is told yet
+-- none is stopped yet
 pub way_begins : (g : GraphView) (t : ℕ) (names : List (List ℕ)) (s : State) (before : List Action) (list : List ℕ) → AreNamed g list names → Serves g s
     → IsOnTheWay g t names s s before before list
 way_begins g t names s before list named serves = record { names_now = names; named = named; whole = λ v after h. h; serves = serves }
 
--- one more is told
+-- one more is stopped
 pub way_goes_on : (g : GraphView) (t : ℕ) (names : List (List ℕ)) (s u v : State) (before between after : List Action) (list rest next : List ℕ) (unit : ℕ)
     → IsOnTheWay g t names s u before between list → list ≡ unit ∷ rest
     → ((name : List ℕ) → IsNumberOf g unit name → Serves g u → Adds (model.Carries t name BoundStop u) between v after × Serves g v)
@@ -258,7 +258,7 @@ way_ends g t names s u before between list way is = (
   way.serves,
 )
 
--- something happened to a unit of the graph, and what falls with it fell
+-- an event happened to a unit of the graph, and the units that fall with it fell
 pub happened : (g : GraphView) (t : ℕ) (name : List ℕ) (event : UnitEvent) (s u v : State) (before between after : List Action) (list : List ℕ)
     → Adds (model.Carries t name event s) before u between × Serves g u → Serves g s → Contains g.names name → AddsFalling g u (sub_of s name) name [] list
     → ((names : List (List ℕ)) → AreNamed g list names → Serves g u → Adds (model.FallDown t names u) between v after × Serves g v)

@@ -1,4 +1,4 @@
--- The code goes from one unit to the next by the rows of the graph: what it has taken so far, and what it has taken in the end.
+-- The code goes from one unit to the next by the rows of the graph: the starts it has taken so far, and those in the end.
 use Rattle.std.proofs.Common.{◌≡◌, ◌≢◌, ◌⊎◌, ◌∙◌, ◌==◌, ◌&&◌, ℕ, suc, Bool, true, false, cond, List, [], ◌∷◌, ◌++◌, length, Contains, Option, Some, None, slice_get, unwrap_or, refl, sym, ap, subst, inl, inr, arith}
 use Rattle.std.proofs.lemmas.Bool.{and_parts, or_cases}
 use Rattle.std.proofs.lemmas.Bool.Decides.{Decides-eqb}
@@ -22,7 +22,7 @@ use Rattle.um_falling.specs.Along.{Taking, is_later, needs_it, taken, taken_all,
 use Rattle.um_falling.specs.Over.{Serves}
 use Rattle.um_falling.proofs.AlongLaws.{StartWaits, all_quiet, and_both, cons_cases, known_by, number_by, once_there, or_both, pending_apart, units_apart, waiting_is}
 
--- ---- what the graph tells of dependencies and the order, whatever else is known
+-- ---- dependencies and order of the graph, whatever else is known
 
 abbrev pub Everything : List ℕ → Type 0
 Everything unit = Unit {0}
@@ -54,7 +54,7 @@ module _ (g : GraphView) (s : State) (serves : Serves g s) where
 pub starts_held : (c : State) (x : List ℕ) → (jobs_of_unit c.pending x).start ≡ Some Waiting → IsHeld c x
 starts_held c x w = inr (λ e. none-some Waiting (sym (ap (λ o. (unwrap_or o no_jobs).start) e) ∙ w))
 
--- ---- what is taken so far
+-- ---- the starts taken so far
 module _ (g : GraphView) (s : State) (failed : List ℕ) where
   -- the unit is as it was
   record Stays (c : State) (x : List ℕ) : Type 0 where

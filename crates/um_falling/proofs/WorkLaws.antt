@@ -1,4 +1,4 @@
--- A step in work: what stays, and that the graph serves on where a unit of it is set.
+-- A step in work: the parts that stay, and the graph still serves when a unit of it is set.
 use Rattle.std.proofs.Common.{◌≡◌, ◌≢◌, ◌∙◌, ◌<◌, ◌++◌, ◌∷◌, ◌+◌, ℕ, suc, true, false, cond, List, [], Contains, Some, drop, get_or, length, slice_get, refl, sym, ap, subst, inl, inr, arith}
 use Rattle.std.proofs.Math.Seq.{drop-cons}
 use Rattle.std.proofs.lemmas.Bool.{cases_lt}
@@ -28,7 +28,7 @@ use Rattle.um_falling.specs.Over.{Serves}
 use Rattle.um_falling.specs.Work.{Goes, Keeps, WorkView}
 use Rattle.um_falling.proofs.AlongLaws.{pending_apart, units_apart}
 
--- ---- what stays
+-- ---- the parts that stay
 
 pub keeps_all : (v : WorkView) → Keeps v v
 keeps_all v = record { graph = refl; base = refl; moment = refl; serves = λ h. h }
@@ -81,7 +81,7 @@ module _ (g : GraphView) (s : State) (serves : Serves g s) where
   pub serves_next : (next : ℕ) → Serves g (record s { next = next })
   serves_next next = record { extra = serves.extra; graph = serves.graph; of = serves.of; held = serves.held }
 
--- ---- what a call says of work that goes on, over the graph with which it began
+-- ---- from the result of a call to a result over the graph with which the work began
 
 module _ (u v : WorkView) (keeps : Keeps u v) where
   pub taken_on : (unit : ℕ) (before after : Taking) → after ≡ taken_all v.graph (row_of v.graph.rows unit) before
@@ -117,7 +117,7 @@ module _ (u v w : WorkView) (keeps : Keeps u v) (later : Keeps v w) (list : List
 pub serves_still : (u v : WorkView) → Keeps u v → Serves u.graph (state_of u.now) → Serves u.graph (state_of v.now)
 serves_still u v keeps serves = subst (λ g. Serves g (state_of v.now)) keeps.graph (keeps.serves serves)
 
--- ---- what a call says over the graph, of the unit with a number
+-- ---- the result of a call for the unit with a number, over the graph
 pub taken_at : (g : GraphView) (unit : ℕ) (m : Taking) (name : List ℕ) → IsNumberOf g unit name → taken g unit m ≡ taken_named name unit m
 taken_at g unit m name number = ap (λ o. taken_by o unit m) number
 
@@ -143,9 +143,9 @@ next_taken g h row i d before after whole within same is all =
     ∙ (ap (λ k. taken_all g (drop k row) (taken_next g n before)) more
     ∙ (sym (ap (λ ns. taken_all g ns before) (drop-cons row i d within)) ∙ all))
 
--- ---- what the rows say, by the graph's numbers
+-- ---- the rows, by the graph's numbers
 
--- the work as it is seen
+-- the view of the work
 abbrev pub seen_as : GraphView → Standing → Standing → ℕ → List Action → WorkView
 seen_as g base now moment actions = record { graph = g; base = base; now = now; moment = moment; actions = actions }
 
@@ -153,7 +153,7 @@ at_number : (names : List (List ℕ)) (unit : ℕ) (name : List ℕ) → slice_g
 at_number names unit name number = (got_within names unit name number, get_or_from_slice_get names unit name [] number)
 
 module _ (v : WorkView) (g : GraphView) (base now : Standing) (moment : ℕ) (actions : List Action) (seen : seen_as g base now moment actions ≡ v) (same : now.names ≡ g.names) where
-  -- what is told of the name with the number is told of the unit
+  -- the value of the name with the number is the unit's
   pub told_by : {A : Type 0} (look : State → List ℕ → A) (unit : ℕ) (x : A) → (unit < length now.names → x ≡ look (state_of now) (name_at now.names unit))
       → (name : List ℕ) → IsNumberOf v.graph unit name → x ≡ look (state_of v.now) name
   told_by look unit x told = subst (λ (w : WorkView). (name : List ℕ) → IsNumberOf w.graph unit name → x ≡ look (state_of w.now) name) seen here
@@ -183,7 +183,7 @@ module _ (v : WorkView) (g : GraphView) (base now : Standing) (moment : ℕ) (ac
           let put = put_within no_jobs with_jobs jobs_put_well now.names (state_of now).pending unit jobs at.0 ∙ ap (λ n. with_jobs (state_of now).pending n jobs) at.1 in
           ap state_of is ∙ (λ i. record (state_of now) { pending = put i })
 
-  -- the work with other rows keeps what it has
+  -- the work with other rows keeps its other parts
   pub keeps_set : (then : Standing) → (Serves g (state_of now) → Serves g (state_of then)) → Keeps v (seen_as g base then moment actions)
   keeps_set then serves = record {
     graph = ap (λ (w : WorkView). w.graph) seen;
@@ -192,7 +192,7 @@ module _ (v : WorkView) (g : GraphView) (base now : Standing) (moment : ℕ) (ac
     serves = λ before. serves (subst (λ (w : WorkView). Serves w.graph (state_of w.now)) (sym seen) before);
   }
 
--- the graph serves on where a unit with a number is set, and where nothing is
+-- the graph still serves when a unit with a number is set, and when none is
 module _ (g : GraphView) (now : Standing) (same : now.names ≡ g.names) (serves : Serves g (state_of now)) (unit : ℕ) where
   known_at : unit < length now.names → Contains g.names (name_at now.names unit)
   known_at within = subst (λ ns. Contains ns (name_at now.names unit)) same (unit, within, get_or_default now.names unit (name_at now.names unit) [] within)

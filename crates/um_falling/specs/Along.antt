@@ -1,5 +1,5 @@
 -- Which starts a failed start takes along, as the code goes from one unit to the next by the rows of the graph.
--- Follows the definition of what a failed start takes along: it says it by numbers.
+-- Follows the definition of the starts that a failed start takes along: it states it by numbers.
 -- The taking along stands on this file.
 use Rattle.std.specs.Prelude.{ℕ, ◌&&◌, ◌||◌, ◌++◌, Bool, if◌then◌else◌, List, [], ◌∷◌, Option, Some, None, slice_get}
 use Rattle.um_model.specs.Jobs.{jobs_of_unit, with_jobs, without_start}
@@ -28,14 +28,14 @@ is_later n = has before_bit n.kinds
 abbrev pub with_result_dependency : UnitState → UnitState
 with_result_dependency u = record u { result = Dependency }
 
--- the start of the unit is gone, and its result tells so
+-- the start of the unit is gone, and its result says so
 abbrev pub without_start_of : State → List ℕ → State
 without_start_of s unit = record s {
   units = with_unit s.units unit (with_result_dependency (state_of_unit s.units unit));
   pending = with_jobs s.pending unit (without_start (jobs_of_unit s.pending unit));
 }
 
--- the start of the unit of this name and number is gone where it waits, and the unit is to be followed then
+-- the start of the unit of this name and number is gone if it waits, and the unit is to be followed then
 abbrev pub taken_named : List ℕ → ℕ → Taking → Taking
 taken_named name unit m = if is_waiting (jobs_of_unit m.0.pending name).start then (without_start_of m.0 name, m.1 ++ unit ∷ []) else m
 
@@ -46,7 +46,7 @@ taken_by (Some name) unit m = taken_named name unit m
 abbrev pub taken : GraphView → ℕ → Taking → Taking
 taken g unit m = taken_by (slice_get g.names unit) unit m
 
--- the start of a neighbour is gone where it needs that of the unit in whose row it stands
+-- the start of a neighbour is gone if it needs that of the unit in whose row it stands
 abbrev pub taken_next : GraphView → Neighbour → Taking → Taking
 taken_next g n m = if needs_it n && is_later n then taken g n.unit m else m
 

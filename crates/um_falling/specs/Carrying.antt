@@ -1,5 +1,5 @@
--- What an event makes of its unit and the unit's jobs, before a failed start takes others along, and with these.
--- Follows the definition of what is carried out: it is the part of it that concerns the unit itself.
+-- The effect of an event on its unit and the unit's jobs, before a failed start takes others along, and with these.
+-- Follows the definition of carrying out: it is the part of it that concerns the unit itself.
 -- Carrying out stands on this file.
 use Rattle.std.specs.Prelude.{◌≡◌, ◌≢◌, ◌⊎◌, ℕ, Bool, true, false, List, ◌++◌, Option, Some, None}
 use Rattle.um_model.specs.Jobs.{AreTidyJobs, job_of, jobs_of_unit}
@@ -19,7 +19,7 @@ abbrev pub fails_start : StartJob → Option JobState → Bool
 fails_start Fails (Some Running) = true
 fails_start start job = false
 
--- the unit is changed, and whether its start fails is told
+-- the unit is changed, and the flag says whether its start fails
 pub record ChangesTo (t : ℕ) (unit : List ℕ) (event : UnitEvent) (s : State) (before : List Action) (fails : Bool) (s' : State)
     (after : List Action) : Type 0 where
   pub new : List Action
@@ -30,7 +30,7 @@ pub record ChangesTo (t : ℕ) (unit : List ℕ) (event : UnitEvent) (s : State)
   pub tidy_jobs : AreTidyJobs s.pending
   pub tidy_units : AreTidyUnits s.units
 
--- of all other units the state tells what it told before
+-- of all other units the state is the same as before
 pub record KeepsOthers (unit : List ℕ) (s s' : State) : Type 0 where
   pub jobs : (x : List ℕ) → x ≢ unit → jobs_of_unit s'.pending x ≡ jobs_of_unit s.pending x
   pub states : (x : List ℕ) → x ≢ unit → state_of_unit s'.units x ≡ state_of_unit s.units x
@@ -39,6 +39,6 @@ pub record KeepsOthers (unit : List ℕ) (s s' : State) : Type 0 where
 abbrev pub OnlyEnds : UnitJobs → UnitJobs → Type 0
 OnlyEnds before after = (kind : JobKind) → (job_of kind after ≡ job_of kind before) ⊎ (job_of kind after ≡ None)
 
--- what the relation has of actions and of the state behind them is behind the actions that are there
+-- the actions of the relation follow those that are there already
 abbrev pub Adds : (List Action → State → Type 0) → List Action → State → List Action → Type 0
 Adds Goes before s' after = (new : List Action) × Goes new s' × (after ≡ before ++ new)

@@ -1,6 +1,6 @@
--- Which units fall with one that came to rest, as the code goes from one to the next by the rows of the graph; and what happens with these.
--- Follows the definition of what falls with a unit: it says it by numbers.
--- What happens to a unit stands on this file, with all units that fall with it.
+-- Which units fall with one that came to rest, as the code goes from one to the next by the rows of the graph; and their changes.
+-- Follows the definition of the units that fall with a unit: it states it by numbers.
+-- The events of a unit, with all units that fall with it, stand on this file.
 use Rattle.std.specs.Prelude.{◌≡◌, ◌≢◌, ℕ, suc, ◌==◌, ◌&&◌, ◌++◌, Bool, false, if◌then◌else◌, List, [], ◌∷◌, Option, Some, None, map, slice_get}
 use Rattle.std.specs.List.{list_any}
 use Rattle.um_model.specs.Machine.{State}
@@ -13,7 +13,7 @@ use Rattle.um_graph.specs.Graph.{GraphView, IsNumberOf, row_of}
 use Rattle.um_graph.specs.Kinds.{has, inverse_bit_of}
 use Rattle.um_graph.specs.declared.row.Neighbour.{Neighbour}
 
--- how far the unit has come
+-- the sub state of the unit
 abbrev pub sub_of : State → List ℕ → SubState
 sub_of s unit = (state_of_unit s.units unit).sub
 
@@ -51,17 +51,17 @@ AddsFalling g s before name list after = (unit : ℕ) → IsNumberOf g unit name
 abbrev pub AreNamed : GraphView → List ℕ → List (List ℕ) → Type 0
 AreNamed g units names = map (slice_get g.names) units ≡ map Some names
 
--- of all units the state tells that they have come as far as before
+-- all units have the same sub states as before
 abbrev pub KeepsSubs : State → State → Type 0
 KeepsSubs s v = (unit : List ℕ) → sub_of v unit ≡ sub_of s unit
 
--- the unit isn't active or activating then, and has come as far as before where it wasn't before; so have all others
+-- the unit isn't active or activating then, and keeps its sub state if it wasn't before; all others keep theirs
 pub record StopsOne (unit : List ℕ) (s v : State) : Type 0 where
   pub down : goes v unit ≡ false
   pub stays : goes s unit ≡ false → sub_of v unit ≡ sub_of s unit
   pub others : (x : List ℕ) → x ≢ unit → sub_of v x ≡ sub_of s x
 
--- so it is of the unit of this name; where there is none nothing is changed
+-- the same for the unit of this name; None changes nothing
 abbrev pub StopsIf : Option (List ℕ) → State → List ℕ → State → List ℕ → Type 0
 StopsIf None s list v after = (v ≡ s) × (after ≡ list)
 StopsIf (Some name) s list v after = StopsOne name s v

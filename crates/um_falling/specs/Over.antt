@@ -1,5 +1,5 @@
 -- When a graph serves for a state: it is the graph of the loaded tree, and each unit of which the state holds something is one of its units.
--- Follows no manual page: it is how the engine keeps what it knows of units.
+-- Follows no manual page: it is how the engine keeps its knowledge of units.
 -- Every step of the engine stands on this file.
 use Rattle.std.specs.Prelude.{List, ℕ, Contains}
 use Rattle.um_model.specs.Machine.{State, IsHeld}

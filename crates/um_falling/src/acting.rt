@@ -1,4 +1,4 @@
-//! How a unit acts: what the service table knows of it.
+//! How a unit acts: the facts about it that the service table uses.
 
 ghost use Rattle.std.specs.Prelude.{◌≡◌, ℕ, List, Some, option_copied, option_map};
 ghost use Rattle.um_graph.specs.Graph.{IsNumberOf};
@@ -16,16 +16,16 @@ use um_graph::{Graph, loadable};
 use um_model::UnitKind;
 use um_unit::{LoadedUnit, Loading, ServiceSettings};
 
-/// What the service table knows of a unit.
+/// The facts about a unit that the service table uses.
 #[derive(Clone, Copy)]
 pub(crate) struct Acting<'g> {
-    /// Those that the unit acts by.
+    /// The settings by which the unit acts.
     pub(crate) settings: &'g Rc<ServiceSettings>,
     /// It can be started: it is found, has no refused setting and is no template.
     pub(crate) loadable: bool,
 }
 
-/// What became of the look for the unit with this number, where it is one of the graph.
+/// The outcome of the look-up for the unit with this number, if it is one of the graph.
 fn loading(graph: &Graph, unit: usize) -> Option<&Loading>
     ensures { (s : model.State) (name : List ℕ) → Serves graph.now s → IsNumberOf graph.now unit name
         → option_map loading_of (option_copied result) ≡ Some (units.load s.loaded name) }
@@ -41,7 +41,7 @@ fn loadable_in(graph: &Graph, unit: usize) -> Option<&LoadedUnit>
     loadable(loading(graph, unit)?)
 }
 
-/// The kind of service that the unit of the graph with this number acts as: its own, and simple where it can't be started.
+/// The kind of service that the unit of the graph with this number acts as: its own, or simple if it can't be started.
 pub fn kind_in(graph: &Graph, unit: usize) -> UnitKind
     ensures { (s : model.State) (name : List ℕ) → Serves graph.now s → IsNumberOf graph.now unit name
         → result ≡ (model.settings_in s.loaded name).kind }

@@ -25,7 +25,7 @@ fn needs_it(neighbour: Neighbour) -> bool
         || neighbour.kinds.has_inverse(DependencyKind::BindsTo)
 }
 
-/// The start of the unit with this number is gone, and its result tells so. It takes no memory.
+/// The start of the unit with this number is gone, and its result says so. It takes no memory.
 fn drop_start(work: &mut Work<'_>, unit: usize)
     ensures state { (name : List ℕ) → IsNumberOf work.old.graph unit name
         → state_of work.new.now ≡ taking.without_start_of (state_of work.old.now) name }
@@ -41,7 +41,7 @@ fn drop_start(work: &mut Work<'_>, unit: usize)
     work.set_jobs(unit, jobs);
 }
 
-/// The start of the unit with this number is gone where it waits, and the unit is to be followed then.
+/// The start of the unit with this number is gone if it waits, and the unit is to be followed then.
 fn take(work: &mut Work<'_>, list: &mut Vec<usize>, unit: usize) -> Result<(), AllocError>
     requires { unit < length work.old.graph.names }
     ensures taken { OnOk result ((state_of work.new.now, list.new.items) ≡ taking.taken work.old.graph unit (state_of work.old.now, list.old.items)) }
@@ -56,7 +56,7 @@ fn take(work: &mut Work<'_>, list: &mut Vec<usize>, unit: usize) -> Result<(), A
     Ok(())
 }
 
-/// The start of a neighbour is gone where it needs that of the unit in whose row it stands.
+/// The start of a neighbour is gone if it needs that of the unit in whose row it stands.
 fn take_next(
     work: &mut Work<'_>,
     list: &mut Vec<usize>,
@@ -88,8 +88,8 @@ fn take_all(work: &mut Work<'_>, list: &mut Vec<usize>, unit: usize) -> Result<(
     Ok(())
 }
 
-/// The starts that need that of the unit with this number, which failed, are gone, and so are those that need one of these; the units
-/// tell so. Where memory is refused the work is of no use.
+/// The starts that need that of the failed unit with this number are gone, and so are those that need one of these; their units' results
+/// say so. If memory is refused, the work is of no use.
 pub fn take_along(work: &mut Work<'_>, failed: usize) -> Result<(), AllocError>
     ensures along { OnOk result ((name : List ℕ) → IsNumberOf work.old.graph failed name
         → AreTidyJobs (state_of work.old.now).pending → AreTidyUnits (state_of work.old.now).units

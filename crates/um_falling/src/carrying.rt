@@ -1,4 +1,4 @@
-//! What happens to a unit by itself, with the starts that a failed start takes along.
+//! An event of a unit by itself, with the starts that a failed start takes along.
 
 ghost use Rattle.std.specs.Prelude.{◌≡◌, ℕ, List, false, IfOk, OnOk};
 ghost use Rattle.um_falling.specs.Carrying.{ChangesTo, KeepsOthers, OnlyEnds, fails_start};
@@ -21,15 +21,15 @@ use um_model::{Around, JobState, StartJob, UnitEvent, UnitKind};
 use um_service::Service;
 use um_unit::ServiceSettings;
 
-/// Whether a start job of the unit runs, and is failed.
+/// Whether the unit's start job runs, and fails by the change.
 fn fails_start(start: StartJob, job: Option<JobState>) -> bool
     ensures { result ≡ fails_start start job }
 {
     matches!((start, job), (StartJob::Fails, Some(JobState::Running)))
 }
 
-/// What happens to the unit with this number at the moment changes it and its jobs; what is asked of its processes comes behind the
-/// other actions. Told is whether a running start of it fails. Where memory is refused the work is of no use.
+/// Changes the unit with this number and its jobs by an event at the moment; the actions on its processes follow the other actions. Returns
+/// whether a running start of it fails. If memory is refused, the work is of no use.
 fn change(work: &mut Work<'_>, unit: usize, event: UnitEvent) -> Result<bool, AllocError>
     ensures changes { IfOk result (λ fails. (name : List ℕ) → IsNumberOf work.old.graph unit name
         → ChangesTo work.old.moment name event (state_of work.old.now) work.old.actions fails (state_of work.new.now) work.new.actions) }
@@ -62,9 +62,9 @@ fn change(work: &mut Work<'_>, unit: usize, event: UnitEvent) -> Result<bool, Al
     Ok(fails_start(asked.start, jobs.start))
 }
 
-/// Carries out what happens to the unit with this number at the moment, for that unit by itself; what is asked of its processes comes
-/// behind the other actions. Where its start fails, that takes along the starts that need it. Told is whether it failed: else nothing
-/// is changed of the other units. Where memory is refused the work is of no use.
+/// Carries out an event of the unit with this number at the moment, for that unit by itself; the actions on its processes follow the other
+/// actions. If its start fails, that takes along the starts that need it. Returns whether it failed: if not, the other units are unchanged.
+/// If memory is refused, the work is of no use.
 pub fn carry(work: &mut Work<'_>, unit: usize, event: UnitEvent) -> Result<bool, AllocError>
     ensures carries { OnOk result ((name : List ℕ) → IsNumberOf work.old.graph unit name
         → Goes (model.Carries work.old.moment name event (state_of work.old.now)) work.old work.new) }

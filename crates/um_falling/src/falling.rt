@@ -1,4 +1,4 @@
-//! What happens to a unit, with the units that fall with it: those that are bound to one that comes to rest are told to stop at once
+//! An event of a unit, with the units that fall with it: those that are bound to one that comes to rest are stopped at once
 //! (systemd.unit(5), "BindsTo=").
 
 ghost use Rattle.std.specs.Prelude.{◌≡◌, ◌<◌, ◌≤◌, ◌++◌, ℕ, List, [], All, false, length, IfOk, OnOk, slice_get};
@@ -50,8 +50,8 @@ fn is_going(work: &Work<'_>, unit: usize) -> bool
     )
 }
 
-/// Puts the units that are bound to the one of the row and are active or activating before the others in the list, by name, as they
-/// stand in the row.
+/// Puts the units that are bound to the one of the row and are active or activating at the front of the list, by name, as they stand in the
+/// row.
 fn push_bound(
     work: &Work<'_>,
     list: &mut VecDeque<usize>,
@@ -72,7 +72,7 @@ fn push_bound(
     Ok(())
 }
 
-/// Puts the units that fall with this one, where it came to rest, before the others in the list.
+/// Puts the units that fall with this one, if it came to rest, at the front of the list.
 fn push_falling(
     work: &Work<'_>,
     list: &mut VecDeque<usize>,
@@ -91,8 +91,8 @@ fn push_falling(
     push_bound(work, list, work.graph().neighbours_of(name))
 }
 
-/// Carries out what happens to the unit with this number by itself, and puts the units that fall with it before the others in the
-/// list. Told is whether its start failed.
+/// Carries out an event of the unit with this number by itself, and puts the units that fall with it at the front of the list. Returns
+/// whether its start failed.
 fn carry_on(
     work: &mut Work<'_>,
     list: &mut VecDeque<usize>,
@@ -119,7 +119,7 @@ fn carry_on(
     Ok(fails)
 }
 
-/// Tells the unit with this number to stop at once, and puts those that fall with it before the others in the list.
+/// Gives the unit with this number a bound stop, and puts the units that fall with it at the front of the list.
 fn fall_next(work: &mut Work<'_>, list: &mut VecDeque<usize>, unit: usize) -> Result<(), AllocError>
     ensures carries { OnOk result ((name : List ℕ) → IsNumberOf work.old.graph unit name
         → Goes (model.Carries work.old.moment name BoundStop (state_of work.old.now)) work.old work.new) }
@@ -136,8 +136,8 @@ fn fall_next(work: &mut Work<'_>, list: &mut VecDeque<usize>, unit: usize) -> Re
     Ok(())
 }
 
-/// Tells the units of the list to stop at once, one after another; where one comes to rest by that, those that are bound to it come
-/// first, by name.
+/// Gives each unit of the list a bound stop, one after another. If one comes to rest by that, those that are bound to it come first, by
+/// name.
 fn fall_all(work: &mut Work<'_>, list: &mut VecDeque<usize>) -> Result<(), AllocError>
     ensures falls { OnOk result ((names : List (List ℕ)) → AreNamed work.old.graph list.old.items names
         → Goes (model.FallDown work.old.moment names (state_of work.old.now)) work.old work.new) }
@@ -153,9 +153,8 @@ fn fall_all(work: &mut Work<'_>, list: &mut VecDeque<usize>) -> Result<(), Alloc
     Ok(())
 }
 
-/// Carries out what happens to the unit with this number at the moment, with all units that fall with it; what is asked of processes
-/// comes behind the other actions; past the last one nothing happens. Told is whether other units may have changed too. Where memory is
-/// refused the work is of no use.
+/// Carries out an event of the unit with this number at the moment, with all units that fall with it; the actions follow the other actions;
+/// past the last unit nothing happens. Returns whether other units may have changed too. If memory is refused, the work is of no use.
 pub fn happen(work: &mut Work<'_>, unit: usize, event: UnitEvent) -> Result<bool, AllocError>
     ensures happens { OnOk result ((name : List ℕ) → IsNumberOf work.old.graph unit name
         → Goes (model.Happens work.old.moment name event (state_of work.old.now)) work.old work.new) }

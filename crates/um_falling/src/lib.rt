@@ -1,5 +1,5 @@
-//! What happens to a unit, with the units that fall with it: how it acts, what that makes of it and its jobs, the starts that a failed
-//! start takes along, and the units that are told to stop because they are bound to one that came to rest.
+//! The events of a unit, with the units that fall with it: its changes and those of its jobs, the starts that a failed start takes along,
+//! and the stops of units that are bound to one that came to rest.
 #![tactic(auto)]
 
 mod acting;

@@ -23,7 +23,7 @@ use um_model::{Moment, NextNumber, UnitJobs, UnitState};
 use um_name::UnitName;
 use um_state::{Action, Delta, State, Work as Rows};
 
-/// A step in work: the rows of a state over the graph that serves it, and what is asked of processes by now.
+/// A step in work: the rows of a state over the graph that serves it, and the actions so far.
 pub struct Work<'g> {
     alloc: Global,
     graph: &'g Graph,
@@ -42,7 +42,7 @@ impl<'g> Model for Work<'g> {
     ghost invariant = { λ w. (w.rows.now.names ≡ w.graph.now.names) × Serves w.graph.now (state_of w.rows.now) };
 }
 
-// One call, where a derived one is taken apart at each exit.
+// One call for the prover, which takes a derived `Drop` apart at each exit.
 impl<'g> Drop for Work<'g> {
     fn drop(self) {
         let Work {
@@ -56,7 +56,7 @@ impl<'g> Drop for Work<'g> {
 }
 
 impl<'g> Work<'g> {
-    /// The rows of the state, at the moment; nothing is asked yet. None exactly where units and pending jobs have no common numbers.
+    /// The rows of the state, at the moment, with no actions yet. None exactly if units and pending jobs don't share their numbers.
     pub fn of(
         alloc: Global,
         graph: &'g Graph,
@@ -81,7 +81,7 @@ impl<'g> Work<'g> {
         }))
     }
 
-    /// Where memory is taken.
+    /// The allocator from which memory is taken.
     pub fn alloc(&self) -> Global {
         self.alloc
     }
@@ -95,7 +95,7 @@ impl<'g> Work<'g> {
         self.graph
     }
 
-    /// The moment.
+    /// The moment at which the step happens.
     pub fn moment(&self) -> Moment
         ensures { result ≡ self.now.moment }
     {
@@ -142,7 +142,7 @@ impl<'g> Work<'g> {
         !self.unit(unit).holds_nothing() || self.jobs(unit).has_job()
     }
 
-    /// The next process number.
+    /// The number of the next process that starts.
     pub fn next(&self) -> NextNumber
         ensures { result ≡ (state_of self.now.now).next }
     {
@@ -180,7 +180,7 @@ impl<'g> Work<'g> {
         self.rows.set_next(next);
     }
 
-    /// Asks for these actions behind the others.
+    /// Appends these actions to those so far.
     pub fn ask(&mut self, actions: &mut Vec<Action>) -> Result<(), AllocError>
         ensures ok { OnOk result (self.new.actions ≡ self.old.actions ++ map action_of actions.old.items) }
         ensures now { self.new.now ≡ self.old.now }
@@ -189,7 +189,7 @@ impl<'g> Work<'g> {
         self.actions.append(actions)
     }
 
-    /// What changes, row by row, and what is asked of processes.
+    /// The changes, row by row, and the actions.
     pub fn done(self) -> Result<(Delta, Vec<Action>), AllocError>
         ensures after { IfOk result (λ r. delta_after r.0 self.entry.base ≡ timed self.entry.moment (state_of self.entry.now).next self.entry.now) }
         ensures count { IfOk result (λ r. CountsDiffering (state_of self.entry.base) (state_of (delta_after r.0 self.entry.base)) (vec_len r.0.rows)) }

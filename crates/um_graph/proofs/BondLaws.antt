@@ -1,4 +1,4 @@
--- What edges and pairs make of the rows, and what of them a bond in the rows comes from.
+-- The bonds that edges and pairs put into the rows, and the origin of each bond there.
 use Rattle.std.proofs.Common.{◌≡◌, ◌≢◌, ◌⊎◌, ◌∙◌, ◌-◌, ◌==◌, ◌<◌, ◌≤◌, ℕ, Bool, true, false, cond, List, [], ◌∷◌, Contains, Option, Some, None, refl, sym, ap, subst, inl, inr, arith}
 use Rattle.std.specs.List.{flat_map}
 use Rattle.std.proofs.lemmas.Bool.Decides.{Decides-eqb}
@@ -53,7 +53,7 @@ inverse_between PartOf = (omega arith, omega arith)
 inverse_between Conflicts = (omega arith, omega arith)
 
 -- ---- bonds of edges and of pairs
--- where a bond of edges comes from
+-- the origin of a bond of edges
 pub data FromEdge (edges : List Edge) (bit i j : ℕ) : Type 0 where
   forward : (kind : DependencyKind) → bit_of kind ≡ bit → Contains edges (edge (Depends kind) i j) → FromEdge edges bit i j
   back : (kind : DependencyKind) → inverse_bit_of kind ≡ bit → Contains edges (edge (Depends kind) j i) → FromEdge edges bit i j
@@ -90,7 +90,7 @@ module _ (edges : List Edge) (i j : ℕ) where
   pub after_in : Contains edges (edge Declared i j) → Contains (flat_map edge_bonds edges) (after_bit, j, i)
   after_in c = contains_flat edge_bonds edges (edge Declared i j) (after_bit, j, i) c (in_second (before_bit, i, j) (after_bit, j, i))
 
--- where a bond of pairs comes from
+-- the origin of a bond of pairs
 pub data FromPair (pairs : List Pair) (bit i j : ℕ) : Type 0 where
   first : before_bit ≡ bit → Contains pairs (pair i j) → FromPair pairs bit i j
   second : after_bit ≡ bit → Contains pairs (pair j i) → FromPair pairs bit i j

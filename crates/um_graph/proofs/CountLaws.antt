@@ -61,7 +61,7 @@ module _ (tree : ReadTree) (extra : List (List ℕ)) (loaded : Loaded) where
       let few = no_more k.names (sorted.keys loaded) k.apart (λ z c. (keys_followed z).0 (all_followed tree extra loaded told w z (All-contains (IsKnown tree (Contains extra)) k.names z k.known c))) in
       omega (arith, m, k.many, few, length-map loaded.entries (λ (e : List ℕ × _). e.0))
 
--- the greater of the two counts, where the tree without its entries under `run/` is another
+-- the greater of the two counts, if the tree without its entries under `run/` is another
 pub counts_for : (tree : ReadTree) (extra : List (List ℕ)) (o : Option ℕ) (held n count : ℕ) → CountsLasting tree extra o → KnowsSoMany tree (Contains extra) held → n ≡ held → count ≡ max n (unwrap_or o n) → CountsFor tree (Contains extra) count
 counts_for tree extra None held n count same knows is e =
     record { held = held; lasting = held; by_tree = knows; by_rest = subst (λ t. KnowsSoMany t (Contains extra) held) (sym same) knows; greater = e ∙ ap (λ m. max m m) is }

@@ -1,4 +1,4 @@
--- The set of the names that were followed: with one name more, and of a state of the search that is the same one.
+-- The set of the followed names: with one name more, and for a state of the search that hasn't changed.
 use Rattle.std.proofs.Common.{◌≡◌, ◌++◌, ◌∷◌, ◌∙◌, ℕ, Bool, true, false, true≢false, cond, List, [], Contains, Some, is_some, refl, sym, ap, subst, inl, inr}
 use Rattle.std.specs.Cmp.{eq_by_cmp_equiv}
 use Rattle.std.specs.Cmp.Lexicographic.{slice_cmp, nat_list_cmp_total}
@@ -13,7 +13,7 @@ use Rattle.um_unit.specs.declared.loaded.Loading.{Loading}
 use Rattle.um_graph.specs.Followed.{AreFollowed}
 use Rattle.um_graph.specs.Known.{IsFollowed, IsMet, LeavesOut, Loaded, loading_at}
 
--- the two ways to tell names apart say the same
+-- the two comparisons of names agree
 is_same : (a b : List ℕ) → bytes_eq a b ≡ true → eq_by_cmp (slice_cmp nat_cmp) a b ≡ true
 is_same a b t = ap (eq_by_cmp (slice_cmp nat_cmp) a) (sym ((bytes_eq-Decides a b).0 t)) ∙ (eq_by_cmp_equiv nat_list_cmp_total).refl a
 

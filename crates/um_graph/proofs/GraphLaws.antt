@@ -1,4 +1,4 @@
--- The units joined by all that was told are the graph of the tree.
+-- The units joined by all relations found are the graph of the tree.
 use Rattle.std.proofs.Common.{◌≡◌, ◌≢◌, ◌⊎◌, ◌∙◌, ◌↔◌, ◌<◌, ◌≤◌, ◌&&◌, ℕ, zero, suc, Bool, true, false, not, List, [], ◌∷◌, length, map, get_or, All, AllPairs, Contains, Option, Some, None, option_map, slice_get, Ordering, refl, sym, ap, subst, inl, inr, arith}
 use Rattle.std.specs.BTreeMap as tied
 use Rattle.std.specs.Cmp.Lexicographic.{slice_cmp, nat_list_cmp_total}
@@ -91,7 +91,7 @@ module _ (tree : ReadTree) (extra : List (List ℕ)) (loaded : Loaded) (told : L
   pub keys_known : (x : List ℕ) → Contains (keys_of loaded.entries) x ↔ IsKnown tree Extra x
   keys_known x = (λ c. w.known x (inl ((followed_iff x).1 c)), λ k. (followed_iff x).0 (all_followed tree extra loaded told w x k))
 
-  -- ---- what was told, by the definitions
+  -- ---- the relations, by the definitions
   depends_out : (kind : DependencyKind) (x y : List ℕ) → Contains told (tell (Depends kind) x y) → x ≢ y → DependsOn tree Extra kind x y
   depends_out kind x y c ne = by (w.sound (tell (Depends kind) x y) c)
     where
@@ -203,7 +203,7 @@ module _ (tree : ReadTree) (extra : List (List ℕ)) (loaded : Loaded) (told : L
           told_is : (t : Told) (link : Link) (x y : List ℕ) → t.link ≡ link → t.from ≡ x → t.to ≡ y → t ≡ tell link x y
           told_is t link x y a b c = λ k. record { link = a k; from = b k; to = c k }
 
-      -- ---- what the middle rows say of x and y, where x wants or requires y
+      -- ---- the middle rows of x and y, when x wants or requires y
       declared_held : IsDeclared tree Extra x y → x ≢ y → Joins middle before_bit i j
       declared_held d ne = a.joined.first.whole before_bit i j (bonds.before_in edges i j (edge_in Declared ne (declared_in x y d)))
 

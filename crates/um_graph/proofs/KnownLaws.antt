@@ -1,4 +1,4 @@
--- The search for known units: each step keeps that nothing is forgotten and nothing too much is found; at its end, all is known.
+-- The search for known units: at each step nothing is forgotten and nothing too much is found; at its end all known units are found.
 use Rattle.std.proofs.Common.{◌≡◌, ◌⊎◌, ◌∙◌, ℕ, Bool, true, false, cond, List, [], ◌∷◌, ◌++◌, Contains, Some, None, is_some, refl, sym, ap, subst, inl, inr}
 use Rattle.std.specs.BTreeMap as sorted
 use Rattle.std.specs.Cmp.{eq_by_cmp_equiv}
@@ -66,7 +66,7 @@ module _ (loaded : Loaded) where
         ],
       )
 
--- ---- what is told makes its names known
+-- ---- the names in a relation are known
 module _ (tree : ReadTree) (extra : List (List ℕ)) where
   abbrev Known : List ℕ → Type 0
   Known = IsKnown tree (Contains extra)
@@ -239,7 +239,7 @@ module _ (tree : ReadTree) (extra : List (List ℕ)) where
           | inr b ↦ new_end x (ends_are new (told_in tree name) x b)
         ]
 
-  -- ---- the end: what is known was followed
+  -- ---- the end: each known name was followed
   module _ (loaded : Loaded) (told : List Told) (w : IsUnderWay tree extra loaded [] told) where
     only_followed : (x : List ℕ) → IsMet loaded [] x → IsFollowed loaded x
     only_followed x (inl f) = f

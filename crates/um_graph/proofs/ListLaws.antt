@@ -1,4 +1,4 @@
--- What is in lists that are made by lists, one behind another.
+-- The elements of lists that are joined from lists, one after another.
 use Rattle.std.proofs.Common.{◌≡◌, ◌⊎◌, ◌<◌, ◌+◌, ◌∙◌, ℕ, zero, suc, length, take, get_or, append-nil, List, [], ◌∷◌, ◌++◌, Contains, map, refl, sym, ap, subst, inl, inr, arith}
 use Rattle.std.proofs.lemmas.List.{take_more}
 use Rattle.std.proofs.lemmas.List.Concat.{flat_map-append}
@@ -49,19 +49,19 @@ pub map_pushed : {A B : Type 0} (f : A → B) (xs : List A) (x : A) (ys : List B
 map_pushed f [] x ys = refl
 map_pushed f (z ∷ xs) x ys = ap (λ us. f z ∷ us) (map_pushed f xs x ys)
 
--- one thing more
+-- one element more
 more_made : {A B : Type 0} (f : A → List B) (xs : List A) (i : ℕ) (x : A) → i < length xs → flat_map f (take i xs) ++ f (get_or xs i x) ≡ flat_map f (take (i + 1) xs)
 more_made f xs i x within =
     ap (λ ys. flat_map f (take i xs) ++ ys) (sym (append-nil (f (get_or xs i x))))
     ∙ (sym (flat_map-append f (take i xs) (get_or xs i x ∷ [])) ∙ ap (flat_map f) (sym (take_more xs i x within)))
 
--- one thing more that gives one element
+-- one element more whose list has one element
 pub one_made : {A B : Type 0} (f : A → List B) (xs : List A) (i : ℕ) (x : A) (old new : List B) (b : B) → i < length xs → old ≡ flat_map f (take i xs)
     → b ∷ [] ≡ f (get_or xs i x) → new ≡ old ++ b ∷ [] → new ≡ flat_map f (take (i + 1) xs)
 one_made f xs i x old new b within made gives grown =
     grown ∙ (ap (λ ys. ys ++ b ∷ []) made ∙ (ap (λ ys. flat_map f (take i xs) ++ ys) gives ∙ more_made f xs i x within))
 
--- one thing more that gives nothing
+-- one element more whose list is empty
 pub none_made : {A B : Type 0} (f : A → List B) (xs : List A) (i : ℕ) (x : A) (old new : List B) → i < length xs → old ≡ flat_map f (take i xs)
     → [] ≡ f (get_or xs i x) → new ≡ old → new ≡ flat_map f (take (i + 1) xs)
 none_made f xs i x old new within made gives same =

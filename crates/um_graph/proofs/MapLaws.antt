@@ -1,4 +1,4 @@
--- What stands in a finite map is just what its entries are.
+-- The contents of a finite map are just its entries.
 use Rattle.std.proofs.Common.{◌≡◌, ◌∙◌, ℕ, Bool, true, false, cond, List, [], ◌∷◌, Contains, Some, Equal, Less, Greater, Ordering, T, ◌&&◌, arith, refl, sym, ap, inl, inr, is_eq}
 use Rattle.std.specs.Cmp.{eq_by_cmp_equiv}
 use Rattle.std.specs.Cmp.Lexicographic.{slice_cmp, nat_list_cmp_total}

@@ -1,4 +1,4 @@
--- Names in their order and the numbers of units: each name has one number; and what lists in that order say of a name.
+-- Names in their order and the numbers of units: each name has one number; and the item for a name in a list in that order.
 use Rattle.std.proofs.Common.{◌≡◌, ◌≢◌, ◌⊎◌, ◌∙◌, ◌<◌, ◌≤◌, ℕ, zero, suc, true, false, cond, List, [], ◌∷◌, length, AllPairs, Some, refl, sym, ap, subst, inl, inr, arith, slice_get, get_or}
 use Rattle.std.proofs.lemmas.Bool.{cases_lt}
 use Rattle.std.proofs.lemmas.Option.{none-some, get_or_from_slice_get, slice_get-get_or, slice_get_cases}
@@ -83,7 +83,7 @@ other_false x y h = elim (bytes_eq x y) as (λ b. bytes_eq x y ≡ b → bytes_e
   | false ↦ λ f. f
 ] refl
 
--- what a list says of a unit's name is what it says of its number
+-- the item for a unit's name is the one for its number
 pub item_at : {A : Type 0} (none : A) (names : List (List ℕ)) (xs : List A) → AreOnce names → (i : ℕ) → i < length names → item_for none names xs (name_at names i) ≡ get_or xs i none
 item_at none [] xs once i h = absurd (omega arith)
 item_at none (n ∷ ns) [] once i h = refl

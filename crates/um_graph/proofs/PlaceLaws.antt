@@ -20,7 +20,7 @@ none_at (n ∷ ns) x h = by (bytes_eq n x) refl (none_at ns x (λ i lt. h (suc i
     by true t rest = absurd (h 0 (omega arith) ((bytes_eq-Decides n x).0 t))
     by false t rest = ap (option_map suc) rest
 
--- what names that ascend say of a name
+-- a name and a list of names that ascend
 module _ (ns : List (List ℕ)) (sorted : AllPairs IsNamedBefore ns) (x : List ℕ) where
   at_place : (i : ℕ) → HasPlace ns x i → slice_get ns i ≡ Some x
   at_place i h = slice_get-get_or ns i [] h.0 ∙ ap Some h.1
@@ -33,7 +33,7 @@ module _ (ns : List (List ℕ)) (sorted : AllPairs IsNamedBefore ns) (x : List �
   placed_within None h = tt
   placed_within (Some i) h = h.0
 
--- ---- names in ascending order are those of another such list, where each has what the other has
+-- ---- two lists of names in ascending order are the same if each has the names of the other
 among : (ns : List (List ℕ)) (x : List ℕ) → Contains ns x → list_any (bytes_eq x) ns ≡ true
 among [] x c = absurd (in_none x c)
 among (n ∷ ns) x c = by (bytes_eq x n) refl (in_cons n ns x c) (among ns x)
@@ -54,7 +54,7 @@ listed (n ∷ ns) x e = by (bytes_eq x n) refl e (listed ns x)
 first_before : (n : List ℕ) (ns : List (List ℕ)) → AllPairs IsNamedBefore (n ∷ ns) → (x : List ℕ) → Contains ns x → IsNamedBefore n x
 first_before n ns s x (k, h, e) = subst (IsNamedBefore n) e (s 0 (suc k) x (omega arith) (omega arith))
 
--- two such lists begin with the same name, and what is behind it is alike
+-- two such lists begin with the same name, and the rests have the same names
 module _ (n o : List ℕ) (ns os : List (List ℕ)) (s : AllPairs IsNamedBefore (n ∷ ns)) (t : AllPairs IsNamedBefore (o ∷ os))
     (to : (x : List ℕ) → Contains (n ∷ ns) x → Contains (o ∷ os) x) (from : (x : List ℕ) → Contains (o ∷ os) x → Contains (n ∷ ns) x) where
   apart : Contains os n → Contains ns o → ⊥

@@ -5,7 +5,7 @@ use Rattle.um_model.specs.Tree.{Tree}
 use Rattle.um_graph.specs.Known.{IsUnderWay, Loaded}
 use Rattle.um_graph.specs.declared.told.Told.{Told}
 
--- a step of the search by a tree that is the same one
+-- a step of the search by a tree that hasn't changed
 pub followed_in : (tree : ReadTree) (other : Tree) (extra : List (List ℕ)) (m n : Loaded) (left rest : List (List ℕ)) (told more : List Told) → other ≡ tree.entries
     → (IsUnderWay (read_by tree.profile other) extra m left told → IsUnderWay (read_by tree.profile other) extra n rest more) → IsUnderWay tree extra m left told → IsUnderWay tree extra n rest more
 followed_in tree other extra m n left rest told more same step w =

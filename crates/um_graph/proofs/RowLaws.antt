@@ -1,4 +1,4 @@
--- What a kind that is added makes of a row, and of the rows.
+-- A row, and the rows, after a kind is added.
 use Rattle.std.proofs.Common.{◌≡◌, ◌≢◌, ◌⊎◌, ◌==◌, ◌<◌, ◌^◌, ℕ, zero, suc, Bool, true, false, cond, List, [], ◌∷◌, ◌++◌, length, map, get_or, set, All, Contains, Option, Some, None, refl, sym, ap, ◌∙◌, subst, inl, inr, arith}
 use Rattle.std.specs.Cmp.{nat_eq_equiv}
 use Rattle.std.specs.List.{IsDistinct}
@@ -69,7 +69,7 @@ put_in (e ∷ es) y n = by (nat_eq y e.0) (put_in es y n)
     by true rest = value_first (e.0, n) es
     by false rest = values-cons e (insert_entry nat_eq es y n) n rest
 
--- what is among the values was so, or is new
+-- a value was among the values before, or is the new one
 pub put_cases : (es : Entries) (y : ℕ) (n m : Neighbour) → Contains (values_of (insert_entry nat_eq es y n)) m → (n ≡ m) ⊎ Contains (values_of es) m
 put_cases [] y n m h = values_cases (y, n) [] m h
 put_cases (e ∷ es) y n m h = by (nat_eq y e.0) (put_cases es y n m) h
@@ -81,7 +81,7 @@ put_cases (e ∷ es) y n m h = by (nat_eq y e.0) (put_cases es y n m) h
       | inr b ↦ elim (rest b) [ inl c ↦ inl c | inr d ↦ inr (values-cons e es m d) ]
     ]
 
--- what was among the values is so still, or is what was found under that number
+-- a value that was there is still there, unless it is the one found under that number
 pub put_kept : (es : Entries) (y : ℕ) (n m : Neighbour) → Contains (values_of es) m → Contains (values_of (insert_entry nat_eq es y n)) m ⊎ (lookup (nat_eq y) es ≡ Some m)
 put_kept [] y n m (k, h, q) = absurd (omega arith)
 put_kept (e ∷ es) y n m h = by (nat_eq y e.0) (put_kept es y n m)
@@ -93,7 +93,7 @@ put_kept (e ∷ es) y n m h = by (nat_eq y e.0) (put_kept es y n m)
       | inr b ↦ elim (rest b) [ inl c ↦ inl (values-cons e (insert_entry nat_eq es y n) m c) | inr d ↦ inr d ]
     ]
 
--- what is found is among the values, under its own number
+-- a found value is among the values, under its own number
 pub found_in : (es : Entries) (y : ℕ) (m : Neighbour) → IsKeyed es → lookup (nat_eq y) es ≡ Some m → Contains (values_of es) m × (m.unit ≡ y)
 found_in [] y m a h = cc
 found_in (e ∷ es) y m a h = by (nat_eq y e.0) refl (found_in es y m (All-tail (λ e. e.0 ≡ e.1.unit) e es a)) h
@@ -249,7 +249,7 @@ rows_nothing units a = record {
     none_held : (ns : List Neighbour) (j y : ℕ) → ns ≡ [] → Holds ns j y → ⊥
     none_held ns j y e h = let within = h.listed.1 in omega (arith, ap length e)
 
--- ---- what a look-up in a row says
+-- ---- a look-up in a row
 pair_same : (e : ℕ × Neighbour) (k : ℕ) (m : Neighbour) → e.0 ≡ k → e.1 ≡ m → e ≡ (k, m)
 pair_same e k m a b = λ i. (a i, b i)
 

@@ -23,7 +23,7 @@ use Rattle.um_model.specs.FileForms.{Meaning, names_said}
 use Rattle.um_model.specs.FileForms.{unit_reading}
 use Rattle.um_model.specs.FileForms.{without_install}
 
--- ---- what a value tells
+-- ---- the names in a value
 module _ (fits : List ℕ → Bool) (unit : List ℕ) where
   tested : (text y : List ℕ) (b : Bool) → fits text ≡ b → result_ok {T = List ℕ} {E = WarningKind} (if b then Ok text else Err UnreadableValue) ≡ Some y → fits y ≡ true
   tested text y true t h = let same : text ≡ y = cc in sym (ap fits same) ∙ t
@@ -56,12 +56,12 @@ module _ (fits : List ℕ → Bool) (unit : List ℕ) where
       by None c = absurd (in_none y c)
       by (Some words) c = words_fit words y c
 
--- ---- what the settings say
+-- ---- the names in the settings
 module _ (unit : List ℕ) (assigned : List Assigned) where
   named_are : (key y : List ℕ) → Contains (units_named key unit assigned) y → is_unit_name y ≡ true
   named_are key y c = let r = flat_contains (names_said is_unit_name unit) (values_of ((codes "Unit", key) ∷ []) assigned) y c in value_fits is_unit_name unit r.0 y r.2
 
--- all that is named is a unit name
+-- each name given is a unit name
 pub record AreNames (d : Dependencies) : Type 0 where
   pub needs : (kind : DependencyKind) (y : List ℕ) → Contains (names_in kind d) y → is_unit_name y ≡ true
   pub before : (y : List ℕ) → Contains d.before y → is_unit_name y ≡ true

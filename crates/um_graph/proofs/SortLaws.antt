@@ -1,4 +1,4 @@
--- Rows that are put in the order of their numbers hold what they held.
+-- Rows that are put in the order of their numbers keep their contents.
 use Rattle.std.proofs.Common.{◌≡◌, ◌≢◌, ◌==◌, ◌∙◌, ◌<◌, ◌≤◌, ℕ, zero, suc, false, true≢false, cond, Less, Equal, Greater, List, [], ◌∷◌, length, get_or, set, All, AllPairs, Contains, IsPermutation, refl, sym, ap, subst, inl, inr, arith, lt-ltb, nat_eq}
 use Rattle.std.specs.Cmp.{nat_cmp_total}
 use Rattle.std.specs.List.{IsDistinct}

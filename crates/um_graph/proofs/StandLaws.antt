@@ -1,4 +1,4 @@
--- What stands in the rows of a graph are its units.
+-- The members of a graph's rows are its units.
 use Rattle.std.proofs.Common.{◌≡◌, ◌∙◌, ◌<◌, ℕ, List, length, All, Contains, Option, Some, None, slice_get, refl, sym, subst, inl, inr, arith}
 use Rattle.std.proofs.lemmas.Option.{slice_get_cases}
 use Rattle.um_graph.specs.Graph.{GraphView, IsGraph, Stands, row_of, neighbours_or_none}

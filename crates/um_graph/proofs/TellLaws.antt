@@ -1,4 +1,4 @@
--- What the lists of Tells have is just what the definitions of dependencies give.
+-- The lists of Tells have just the relations that the definitions of dependencies give.
 use Rattle.std.proofs.Common.{◌≡◌, ◌⊎◌, ◌∙◌, ℕ, Bool, true, false, List, [], ◌∷◌, ◌++◌, Contains, Option, Some, None, is_some, if◌then◌else◌, ◌&&◌, refl, sym, ap, subst, inl, inr}
 use Rattle.std.specs.FinMap as map
 use Rattle.std.specs.List.{flat_map}
@@ -42,7 +42,7 @@ unfolding is_unit_name suffix_of stem_of
 shutdown_is_name = refl
 
 module _ (tree : ReadTree) where
-  -- ---- what the settings of a unit tell
+  -- ---- the relations from a unit's settings
   pub data SaidBy (l : LoadedUnit) (t : Told) : Type 0 where
     needs : (kind : DependencyKind) (y : List ℕ) → Contains (names_in kind l.settings.dependencies) y → tell (Depends kind) l.name (unit_named tree.entries y) ≡ t → SaidBy l t
     precedes : (y : List ℕ) → Contains l.settings.dependencies.before y → tell Declared l.name (unit_named tree.entries y) ≡ t → SaidBy l t
@@ -177,7 +177,7 @@ module _ (tree : ReadTree) where
     said_in n (conflicts h e) = defaults_in h (subst (Contains (shutdown_told tree.entries l.name (Some shutdown_target))) e (in_first _ _))
     said_in n (ends h e) = defaults_in h (subst (Contains (shutdown_told tree.entries l.name (Some shutdown_target))) e (in_second _ _))
 
-  -- ---- what a name tells by the settings of its unit
+  -- ---- the relations of a name, from the settings of its unit
   pub record ToldBy (a : List ℕ) (t : Told) : Type 0 where
     pub unit : LoadedUnit
     pub loadable : loadable_in tree a ≡ Some unit
@@ -234,7 +234,7 @@ module _ (tree : ReadTree) where
       by l h (conflicts d e) = let no : Depends kinds.Conflicts ≡ Declared = ap (λ (t : Told). t.link) e in cc
       by l h (ends d e) = let no : Ending ≡ Declared = ap (λ (t : Told). t.link) e in cc
 
-  -- that the unit of a name ends before shutdown.target
+  -- the unit of a name ends before shutdown.target
   pub record EndsBy (a x y : List ℕ) : Type 0 where
     pub unit : LoadedUnit
     pub loadable : loadable_in tree a ≡ Some unit
@@ -259,7 +259,7 @@ module _ (tree : ReadTree) where
   pub ends_told : (a : List ℕ) (l : LoadedUnit) → loadable_in tree a ≡ Some l → has_defaults l ≡ true → Contains (told_in tree a) (tell Ending l.name (unit_named tree.entries shutdown_target))
   ends_told a l h d = in_told a _ (record { unit = l; loadable = h; said = ends d refl })
 
-  -- ---- what links tell, and what entries name
+  -- ---- the relations from links, and the names in entries
   pub record LinkTold (t : Told) : Type 0 where
     pub kind : DependencyKind
     pub x : List ℕ
@@ -441,7 +441,7 @@ module _ (tree : ReadTree) where
   gives_told a _ _ _ (model.linked {y = z} {kind = kind} links) = inr (links_in kind a z links)
   gives_told a _ _ _ (model.ends {l = l} h d) = inl (in_told a _ (record { unit = l; loadable = h; said = conflicts d refl }))
 
-  -- what a link tells is given by its holder
+  -- a link's relation is given by its holder
   pub link_gives : (kind : DependencyKind) (x y : List ℕ) → Contains (links_told tree.entries) (tell (Depends kind) x y) → (a : List ℕ) × ((Extra : List ℕ → Type 0) → IsNamed tree Extra a) × Gives tree a kind x y
   link_gives kind x y c =
       let r = links_out (tell (Depends kind) x y) c in

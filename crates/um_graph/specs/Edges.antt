@@ -1,5 +1,5 @@
--- What was told, by the numbers of the units, and the order that follows from it.
--- Follows the definitions of dependencies and of the order, which it says by numbers.
+-- The relations found, by the numbers of the units, and the order that follows from them.
+-- Follows the definitions of dependencies and of the order, which it states by numbers.
 -- The contracts of the graph's parts stand on this file.
 use Rattle.std.specs.Prelude.{◌≡◌, ℕ, suc, ◌==◌, Bool, false, not, ◌&&◌, List, [], ◌∷◌, ◌++◌, map, Option, Some, None, option_map, slice_get, if◌then◌else◌}
 use Rattle.std.specs.BTreeMap.{IsOrdered}
@@ -72,7 +72,7 @@ comes_after units x y = comes_after_by (slice_get units x) (slice_get units y) y
 abbrev pub pair : ℕ → ℕ → Pair
 pair first second = record { first = first; second = second }
 
--- a target comes after what it wants or requires
+-- a target comes after the units that it wants or requires
 abbrev pub pulled : List Unit → ℕ → ℕ → List Pair
 pulled units x y = if comes_after units x y then pair y x ∷ [] else []
 
@@ -85,7 +85,7 @@ order_by units other x y = []
 abbrev pub order_seen : List Unit → Edge → List Pair
 order_seen units e = order_by units e.link e.from e.to
 
--- ---- what edges and pairs make of the rows
+-- ---- the bonds of edges and pairs in the rows
 
 abbrev pub bonds_by : Link → ℕ → ℕ → List Bond
 bonds_by (Depends kind) x y = (bit_of kind, x, y) ∷ (inverse_bit_of kind, y, x) ∷ []
@@ -101,7 +101,7 @@ pair_bonds p = (before_bit, p.first, p.second) ∷ (after_bit, p.second, p.first
 abbrev pub edges_seen : List Unit → List Told → List Edge
 edges_seen units told = flat_map (edge_seen (names_of units)) told
 
--- the units were joined by all that was told: first by dependencies and what is declared, then by the order that follows
+-- the units were joined by all relations: first by dependencies and the declared order, then by the order that follows
 pub record AreJoined (told : List Told) (old new : List Unit) : Type 0 where
   pub middle : List Unit
   pub same_middle : map unit_seen middle ≡ map unit_seen old
@@ -109,7 +109,7 @@ pub record AreJoined (told : List Told) (old new : List Unit) : Type 0 where
   pub first : AreRows (flat_map edge_bonds (edges_seen old told)) middle
   pub rows : AreRows (flat_map edge_bonds (edges_seen old told) ++ flat_map pair_bonds (flat_map (order_seen middle) (edges_seen old told))) new
 
--- these are the units that were followed, joined by all that was told
+-- these are the units that were followed, joined by all relations
 pub record AreUnits (loaded : Loaded) (told : List Told) (units : List Unit) : Type 0 where
   pub start : List Unit
   pub seen : map unit_seen start ≡ loaded.entries

@@ -1,5 +1,5 @@
--- What a graph is: names, loadings and rows by the numbers of the units, and when it is the graph of a tree.
--- Follows the definitions of dependencies: it says them by numbers.
+-- A graph: names, loadings and rows by the numbers of the units, and when it is the graph of a tree.
+-- Follows the definitions of dependencies: it states them by numbers.
 -- Transactions stand on this file.
 use Rattle.std.specs.Prelude.{◌≡◌, ◌≢◌, ℕ, ◌<◌, ◌≤◌, ◌↔◌, true, List, [], length, All, AllPairs, Contains, Option, Some, None, option_map, slice_get, find}
 use Rattle.um_model.specs.Dependencies.{IsKnown, Depends, Precedes, unit_limit}
@@ -12,7 +12,7 @@ use Rattle.um_unit.specs.declared.loaded.Loading.{Loading}
 use Rattle.um_graph.specs.Kinds.{bit_of, inverse_bit_of, before_bit, after_bit, has}
 use Rattle.um_graph.specs.declared.row.Neighbour.{Neighbour}
 
--- of each unit, by its number: its name, what became of its look, and its neighbours; and for how many units the tree counts
+-- for each unit, by its number: its name, the outcome of its look-up, and its neighbours; and the tree's count of units
 pub record GraphView : Type 0 where
   pub names : List (List ℕ)
   pub loadings : List Loading
@@ -46,8 +46,7 @@ Stands rows bit x y = Holds (row_of rows x) bit y
 abbrev pub AreOnce : List Neighbour → Type 0
 AreOnce row = AllPairs (λ (m n : Neighbour). m.unit ≢ n.unit) row
 
--- there is a row and a loading for each name, the names ascend and are no more than units may be known, each neighbour is one of the
--- units and stands in a row once, and each dependency stands in the rows of both units, as the order does
+-- the names ascend and aren't too many, each with a row and a loading; neighbours are units, once in a row; dependencies and order stand in both rows
 pub record IsGraph (g : GraphView) : Type 0 where
   pub loaded : length g.loadings ≡ length g.names
   pub rowed : length g.rows ≡ length g.names

@@ -15,7 +15,7 @@ bit_of BindsTo = 2
 bit_of PartOf = 3
 bit_of Conflicts = 4
 
--- the bit of what comes before another
+-- the bit of a unit that comes before another
 abbrev pub before_bit : ℕ
 before_bit = 5
 
@@ -27,7 +27,7 @@ inverse_bit_of BindsTo = 8
 inverse_bit_of PartOf = 9
 inverse_bit_of Conflicts = 10
 
--- the bit of what comes after another
+-- the bit of a unit that comes after another
 abbrev pub after_bit : ℕ
 after_bit = 11
 

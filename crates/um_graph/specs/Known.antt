@@ -1,4 +1,4 @@
--- Units on the way to be known: names that were followed, names that are left, and what was told.
+-- The search for known units: names that were followed, names that are left, and the relations found.
 -- Follows the definition of known units, a least set, as a work list finds it.
 -- The contracts of the search stand on this file.
 use Rattle.std.specs.Prelude.{◌≡◌, ◌⊎◌, ℕ, true, List, [], ◌∷◌, ◌++◌, Contains, Option, Some, None, is_some, if◌then◌else◌}
@@ -16,7 +16,7 @@ use Rattle.um_unit.specs.declared.loaded.Loading.{Loading}
 use Rattle.um_graph.specs.Tells.{entry_told, told_in}
 use Rattle.um_graph.specs.declared.told.Told.{Told}
 
--- what became of the look for each name that was followed
+-- the outcome of the look-up for each name that was followed
 abbrev pub Loaded : Type 0
 Loaded = BTreeMap (List ℕ) Loading
 
@@ -34,15 +34,15 @@ IsMet loaded left x = IsFollowed loaded x ⊎ Contains left x
 abbrev pub unless_followed : Loaded → List ℕ → List (List ℕ)
 unless_followed loaded x = if is_some (loading_at loaded x) then [] else x ∷ []
 
--- both names of what is told, unless they were followed
+-- both names of a relation, unless they were followed
 abbrev pub ends_left : Loaded → Told → List (List ℕ)
 ends_left loaded t = unless_followed loaded t.from ++ unless_followed loaded t.to
 
--- what the links of the tree tell
+-- the relations from the links of the tree
 abbrev pub links_told : Tree → List Told
 links_told tree = flat_map (entry_told tree) (map.entries tree)
 
--- a known name or a link tells it
+-- the relation comes from a known name or from a link
 pub data IsTold (tree : ReadTree) (extra : List (List ℕ)) (t : Told) : Type 0 where
   by_unit : (a : List ℕ) → IsKnown tree (Contains extra) a → Contains (told_in tree a) t → IsTold tree extra t
   by_link : Contains (links_told tree.entries) t → IsTold tree extra t
@@ -57,7 +57,7 @@ pub record IsUnderWay (tree : ReadTree) (extra : List (List ℕ)) (loaded : Load
   pub whole : (x : List ℕ) → IsFollowed loaded x → (t : Told) → Contains (told_in tree x) t → Contains told t
   pub ends : (t : Told) → Contains told t → IsMet loaded left t.from × IsMet loaded left t.to
 
--- so many units are known, and not too many, by the tree without its entries under `run/`; nothing is told where it is the tree itself
+-- exactly this number of units is known by the tree without its entries under `run/`, and not too many; None if it has no such entries
 abbrev pub CountsLasting : ReadTree → List (List ℕ) → Option ℕ → Type 0
 CountsLasting tree extra None = lasting_tree tree ≡ tree
 CountsLasting tree extra (Some count) = KnowsSoMany (lasting_tree tree) (Contains extra) count × ¬ KnowsTooMany (lasting_tree tree) (Contains extra)

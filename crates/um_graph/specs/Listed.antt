@@ -1,4 +1,4 @@
--- What the rows of units tell as lists: of each row the dependencies, and the order.
+-- The rows of units as lists: for each row the dependencies, and the order.
 -- Follows no manual page: it is how the code goes over the rows.
 -- The lists of a graph stand on this file.
 use Rattle.std.specs.Prelude.{ℕ, ◌<◌, ◌↔◌, List, [], ◌∷◌, Contains, if◌then◌else◌}
@@ -28,6 +28,6 @@ order_by x n = if has before_bit n.kinds then (x, n.unit) ∷ [] else []
 abbrev pub order_in : ℕ → List Neighbour → List (ℕ × ℕ)
 order_in x row = flat_map (order_by x) row
 
--- the items are what the units with a number below n give
+-- the items are those of the units with a number below n
 abbrev pub AreOf : {A : Type 0} → (ℕ → List A) → ℕ → List A → Type 0
 AreOf given n items = (a : _) → Contains items a ↔ ((x : ℕ) × (x < n) × Contains (given x) a)

@@ -1,4 +1,4 @@
--- What a graph says of units by their names, and what lists in the order of the names say of them.
+-- A graph's units by their names, and the items for them in lists in the order of the names.
 -- Follows no manual page: it turns numbers into names.
 -- The jobs of a graph's units and transactions stand on this file.
 use Rattle.std.specs.Prelude.{ℕ, if◌then◌else◌, List, [], ◌∷◌, slice_index_or}
@@ -17,7 +17,7 @@ pub record Joins (g : GraphView) (bit : ℕ) (x y : List ℕ) : Type 0 where
   pub second : IsNumberOf g to y
   pub stands : Stands g.rows bit from to
 
--- of the items in the order of the names the one for this name
+-- of the items in the order of the names, the one for this name
 abbrev pub item_for : {X : Type 0} → X → List (List ℕ) → List X → List ℕ → X
 item_for none [] xs name = none
 item_for none (n ∷ ns) [] name = none

@@ -1,6 +1,6 @@
 -- The units to which names lead, as the code remembers them.
 -- Follows the definition of where a name leads.
--- What is told by names stands on this file.
+-- The search by names stands on this file.
 use Rattle.std.specs.Prelude.{◌≡◌, ℕ, List, Some}
 use Rattle.std.specs.Str.{bytes_eq}
 use Rattle.indexmap.specs.IndexMap.{IndexMap, get}

@@ -1,4 +1,4 @@
--- The rows as the code fills them: of each unit its neighbours under their numbers.
+-- The rows as the code fills them: for each unit its neighbours under their numbers.
 -- Follows no manual page: it is how the code keeps them.
 -- The proofs of the graph stand on this file.
 use Rattle.std.specs.Prelude.{◌≡◌, ℕ, ◌<◌, List, [], length, All, Contains, Option, Some, None, slice_get, nat_eq}
@@ -39,7 +39,7 @@ entries_of units x = entries_at (slice_get units x)
 abbrev pub Joins : List Unit → ℕ → ℕ → ℕ → Type 0
 Joins units bit x y = Holds (values_of (entries_of units x)) bit y
 
--- each neighbour stands under its own number, once, and is one of so many units
+-- each neighbour stands under its own number, once, and is one of the n units
 pub record IsRow (n : ℕ) (entries : Entries) : Type 0 where
   pub keyed : All (λ e. e.0 ≡ e.1.unit) entries
   pub within : All (λ e. e.0 < n) entries

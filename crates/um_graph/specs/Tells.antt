@@ -1,4 +1,4 @@
--- What units and entries tell of dependencies and of the order, as lists.
+-- The relations of dependency and order from units and entries, as lists.
 -- Follows the definitions of dependencies, whose rules these are; the laws in proofs/ tie both.
 -- The contracts of the graph's parts stand on this file.
 use Rattle.std.specs.Prelude.{ℕ, List, [], ◌∷◌, ◌++◌, Option, Some, None, if◌then◌else◌}
@@ -36,7 +36,7 @@ told_from tree unit (Some name) = tell Declared (unit_named tree name) unit ∷ 
 abbrev pub follows_by : Tree → List ℕ → List ℕ → List Told
 follows_by tree unit text = told_from tree unit (named text)
 
--- what follows from default dependencies
+-- the relations that follow from default dependencies
 abbrev pub shutdown_told : Tree → List ℕ → Option (List ℕ) → List Told
 shutdown_told tree unit None = []
 shutdown_told tree unit (Some name) = tell (Depends kinds.Conflicts) unit (unit_named tree name) ∷ tell Ending unit (unit_named tree name) ∷ []
@@ -47,7 +47,7 @@ defaults_told tree l = if has_defaults l then shutdown_told tree l.name (named s
 abbrev pub kind_told : Tree → LoadedUnit → DependencyKind → List (List ℕ) → List Told
 kind_told tree l kind names = flat_map (names_given tree (Depends kind) l.name) names
 
--- what the unit depends on
+-- the dependencies of the unit
 abbrev pub needs_told : Tree → LoadedUnit → List Told
 needs_told tree l =
     kind_told tree l kinds.Wants l.settings.dependencies.wants
@@ -56,7 +56,7 @@ needs_told tree l =
     ++ (kind_told tree l kinds.PartOf l.settings.dependencies.part_of
     ++ kind_told tree l kinds.Conflicts l.settings.dependencies.conflicts)))
 
--- all that a unit's settings tell
+-- all relations from a unit's settings
 abbrev pub told_of : Tree → LoadedUnit → List Told
 told_of tree l =
     needs_told tree l
@@ -68,7 +68,7 @@ abbrev pub told_where : Tree → Option LoadedUnit → List Told
 told_where tree None = []
 told_where tree (Some l) = told_of tree l
 
--- all that a name tells by the settings of its unit
+-- all relations of a name, from the settings of its unit
 abbrev pub told_in : ReadTree → List ℕ → List Told
 told_in tree name = told_where tree.entries (loadable_in tree name)
 
@@ -98,7 +98,7 @@ told_between tree kind (Some name) (Some other) = tell (Depends kind) (unit_name
 abbrev pub link_told : Tree → DependencyKind → List ℕ → List ℕ → List Told
 link_told tree kind unit other = told_between tree kind (named unit) (named other)
 
--- what an entry at such a place names
+-- the names in an entry at such a place
 abbrev pub place_names : List ℕ → Place → Entry → List (List ℕ)
 place_names unit Unit entry = own_name unit
 place_names unit (DropIn file) entry = []
@@ -114,7 +114,7 @@ names_at (Some parts) entry = place_names parts.unit parts.place entry
 abbrev pub entry_names : List ℕ × Entry → List (List ℕ)
 entry_names e = names_at (path_parts e.0) e.1
 
--- what an entry at such a place tells
+-- the relations from an entry at such a place
 abbrev pub place_told : Tree → List ℕ → Place → Entry → List Told
 place_told tree unit Unit entry = []
 place_told tree unit (DropIn file) entry = []

@@ -1,4 +1,4 @@
--- What the code holds as what the definitions speak of.
+-- The code's graph as the value that the definitions use.
 -- Follows no manual page: it is how the code keeps it.
 -- The contracts of the graph stand on this file.
 use Rattle.std.specs.Prelude.{ℕ, List, map}
@@ -6,7 +6,7 @@ use Rattle.std.specs.Map.{values_of}
 use Rattle.um_graph.specs.Graph.{GraphView}
 use Rattle.um_graph.specs.declared.units.Unit.{Unit}
 
--- the units by their numbers, and for how many the tree counts
+-- the units by their numbers, and the tree's count of units
 abbrev pub graph_of : List Unit → ℕ → GraphView
 graph_of units count = record {
   names = map (λ u. u.name) units;

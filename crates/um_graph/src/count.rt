@@ -1,4 +1,4 @@
-//! The known units of a tree, and for how many it counts, however many these are.
+//! The known units of a tree, and the tree's count of units, however many these are.
 
 ghost use Rattle.std.specs.Prelude.{◌≡◌, ◌↔◌, ℕ, List, AllPairs, Contains, IfOk};
 ghost use Rattle.std.specs.BTreeMap.{IsOrdered};
@@ -16,7 +16,7 @@ use std::collections::BTreeMap;
 use um_name::UnitName;
 use um_unit::{Loading, Reading};
 
-/// How many units are known by the tree.
+/// The number of units that are known by the tree.
 fn known_count(alloc: Global, reading: Reading<'_>, extra: &[UnitName]) -> Result<usize, AllocError>
     ensures { IfOk result (λ count. KnowsSoMany (tree_read reading.entry) (Contains extra.now) count) }
 {
@@ -24,7 +24,7 @@ fn known_count(alloc: Global, reading: Reading<'_>, extra: &[UnitName]) -> Resul
     Ok(known.loaded.len())
 }
 
-/// How many units are known by the tree without its entries under `run/`.
+/// The number of units that are known by the tree without its entries under `run/`.
 fn lasting_count(
     alloc: Global,
     reading: Reading<'_>,
@@ -41,8 +41,8 @@ fn lasting_count(
     known_count(alloc, reading, extra)
 }
 
-/// For how many units the tree counts, with those that are named beside it: the greater of the counts of known units now and
-/// without the entries under `run/`.
+/// The tree's count of units, with those that are named beside it: the greater of the counts of known units now and without the entries
+/// under `run/`.
 pub fn count_of(
     alloc: Global,
     reading: Reading<'_>,

@@ -1,4 +1,4 @@
-//! The edges of a graph: what was told, by numbers, and what follows from it.
+//! The edges of a graph: the relations found, by numbers, and the order that follows.
 
 ghost use Rattle.std.specs.Prelude.{◌≡◌, ◌<◌, [], Some, option_map, slice_get, All, AllPairs, IfOk, IfSome, length, vec_len};
 ghost use Rattle.std.specs.List.{flat_map};
@@ -23,7 +23,7 @@ fn number_of(names: &Names, name: &UnitName) -> Option<usize>
     names.number(name)
 }
 
-/// What was told by numbers; none where it is told of one unit.
+/// The relation by numbers; None if it is one of a unit with itself.
 fn edge_of(names: &Names, told: &Told) -> Option<Edge>
     ensures edge { option_to_list result ≡ edge_seen names.now told.now }
     ensures within { IfSome result (λ e. (e.from < length names.now) × (e.to < length names.now)) }
@@ -40,7 +40,7 @@ fn edge_of(names: &Names, told: &Told) -> Option<Edge>
     })
 }
 
-/// All that was told, by numbers.
+/// All relations, by numbers.
 fn edges_of(alloc: Global, names: &Names, told: &[Told]) -> Result<Vec<Edge>, AllocError>
     ensures edges { IfOk result (λ es. es.items ≡ flat_map (edge_seen names.now) told.now) }
     ensures within { IfOk result (λ es. All (λ e. (e.from < length names.now) × (e.to < length names.now)) es.items) }
@@ -100,7 +100,7 @@ fn comes_after(units: &Units, x: usize, y: usize) -> bool
     comes_behind(unit, other, y)
 }
 
-/// A target comes after what it wants or requires.
+/// A target comes after the units that it wants or requires.
 fn order_by_pull(units: &Units, edge: Edge) -> Option<Pair>
     ensures { option_to_list result ≡ pulled units.now.units.items edge.from edge.to }
 {
@@ -114,7 +114,7 @@ fn order_by_pull(units: &Units, edge: Edge) -> Option<Pair>
     }
 }
 
-/// The order that an edge brings along.
+/// The order that follows from an edge.
 fn order_of(units: &Units, edge: Edge) -> Option<Pair>
     ensures pair { option_to_list result ≡ order_seen units.now.units.items edge }
     ensures within { (edge.from < vec_len units.now.units) → (edge.to < vec_len units.now.units)
@@ -131,7 +131,7 @@ fn order_of(units: &Units, edge: Edge) -> Option<Pair>
     }
 }
 
-/// The order that the edges bring along.
+/// The order that follows from the edges.
 fn orders_of(alloc: Global, units: &Units, edges: &[Edge]) -> Result<Vec<Pair>, AllocError>
     requires within { All (λ e. (e.from < vec_len units.now.units) × (e.to < vec_len units.now.units)) edges.now }
     ensures pairs { IfOk result (λ ps. ps.items ≡ flat_map (order_seen units.now.units.items) edges.now) }
@@ -146,8 +146,8 @@ fn orders_of(alloc: Global, units: &Units, edges: &[Edge]) -> Result<Vec<Pair>, 
     Ok(orders)
 }
 
-/// The units joined by what was told of them: first by dependencies and what is declared, then by the order that follows. Each row
-/// stands in the order of its numbers.
+/// The units joined by their relations: first by dependencies and the declared order, then by the order that follows. Each row stands in
+/// the order of its numbers.
 pub(crate) fn joined(alloc: Global, units: Units, told: &[Told]) -> Result<Units, AllocError>
     requires sorted { AllPairs IsNamedBefore (names_of units.units.items) }
     requires rows { AreRows [] units.units.items }

@@ -1,4 +1,4 @@
-//! What the entries of a tree name, and what its links tell.
+//! The names in the entries of a tree, and the relations from its links.
 
 ghost use Rattle.std.specs.Prelude.{◌≡◌, ◌++◌, [], Some, IfOk, OnOk};
 ghost use Rattle.std.specs.FinMap as map;
@@ -15,14 +15,14 @@ use um_name::UnitName;
 use um_resolve::unit_named;
 use um_tree::{Entry, Place, ServedPath, Tree};
 
-/// The names in the entries of a tree, and what its links tell.
+/// The names in the entries of a tree, and the relations from its links.
 #[derive(Drop)]
 pub(crate) struct Found {
     pub(crate) names: Vec<UnitName>,
     pub(crate) told: Vec<Told>,
 }
 
-/// That the unit of the one name depends on that of the other.
+/// The relation that the first name's unit depends on the second's.
 fn dependence(
     alloc: Global,
     tree: &Tree,
@@ -40,7 +40,7 @@ fn dependence(
 }
 
 impl Found {
-    /// These names, and nothing told.
+    /// These names, and no relations.
     pub(crate) fn of_names(alloc: Global, names: &[UnitName]) -> Result<Found, AllocError>
         ensures names { IfOk result (λ f. f.names.items ≡ names.now) }
         ensures told { IfOk result (λ f. f.told.items ≡ []) }
@@ -87,7 +87,7 @@ impl Found {
         Ok(())
     }
 
-    /// A link in a directory of the unit names both units, and tells that the one depends on the other.
+    /// A link in a directory of the unit adds the names of both units, and the relation that the one depends on the other.
     fn add_link(
         &mut self,
         alloc: Global,
@@ -108,7 +108,7 @@ impl Found {
         self.add_pair(alloc, tree, kind, unit, other)
     }
 
-    /// Adds what an entry names and tells. A file in a directory of what a unit wants or requires is no link.
+    /// Adds the names and relations of an entry. A file in a directory for wanted or required units is no link.
     fn add_entry(
         &mut self,
         alloc: Global,
@@ -135,7 +135,7 @@ impl Found {
         Ok(())
     }
 
-    /// Adds what all entries name and tell.
+    /// Adds the names and relations of all entries.
     pub(crate) fn add_tree(&mut self, alloc: Global, tree: &Tree) -> Result<(), AllocError>
         ensures names { OnOk result (self.new.names.items ≡ self.old.names.items ++ flat_map entry_names (map.entries tree.now)) }
         ensures told { OnOk result (self.new.told.items ≡ self.old.told.items ++ flat_map (entry_told tree.now) (map.entries tree.now)) }

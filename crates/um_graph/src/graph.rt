@@ -1,3 +1,5 @@
+//! The graph of a tree: its known units, by number, with their neighbours.
+
 ghost use Rattle.std.specs.Prelude.{◌≡◌, ◌⊎◌, ◌<◌, [], ℕ, All, Option, Some, Contains, IfOk, IfErr, MatchOption, length, map, max, option_copied, slice_get, unwrap_or};
 ghost use Rattle.std.specs.Map.{values_of};
 ghost use Rattle.um_model.specs.Dependencies.{CountsFor, KnowsTooMany};
@@ -21,13 +23,14 @@ use um_name::UnitName;
 use um_unit::{Loading, Reading};
 use um_wire::Refusal;
 
-/// All known units of a tree, numbered from 0 in ascending order of their names, with what their files say and their
-/// neighbours: each other unit that a unit depends on, that depends on it, or that it is ordered with.
+/// All known units of a tree, numbered from 0 in ascending order of their names, with the contents of their files and their neighbours. A
+/// neighbour is another unit that a unit depends on, that depends on it, or that it is ordered with.
 #[derive(Drop)]
 pub struct Graph {
     units: Units,
     count: usize,
-    /// Of each unit the first neighbour that it comes after: as a rule that tells of a start that it isn't ready, without a look at its row.
+    /// For each unit the first neighbour that it comes after. As a rule this alone shows that a start isn't ready, without a look at its
+    /// row.
     firsts: Vec<Option<usize>>,
 }
 
@@ -41,8 +44,8 @@ impl Model for Graph {
 
 impl Graph {
     /// The graph of the tree as it is read, and of the units that are named beside it: those of which the state holds something, or that a
-    /// command names. Refused is a tree by which more than 1,024 units are known, now or without its entries under `run/`
-    /// (E13 `units`), and want of memory (E15).
+    /// command names. Refused with more than 1,024 known units, now or without the entries under `run/` (E13 `units`), and for want of
+    /// memory (E15).
     pub fn of(alloc: Global, reading: Reading<'_>, extra: &[UnitName]) -> Result<Graph, Refusal>
         ensures whole { IfOk result IsGraph }
         ensures graph { IfOk result (λ g. IsGraphOf (tree_read reading.entry) (λ x. Contains extra.now x) g) }
@@ -64,7 +67,7 @@ impl Graph {
         })
     }
 
-    /// For how many units the tree counts: the greater of the counts of known units now and without the entries under `run/`.
+    /// The tree's count of units: the greater of the counts of known units now and without the entries under `run/`.
     pub fn count(&self) -> usize
         ensures count { result ≡ self.now.count }
         ensures graph { IsGraph self.now }
@@ -72,7 +75,7 @@ impl Graph {
         self.count
     }
 
-    /// How many units there are.
+    /// The number of known units.
     pub fn len(&self) -> usize
         ensures len { result ≡ length self.now.names }
         ensures graph { IsGraph self.now }
@@ -97,7 +100,7 @@ impl Graph {
         }
     }
 
-    /// What became of the look for the unit with this number, which was read once.
+    /// The outcome of the look-up for the unit with this number, which was read once.
     pub fn loading(&self, unit: usize) -> Option<&Loading>
         ensures { option_copied result ≡ slice_get self.now.loadings unit }
     {
@@ -117,7 +120,7 @@ impl Graph {
         }
     }
 
-    /// The first neighbour of the unit with this number that it comes after, by its number; None where it comes after none, and past the last unit.
+    /// The first neighbour, by number, that the unit with this number comes after. None if there is none, and past the last unit.
     pub fn first_after(&self, unit: usize) -> Option<usize>
         ensures { result ≡ first_after (row_of self.now.rows unit) }
     {
@@ -127,7 +130,7 @@ impl Graph {
         }
     }
 
-    /// The neighbours of the unit of this name, in the order of their numbers; none where it isn't known.
+    /// The neighbours of the unit of this name, in the order of their numbers; none if it isn't known.
     pub fn neighbours_of(&self, name: &UnitName) -> &[Neighbour]
         ensures row { (unit : ℕ) → IsNumberOf self.now unit name.now → result.now ≡ row_of self.now.rows unit }
         ensures none { ¬ Contains self.now.names name.now → result.now ≡ [] }
@@ -143,7 +146,7 @@ impl Graph {
     }
 }
 
-/// How many units are known by the tree without its entries under `run/`, where it has any; refused are too many.
+/// The number of units that are known by the tree without its entries under `run/`; None if it has no such entries. Refused with too many.
 fn lasting_count(
     alloc: Global,
     reading: Reading<'_>,
@@ -176,7 +179,7 @@ fn first_after(row: &[Neighbour]) -> Option<usize>
         .map(|first| first.unit)
 }
 
-/// Of each unit the first neighbour that it comes after.
+/// For each unit the first neighbour that it comes after.
 fn firsts_of(alloc: Global, units: &Units) -> Result<Vec<Option<usize>>, AllocError>
     ensures { IfOk result (λ firsts. firsts.items ≡ map first_after (map (λ u. values_of u.row.neighbours.entries) units.now.units.items)) }
 {
@@ -187,7 +190,7 @@ fn firsts_of(alloc: Global, units: &Units) -> Result<Vec<Option<usize>>, AllocEr
     Ok(firsts)
 }
 
-/// The greater of two counts, where there are two.
+/// The greater of two counts, or the first if there is no second.
 fn greater(count: usize, other: Option<usize>) -> usize
     ensures { result ≡ max count (unwrap_or other count) }
 {
@@ -197,7 +200,7 @@ fn greater(count: usize, other: Option<usize>) -> usize
     }
 }
 
-/// The known units, joined by what they tell. Each row stands in the order of its numbers.
+/// The known units, joined by their relations. Each row stands in the order of its numbers.
 fn joined_units(alloc: Global, known: Known) -> Result<Units, AllocError>
     ensures units { IfOk result (λ u. AreUnits known.loaded known.told.items u.units.items) }
     ensures sorted { IfOk result (λ u. AreSorted u.units.items) }

@@ -1,3 +1,5 @@
+//! Sets of dependency kinds.
+
 ghost use Rattle.std.specs.Prelude.{⊤, ◌≡◌, ◌^◌, [], ◌∷◌, codes};
 ghost use Rattle.um_graph.specs.Kinds.{has, bit_of, before_bit, after_bit, inverse_bit_of};
 

@@ -27,22 +27,22 @@ use um_name::UnitName;
 use um_unit::{Loading, Reading, load};
 use um_wire::{Limit, Refusal};
 
-/// At most so many units are known.
+/// The greatest number of known units.
 const UNIT_LIMIT: u32 = 1_024;
 
-/// Units on the way to be known, and what was told of them.
+/// The search for known units, and the relations found so far.
 #[derive(Drop)]
 pub(crate) struct Known {
-    /// What became of the look for each name that was followed.
+    /// The outcome of the look-up for each name that was followed.
     pub(crate) loaded: BTreeMap<UnitName, Loading>,
-    /// The same names, which are found here by their hash.
+    /// The same names, for a look-up by their hash.
     followed: IndexSet<UnitName>,
     /// Names that may still have to be followed.
     pub(crate) left: Vec<UnitName>,
     pub(crate) told: Vec<Told>,
 }
 
-/// What the settings of the unit tell, if it can be loaded.
+/// The relations from the unit's settings, if it can be loaded.
 fn told_where_loaded(
     alloc: Global,
     resolved: &mut Resolved<'_>,
@@ -57,7 +57,7 @@ fn told_where_loaded(
     }
 }
 
-/// The unit of the name is loaded, and what became of the look for it is kept; what its settings tell.
+/// Loads the unit of the name, keeps the outcome of the look-up, and returns the relations from its settings.
 fn load_into(
     alloc: Global,
     resolved: &mut Resolved<'_>,
@@ -83,7 +83,7 @@ fn load_into(
 }
 
 impl Known {
-    /// The name is to be followed, unless it was.
+    /// The name is to be followed, unless it was already.
     fn meet(&mut self, name: &UnitName) -> Result<(), AllocError>
         requires { AreFollowed self.old.loaded self.old.followed }
         ensures left { OnOk result (self.new.left.items ≡ self.old.left.items ++ unless_followed self.old.loaded name.now) }
@@ -112,7 +112,7 @@ impl Known {
         Ok(())
     }
 
-    /// What is told is kept, and both its names are to be followed.
+    /// Keeps the relations, and both names of each are to be followed.
     fn take(&mut self, told: Vec<Told>) -> Result<(), AllocError>
         requires { AreFollowed self.old.loaded self.old.followed }
         ensures left { OnOk result (self.new.left.items ≡ self.old.left.items ++ flat_map (ends_left self.old.loaded) told.items) }
@@ -126,7 +126,7 @@ impl Known {
         Ok(())
     }
 
-    /// What is known with nothing followed yet.
+    /// The search with nothing followed yet.
     fn begin(alloc: Global, reading: Reading<'_>, extra: &[UnitName]) -> Result<Known, AllocError>
         ensures whole { IfOk result (λ k. IsUnderWay (tree_read reading.entry) extra.now k.loaded k.left.items k.told.items) }
         ensures count { IfOk result (λ k. btree_map_len k.loaded ≡ 0) }
@@ -146,7 +146,7 @@ impl Known {
         Ok(known)
     }
 
-    /// A name that is to be followed.
+    /// A name that is to be followed; None if none is left.
     fn next(&mut self) -> Option<UnitName>
         requires { AreFollowed self.old.loaded self.old.followed }
         ensures found { IfSome result (λ name. LeavesOut self.old.loaded self.old.left.items (self.new.left.items ++ name ∷ [])) }
@@ -164,7 +164,7 @@ impl Known {
         None
     }
 
-    /// Follows a name: its unit is loaded, once. Tells how many were by then.
+    /// Follows a name: its unit is loaded, once. Returns the number of names followed by then.
     fn follow(
         &mut self,
         alloc: Global,
@@ -188,7 +188,7 @@ impl Known {
         Ok(self.loaded.len())
     }
 
-    /// All known units, and what they tell. Refused is a tree by which more than 1,024 units are known (E13 `units`).
+    /// All known units and their relations. Refused with more than 1,024 units (E13 `units`).
     pub(crate) fn of(
         alloc: Global,
         reading: Reading<'_>,
@@ -213,7 +213,7 @@ impl Known {
         })
     }
 
-    /// All known units, however many, and what they tell.
+    /// All known units, however many, and their relations.
     pub(crate) fn all(
         alloc: Global,
         reading: Reading<'_>,

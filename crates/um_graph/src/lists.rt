@@ -14,7 +14,7 @@ use um_model::DependencyKind;
 /// A dependency: its kind, and the numbers of the unit that depends and of the one on which it does.
 type Dependency = (DependencyKind, usize, usize);
 
-/// Adds that the unit with this number depends on its neighbour so, where it does.
+/// Adds the dependency of this kind of the unit with this number on its neighbour, if there is one.
 fn push_kind(
     edges: &mut Vec<Dependency>,
     unit: usize,
@@ -29,7 +29,7 @@ fn push_kind(
     Ok(())
 }
 
-/// Adds in which ways the unit with this number depends on its neighbour.
+/// Adds all dependencies of the unit with this number on its neighbour.
 fn push_kinds(
     edges: &mut Vec<Dependency>,
     unit: usize,
@@ -45,7 +45,7 @@ fn push_kinds(
     Ok(())
 }
 
-/// Adds on which neighbours the unit with this number depends.
+/// Adds the dependencies of the unit with this number on its neighbours.
 fn push_dependencies(
     edges: &mut Vec<Dependency>,
     unit: usize,
@@ -59,7 +59,7 @@ fn push_dependencies(
     Ok(())
 }
 
-/// Adds before which neighbours the unit with this number comes.
+/// Adds the neighbours before which the unit with this number comes.
 fn push_order(
     pairs: &mut Vec<(usize, usize)>,
     unit: usize,

@@ -1,4 +1,4 @@
-//! The units to which names lead, each name looked for once.
+//! The units to which names lead, with one look-up for each name.
 
 ghost use Rattle.std.specs.Prelude.{◌≡◌, IfOk};
 ghost use Rattle.um_model.specs.Tree as model;
@@ -13,7 +13,7 @@ use um_name::UnitName;
 use um_resolve::unit_named;
 use um_tree::Tree;
 
-/// The units to which the names lead in a tree that were asked for. A name is looked for once, however often it is asked for.
+/// The units to which names lead in a tree, as far as they were requested. A name is looked up once, however often it is requested.
 #[derive(Drop)]
 pub(crate) struct Resolved<'t> {
     tree: &'t Tree,
@@ -31,7 +31,7 @@ impl<'t> Model for Resolved<'t> {
 }
 
 impl<'t> Resolved<'t> {
-    /// No name was asked for yet.
+    /// No name was requested yet.
     pub(crate) fn new(alloc: Global, tree: &'t Tree) -> Resolved<'t>
         ensures { result ≡ tree.now }
     {
@@ -41,14 +41,14 @@ impl<'t> Resolved<'t> {
         }
     }
 
-    /// The tree.
+    /// The tree in which names are resolved.
     pub(crate) fn tree(&self) -> &'t Tree
         ensures { result.now ≡ self.now }
     {
         self.tree
     }
 
-    /// The unit to which the name leads, or where it leads nowhere the name itself.
+    /// The unit to which the name leads, or the name itself if it leads nowhere.
     pub(crate) fn unit(&mut self, alloc: Global, name: UnitName) -> Result<UnitName, AllocError>
         ensures unit { IfOk result (λ unit. unit ≡ units.unit_named self.old name) }
         ensures tree { self.new ≡ self.old }

@@ -1,3 +1,5 @@
+//! The neighbours of one unit.
+
 ghost use Rattle.std.specs.Prelude.{◌≡◌, [], OnOk, nat_eq};
 ghost use Rattle.std.specs.List.Sorted.{IsSorted};
 ghost use Rattle.std.specs.Ordering.{nat_cmp};
@@ -12,9 +14,9 @@ use std::alloc::{AllocError, Global};
 /// A unit beside another, and how that one stands to it.
 #[derive(Clone, Copy, Debug, PartialEq, Eq)]
 pub struct Neighbour {
-    /// Its number.
+    /// The number of the neighbour in the graph.
     pub unit: usize,
-    /// In which ways the unit whose neighbour it is stands to it.
+    /// The kinds in which the unit whose neighbour it is stands to it.
     pub kinds: Kinds,
 }
 
@@ -34,7 +36,7 @@ impl Row {
         }
     }
 
-    /// The neighbours in the order in which they came, or that of their numbers where they were sorted since.
+    /// The neighbours in the order in which they were added, or in that of their numbers once they were sorted.
     pub(crate) fn neighbours(&self) -> &[Neighbour]
         ensures { result.now ≡ values self.now.neighbours }
     {

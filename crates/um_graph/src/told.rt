@@ -1,4 +1,4 @@
-//! What the settings of a unit tell of it and of other units.
+//! The relations from a unit's settings, of it and of other units.
 
 ghost use Rattle.std.specs.Prelude.{◌≡◌, ◌∷◌, ◌++◌, [], IfOk, OnOk, option_map, string_bytes, map};
 ghost use Rattle.std.specs.List.{flat_map};
@@ -14,7 +14,7 @@ use um_model::DependencyKind;
 use um_name::UnitName;
 use um_unit::{LoadedUnit, Loading};
 
-/// In which way one unit is told to stand to another.
+/// The way in which one unit stands to another.
 #[derive(Clone, Copy, Debug, PartialEq, Eq)]
 pub(crate) enum Link {
     /// It depends on the other.
@@ -25,7 +25,7 @@ pub(crate) enum Link {
     Ending,
 }
 
-/// That one unit stands to another in a way.
+/// A relation: one unit stands to another in a way.
 #[derive(Drop)]
 pub(crate) struct Told {
     pub(crate) link: Link,
@@ -43,7 +43,7 @@ pub fn loadable(loading: &Loading) -> Option<&LoadedUnit>
     }
 }
 
-/// Adds that the unit stands so to each of these.
+/// Adds the relation that the unit stands so to each of these.
 fn tell_all(
     alloc: Global,
     resolved: &mut Resolved<'_>,
@@ -67,7 +67,7 @@ fn tell_all(
     Ok(())
 }
 
-/// Adds that each of these is declared before the unit.
+/// Adds the relation that each of these is declared before the unit.
 fn tell_earlier(
     alloc: Global,
     resolved: &mut Resolved<'_>,
@@ -90,7 +90,7 @@ fn tell_earlier(
     Ok(())
 }
 
-/// Whether the unit conflicts with `shutdown.target` and comes before it: each but that one does, unless it says
+/// Whether the unit conflicts with `shutdown.target` and comes before it. Each unit but that one does, unless it says
 /// `DefaultDependencies=no`.
 fn has_defaults(unit: &LoadedUnit) -> bool
     ensures { result ≡ model.has_defaults (loaded_of unit.now) }
@@ -104,7 +104,7 @@ fn shutdown_target(alloc: Global) -> Result<Option<UnitName>, AllocError>
     UnitName::named(alloc, "shutdown.target")
 }
 
-/// Adds that the one stands so to the other.
+/// Adds the relation that the one stands so to the other.
 fn push_told(
     told: &mut Vec<Told>,
     link: Link,
@@ -121,7 +121,7 @@ fn push_told(
     Ok(())
 }
 
-/// Adds that the unit conflicts with `shutdown.target` and comes before it.
+/// Adds the relations that the unit conflicts with `shutdown.target` and comes before it.
 fn tell_shutdown(
     alloc: Global,
     resolved: &mut Resolved<'_>,
@@ -144,7 +144,7 @@ fn tell_shutdown(
     push_told(told, Link::Ending, unit, &shutdown)
 }
 
-/// Adds what follows from default dependencies.
+/// Adds the relations that follow from default dependencies.
 fn tell_defaults(
     alloc: Global,
     resolved: &mut Resolved<'_>,
@@ -160,7 +160,7 @@ fn tell_defaults(
     Ok(())
 }
 
-/// Adds that the unit depends on those that its settings name.
+/// Adds the relations that the unit depends on those that its settings name.
 fn tell_needs(
     alloc: Global,
     resolved: &mut Resolved<'_>,
@@ -185,7 +185,7 @@ fn tell_needs(
     Ok(())
 }
 
-/// All that the settings of the unit tell.
+/// All relations from the settings of the unit.
 pub(crate) fn told_by(
     alloc: Global,
     resolved: &mut Resolved<'_>,

@@ -77,7 +77,7 @@ impl Units {
         self.units.binary_search_by(|unit| unit.name.cmp(name)).ok()
     }
 
-    /// Their names again.
+    /// A copy of their names.
     fn copies(&self, alloc: Global) -> Result<Vec<UnitName>, AllocError>
         ensures { IfOk result (λ copies. copies.items ≡ names_of self.now.units.items) }
     {
@@ -144,7 +144,7 @@ impl Units {
         Ok(())
     }
 
-    /// Adds a dependency or an order that was declared, to the rows of both units.
+    /// Adds a dependency or a declared order to the rows of both units.
     fn add_edge(&mut self, edge: Edge) -> Result<(), AllocError>
         requires from { edge.from < vec_len self.old.units }
         requires to { edge.to < vec_len self.old.units }
@@ -163,7 +163,7 @@ impl Units {
         Ok(())
     }
 
-    /// Adds these dependencies, and what of the order was declared.
+    /// Adds these dependencies and the declared order.
     pub(crate) fn add_edges(&mut self, edges: &[Edge]) -> Result<(), AllocError>
         requires within { All (λ e. (e.from < vec_len self.old.units) × (e.to < vec_len self.old.units)) edges.now }
         ensures same { OnOk result (map unit_seen self.new.units.items ≡ map unit_seen self.old.units.items) }

@@ -1,4 +1,4 @@
--- What Also= names are unit names.
+-- The names in Also= are unit names.
 use Rattle.std.proofs.Common.{◌≡◌, ◌∙◌, ℕ, Bool, true, false, cond, List, [], ◌∷◌, map as each, Contains, Option, Some, None, Ok, Err, refl, sym, ap, arith}
 use Rattle.std.specs.List.{filter_map}
 use Rattle.um_model.specs.Profiles.{ReadTree}
@@ -25,7 +25,7 @@ use Rattle.um_model.specs.FileForms.{unit_reading}
 none_in : (name : List ℕ) → Contains [] name → ⊥
 none_in name (k, h, e) = omega arith
 
--- what is read of a word is a name that fits
+-- the reading of a word is a name that fits
 module _ (fits : List ℕ → Bool) (unit : List ℕ) where
   by_test : (b : Bool) (text name : List ℕ) → fits text ≡ b → result_ok {T = List ℕ} {E = WarningKind} (cond b (Ok text) (Err UnreadableValue)) ≡ Some name → fits name ≡ true
   by_test true text name t e = ap fits (sym (same_Some text name e)) ∙ t
@@ -66,7 +66,7 @@ in_loading tree (AtNoFile unit) name c = absurd (none_in name c)
 in_loading tree (AtMask unit) name c = absurd (none_in name c)
 in_loading tree Nowhere name c = absurd (none_in name c)
 
--- what a unit names in Also= are unit names
+-- the names in a unit's Also= are unit names
 pub also_is_name : (tree : ReadTree) (unit name : List ℕ) → Contains (install_of (load tree unit)).also name → is_unit_name name ≡ true
 unfolding load
 also_is_name tree unit name c = in_loading tree (resolution_of tree.entries unit) name c

@@ -1,4 +1,4 @@
--- The tree with the links that are asked for, and why there is none.
+-- The tree with the requested links, and why there is none.
 use Rattle.std.proofs.Common.{ℕ, zero, suc, ◌+◌, ◌≤◌, ◌≡◌, ◌∙◌, nat_le, Bool, true, false, not, cond, ◌&&◌, is_eq, List, [], ◌∷◌, map as each, Contains, Option, Some, None, is_some, is_none, Ok, Less, refl, sym, ap, subst, arith}
 use Rattle.std.specs.Cmp.{eq_by_cmp_equiv}
 use Rattle.std.specs.Cmp.Lexicographic.{slice_cmp, nat_list_cmp_total}
@@ -20,14 +20,14 @@ abbrev pub grown : Tree → List (List ℕ × List ℕ) → Tree
 grown tree [] = tree
 grown tree (e ∷ es) = grown (map.insert tree e.0 (Link e.1)) es
 
--- a path that isn't among those behind it
+-- a path that isn't among those after it
 absent : (path : List ℕ) (es : List (List ℕ × List ℕ)) → After path es → map.find (slice_cmp nat_cmp) path es ≡ None
 absent path [] a = refl
 absent path (e ∷ es) a =
     let other : eq_by_cmp (slice_cmp nat_cmp) path e.0 ≡ false = ap is_eq a.0 in
     ap (λ b. cond b (Some e.1) (map.find (slice_cmp nat_cmp) path es)) other ∙ absent path es a.1
 
--- what stands at a path of none of them
+-- the entry at a path that is none of theirs
 pub kept_at : (tree : Tree) (es : List (List ℕ × List ℕ)) (path : List ℕ) → map.find (slice_cmp nat_cmp) path es ≡ None → map.get (grown tree es) path ≡ map.get tree path
 kept_at tree [] path n = refl
 kept_at tree (e ∷ es) path n = elim (eq_by_cmp (slice_cmp nat_cmp) path e.0) as (λ b. eq_by_cmp (slice_cmp nat_cmp) path e.0 ≡ b → map.get (grown tree (e ∷ es)) path ≡ map.get tree path) [
@@ -37,7 +37,7 @@ kept_at tree (e ∷ es) path n = elim (eq_by_cmp (slice_cmp nat_cmp) path e.0) a
       ∙ (map.get-insert nat_list_cmp_total tree e.0 (Link e.1) path ∙ ap (λ b. cond b (Some (Link e.1)) (map.get tree path)) f)
 ] refl
 
--- what stands at the path of one
+-- the entry at the path of one of them
 pub linked_at : (tree : Tree) (es : List (List ℕ × List ℕ)) → Rising es → (e : List ℕ × List ℕ) → Contains es e → map.get (grown tree es) e.0 ≡ Some (Link e.1)
 linked_at tree [] r e (k, h, g) = absurd (omega arith)
 linked_at tree (x ∷ es) r e (zero, h, g) =
@@ -62,7 +62,7 @@ one_more : (o : Option Entry) (m n : ℕ) → cond (is_some o) m (m + 1) + n ≡
 one_more None m n = omega arith
 one_more (Some e) m n = refl
 
--- how many entries it has
+-- the number of its entries
 pub len_grown : (tree : Tree) (es : List (List ℕ × List ℕ)) → Rising es → map.len (grown tree es) ≡ map.len tree + new_paths tree (each (λ e. e.0) es)
 len_grown tree [] r = omega arith
 len_grown tree (x ∷ es) r =

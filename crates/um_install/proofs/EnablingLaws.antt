@@ -1,4 +1,4 @@
--- Disabling a unit takes away the links that enabling it made; while they are there it is told to be enabled; and enabling it again changes nothing.
+-- Disabling a unit removes the links that enabling made; with these links it counts as enabled; and enabling it again changes nothing.
 use Rattle.std.proofs.Common.{ℕ, ◌≡◌, ◌⊎◌, ◌∙◌, Bool, true, false, true≢false, cond, not, ◌||◌, List, [], ◌∷◌, ◌++◌, map as each, Contains, Option, Some, None, refl, sym, ap, subst, inl, inr, ◌≢◌, append-nil, ◌<◌, is_some, is_none, filter}
 use Rattle.std.specs.FinMap as map
 use Rattle.std.specs.List.{list_any}
@@ -102,7 +102,7 @@ module _ (tree : ReadTree) (asked name file : List ℕ) (l : LoadedUnit) (is : I
         by_fit false e =
             absurd (fit (path_text p) (file, w, ap (λ o. is_fit_target o file) (parts_at p unit ∙ ap (λ b. cond b (Some p) None) e)))
 
-    -- disabling by a name for which the link is removes it
+    -- disabling by a name that the link is for removes it
     unlinks : (by : List ℕ) (p : PathParts) (meant : List ℕ) → IsMeant u by meant → is_unit_name p.unit ≡ true → IsAskedFor tree asked (link_at (path_text p) file)
         → is_link_for meant p file ≡ true → IsUnlinked u by (path_text p)
     unlinks by p meant h unit w leads =
@@ -173,7 +173,7 @@ linked_by_name tree asked file l is = record {
   at = is.at;
 }
 
--- what enabling a unit by its name linked, disabling it by its name unlinks
+-- disabling a unit by its name removes the links that enabling it by its name made
 pub disabling_undoes : (tree : ReadTree) (asked file : List ℕ) (l : LoadedUnit) → IsFoundByName tree asked file l
     → (u : ReadTree) (v : Tree) → Obeys tree verbs.Enable asked u.entries → Installs u verbs.Disable asked v → IsUndone l asked file v
 disabling_undoes tree asked file l is u v obeys undoes =
@@ -302,7 +302,7 @@ asked_as u tree same asked is link w = record {
   among = subst (λ found. Contains (links_of found) link) (same w.unit (taken_name u asked w.unit is w.taken)) w.among;
 }
 
--- at no path something stands in a tree and nothing in the same tree
+-- no path has an entry in a tree and none in the same tree
 none_beyond : (tree : Tree) → paths_beyond tree tree ≡ []
 none_beyond tree = no_filter (map.keys tree) (λ path among. is_there (map.get tree path) (map.contains_key-keys tree path ∙ among_any path (map.keys tree) among))
   where
@@ -325,16 +325,16 @@ none_beyond tree = no_filter (map.keys tree) (λ path among. is_there (map.get t
         ap (λ b. b || list_any (eq_by_cmp (slice_cmp nat_cmp) path) paths) (ap (eq_by_cmp (slice_cmp nat_cmp) path) (sym is) ∙ alike path)
     among_any path (other ∷ paths) (inr later) = or_later (eq_by_cmp (slice_cmp nat_cmp) path other) _ (among_any path paths later)
 
--- a second enabling is obeyed and changes nothing, where no unit has another name by the first
+-- a second enabling is obeyed and changes nothing, if no unit has another name by the first
 module _ (tree : ReadTree) (asked : List ℕ) (u : Tree) (is : is_unit_name asked ≡ true) (no_alias : HasNoAlias tree asked) (obeys : Obeys tree verbs.Enable asked u) where
   made : IsEnabled tree asked u
   made = enabled_by tree asked u obeys.makes
 
-  -- the tree that came of it, read as the one before
+  -- the resulting tree, read as the one before
   abbrev again : ReadTree
   again = read_by tree.profile u
 
-  -- what is asked for then was asked for before
+  -- a link requested then was requested before
   before : (link : LinkAt) → IsAskedFor again asked link → IsAskedFor tree asked link
   before = asked_as again tree (enabled_loads_as tree asked u no_alias obeys) asked is
 
@@ -379,6 +379,6 @@ module _ (tree : ReadTree) (asked : List ℕ) (u : Tree) (is : is_unit_name aske
   pub enable_twice_alone : (w : Tree) → Installs again verbs.Enable asked w → w ≡ u
   enable_twice_alone w more = one_install again verbs.Enable asked w u more (enables already)
 
-  -- so it tells of no link
+  -- so it reports no link
   pub enable_twice_tells_none : (w : Tree) → Installs again verbs.Enable asked w → paths_beyond u w ≡ []
   enable_twice_tells_none w more = ap (paths_beyond u) (enable_twice_alone w more) ∙ none_beyond u

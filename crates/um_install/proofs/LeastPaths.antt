@@ -25,7 +25,7 @@ not_after Less p q e f = cc
 not_after Equal p q e f = inl (sym (exact_bytes q p e))
 not_after Greater p q e f = inr (nat_list_cmp_total.antisymm p q ∙ ap ordering_reverse e)
 
--- the lesser of what was found and a path is at most both, and one of them
+-- the lesser of the path found so far and another one is at most both, and one of them
 record IsLesser (found : Option (List ℕ)) (path : List ℕ) (least : Option (List ℕ)) : Type 0 where
   some : (p : List ℕ) → least ≡ Some p → AtMost p path
   kept : (p q : List ℕ) → least ≡ Some p → found ≡ Some q → AtMost p q
@@ -131,7 +131,7 @@ module _ (test : LinkAt → Bool) where
       let f = lesser_none (test l) found l.path r.0 in
       (f.1, none_front l ls f.0 r.1)
 
-  -- of what holds of the paths of the links that pass, and of no other
+  -- from a property of the paths of the links that pass, and of no others
   module _ (links : List LinkAt) (Has : List ℕ → Type 0) (inside : (l : LinkAt) → Contains links l → test l ≡ true → Has l.path)
       (outside : (path : List ℕ) → Has path → (l : LinkAt) × Contains links l × (test l ≡ true) × (l.path ≡ path)) where
     apart_before : (p q : List ℕ) → AtMost p q → q ≢ p → IsNamedBefore p q

@@ -1,4 +1,4 @@
--- The links that the units of a walk ask for, and those by their paths.
+-- The links that the units of a walk request, and those by their paths.
 use Rattle.std.proofs.Common.{ℕ, zero, suc, ◌≡◌, ◌≢◌, ◌⊎◌, ◌∙◌, Bool, true, false, not, cond, is_eq, ◌||◌, List, [], ◌∷◌, Contains, Option, Some, None, is_some, refl, sym, ap, subst, arith, inl, inr, true≢false}
 use Rattle.std.specs.Cmp.Lexicographic.{slice_cmp, nat_list_cmp_total}
 use Rattle.std.specs.FinMap as map
@@ -149,7 +149,7 @@ module _ (tree : ReadTree) (asked : List ℕ) (units : Units) (w : AreWalked AsR
     | false ↦ λ f. refl
   ] refl
 
-  -- of two links at a path with other targets one is told
+  -- of two links at a path with other targets one is reported
   by_kept : (path target other kept : List ℕ) → map.get targets path ≡ Some kept → Contains links (link_at path target) → Contains links (link_at path other) → target ≢ other
       → (l : LinkAt) × Contains links l × (is_occupied tree.entries targets l ≡ true) × (l.path ≡ path)
   by_kept path target other kept at c d ne =

@@ -1,4 +1,4 @@
--- What lists, filters and finite maps by texts contain.
+-- The elements of lists, filters and finite maps by texts.
 use Rattle.std.proofs.Common.{ℕ, zero, suc, ◌≡◌, ◌⊎◌, ◌∙◌, ◌<◌, Bool, true, false, cond, T, is_eq, is_lt, List, [], ◌∷◌, map as each, length, filter, Contains, get_or, Option, Some, None, is_some, option_map, String, Global, string_bytes, string_cmp, Less, Equal, Greater, refl, sym, ap, subst, arith, inl, inr}
 use Rattle.std.specs.Cmp.{eq_by_cmp_equiv}
 use Rattle.std.specs.Cmp.Lexicographic.{slice_cmp, nat_list_cmp_total}

@@ -1,4 +1,4 @@
--- What single steps of the verbs leave, and why they are refused.
+-- The effects of the verbs' single steps, and why they are refused.
 use Rattle.std.proofs.Common.{ℕ, suc, ◌≡◌, ◌↔◌, ◌∙◌, ◌++◌, ◌<◌, ◌+◌, ◌==◌, length, drop, get_or, Bool, true, false, cond, nat_le, List, [], ◌∷◌, map as each, Option, Some, None, is_none, Ok, Err, codes, refl, sym, ap, subst, arith}
 use Rattle.std.specs.FinMap as map
 use Rattle.std.proofs.Math.Seq.{drop-cons}

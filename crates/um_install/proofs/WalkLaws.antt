@@ -44,7 +44,7 @@ in_listed text name false e (k, h, g) = absurd (omega arith)
 listed_self : (name : List ℕ) → is_unit_name name ≡ true → Contains (name_in name) name
 listed_self name e = subst (λ b. Contains (listed (cond b (Some name) None)) name) (sym e) (0, omega arith, refl)
 
--- what waits was written
+-- a waiting name was written
 written : (l : Loading) (name : List ℕ) → Contains (also_in l) name → Contains (install_of l).also name
 written l name c =
     let r = flat_contains name_in (install_of l).also name c in

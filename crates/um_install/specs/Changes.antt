@@ -1,5 +1,5 @@
--- What a verb does to a tree step by step.
--- Follows the definitions of enabling: it says them link by link.
+-- The effect of a verb on a tree, step by step.
+-- Follows the definitions of enabling: it states them link by link.
 -- The contracts of the verbs' parts stand on this file.
 use Rattle.std.specs.Prelude.{ℕ, Bool, false, ◌&&◌, ◌||◌, List, [], ◌∷◌, Option, Some, None, Result, Ok, Err, map as each}
 use Rattle.std.specs.FinMap as map
@@ -10,7 +10,7 @@ use Rattle.um_model.specs.Resolution.{unit_in_target}
 use Rattle.um_model.specs.Tree.{Tree, Entry, File, Link, PathParts, Place, Unit, DropIn, Wants, Requires, path_parts, put_link, remove_at}
 use Rattle.um_install.specs.View.{Units}
 
--- the next step, where the one before isn't refused
+-- the next step, if the one before isn't refused
 abbrev pub and_then : Result Tree Refused → (Tree → Result Tree Refused) → Result Tree Refused
 and_then (Ok tree) next = next tree
 and_then (Err r) next = Err r
@@ -36,7 +36,7 @@ pulls_in_any units (Requires unit) = map.contains_key units unit
 abbrev pub is_link_for_any : Units → PathParts → List ℕ → Bool
 is_link_for_any units p target = is_etc p.layer && (pulls_in_any units p.place || map.contains_key units (unit_in_target target))
 
--- disabling one of the units removes what stands at a path of these parts
+-- disabling one of the units removes the entry at a path of these parts
 abbrev pub is_link_of_any : Units → Option PathParts → Entry → Bool
 is_link_of_any units None entry = false
 is_link_of_any units (Some p) (File text) = false

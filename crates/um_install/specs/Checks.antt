@@ -1,4 +1,4 @@
--- What the checks before enabling look for, by lists and maps of the links that are asked for.
+-- The checks before enabling, by lists and maps of the requested links.
 use Rattle.std.specs.Prelude.{◌≡◌, ℕ, suc, Bool, true, false, not, ◌||◌, ◌-◌, nat_le, List, [], ◌∷◌, Option, Some, None, is_none, if◌then◌else◌}
 use Rattle.std.specs.Cmp.Lexicographic.{slice_cmp}
 use Rattle.std.specs.FinMap as map
@@ -13,7 +13,7 @@ use Rattle.um_model.specs.Units.{Loading}
 use Rattle.um_model.specs.declared.refusals.Limit.TheVariants.{Entries}
 use Rattle.um_install.specs.View.{Units, Targets}
 
--- the links that the units ask for, by the units' names
+-- the links that the units request, by the units' names
 abbrev pub links_in : Units → List LinkAt
 links_in units = flat_map model.links_of (map.values units)
 
@@ -40,22 +40,22 @@ abbrev pub lesser : Option (List ℕ) → List ℕ → Option (List ℕ)
 lesser None path = Some path
 lesser (Some other) path = if is_lt (slice_cmp nat_cmp other path) then Some other else Some path
 
--- the same, where a test holds
+-- the same, if a test holds
 abbrev pub lesser_if : Bool → Option (List ℕ) → List ℕ → Option (List ℕ)
 lesser_if true found path = lesser found path
 lesser_if false found path = found
 
--- the least of what was found and of the paths of the links that pass the test
+-- the least of the path found so far and of those of the links that pass the test
 abbrev pub least_of : (LinkAt → Bool) → Option (List ℕ) → List LinkAt → Option (List ℕ)
 least_of test found [] = found
 least_of test found (l ∷ ls) = least_of test (lesser_if (test l) found l.path) ls
 
--- one more, where a test holds
+-- one more, if a test holds
 abbrev pub one_if : Bool → ℕ → ℕ
 one_if true n = suc n
 one_if false n = n
 
--- how many of the paths are new to the tree
+-- the number of the paths that are new to the tree
 abbrev pub new_paths : Tree → List (List ℕ) → ℕ
 new_paths tree [] = 0
 new_paths tree (path ∷ paths) = one_if (is_none (map.get tree path)) (new_paths tree paths)

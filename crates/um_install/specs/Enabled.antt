@@ -1,4 +1,4 @@
--- What the laws of enabling speak of: a verb that a tree takes, a unit under its own name, links that are gone.
+-- The terms of the laws of enabling: a verb that a tree takes, a unit under its own name, links that are gone.
 -- Follows systemctl(1), "enable" and "disable".
 -- The laws of enabling in laws.rt stand on this file.
 use Rattle.std.specs.Prelude.{◌≡◌, ℕ, false, List, [], Contains, Some, None}
@@ -30,6 +30,6 @@ pub record IsUndone (l : LoadedUnit) (name file : List ℕ) (v : Tree) : Type 0 
   pub required : (other : List ℕ) → Contains l.settings.install.required_by other → map.get v (path_in_etc other (Requires name)) ≡ None
   pub aliased : unit_in_target file ≡ name → (alias : List ℕ) → Contains l.settings.install.alias alias → map.get v (path_in_etc alias Unit) ≡ None
 
--- no unit that enabling takes asks for another name
+-- no unit that enabling takes requests another name
 abbrev pub HasNoAlias : ReadTree → List ℕ → Type 0
 HasNoAlias tree asked = (unit : List ℕ) (l : LoadedUnit) → IsTaken tree asked unit → load tree unit ≡ Found l → l.settings.install.alias ≡ []

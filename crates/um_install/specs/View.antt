@@ -11,7 +11,7 @@ use Rattle.um_unit.specs.View.{loading_of}
 use Rattle.um_unit.specs.declared.loaded.Loading.{Loading}
 use Rattle.um_install.specs.declared.links.LinkAt.{LinkAt}
 
--- units by their names, each with what became of the look for it
+-- units by their names, each with the outcome of its look-up
 abbrev pub Units : Type 0
 Units = map.FinMap (slice_cmp nat_cmp) units.Loading
 

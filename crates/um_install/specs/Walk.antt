@@ -12,7 +12,7 @@ use Rattle.um_install.specs.View.{Units}
 use Rattle.um_install.specs.declared.walk.Naming.{Naming}
 use Rattle.um_install.specs.declared.walk.Naming.TheVariants as naming
 
--- what is taken for a name
+-- the name that is taken for a name
 abbrev pub name_taken : Naming → Tree → List ℕ → List ℕ
 name_taken naming.AsResolved tree name = unit_named tree name
 name_taken naming.AsWritten tree name = name
@@ -30,15 +30,15 @@ name_in text = listed (name_of text)
 abbrev pub also_in : Loading → List (List ℕ)
 also_in loading = flat_map name_in (install_of loading).also
 
--- what is taken for a name in Also= of the unit
+-- the name that is taken for a name in the unit's Also=
 pub data IsNext (naming : Naming) (tree : ReadTree) (unit : List ℕ) : List ℕ → Type 0 where
   named : {name : List ℕ} → Contains (install_of (load tree unit)).also name → IsNext naming tree unit (name_taken naming tree.entries name)
 
--- what is taken for the name that is asked for, for those in its Also=, and so on
+-- the name that is taken for the requested one, for those in its Also=, and so on
 abbrev pub IsWalked : Naming → ReadTree → List ℕ → List ℕ → Type 0
 IsWalked naming tree asked = Reached (λ unit. unit ≡ name_taken naming tree.entries asked) (IsNext naming tree)
 
--- these are the units that are walked, each with what becomes of the look for it
+-- these are the units that are walked, each with the outcome of its look-up
 pub record AreWalked (naming : Naming) (tree : ReadTree) (asked : List ℕ) (units : Units) : Type 0 where
   pub loaded : (unit : List ℕ) (l : Loading) → map.get units unit ≡ Some l → l ≡ load tree unit
   pub walked : (unit : List ℕ) (l : Loading) → map.get units unit ≡ Some l → IsWalked naming tree asked unit
@@ -48,11 +48,11 @@ pub record AreWalked (naming : Naming) (tree : ReadTree) (asked : List ℕ) (uni
 abbrev pub units_with : ReadTree → Units → List ℕ → Units
 units_with tree units unit = if map.contains_key units unit then units else map.insert units unit (load tree unit)
 
--- and its names in Also= behind those that wait
+-- and its names in Also= after those that wait
 abbrev pub waiting_with : ReadTree → Units → List (List ℕ) → List ℕ → List (List ℕ)
 waiting_with tree units waiting unit = if map.contains_key units unit then waiting else waiting ++ also_in (load tree unit)
 
--- a walk is under way: the units of so many of the waiting names are taken
+-- a walk is under way: the units of the first `next` waiting names are taken
 pub record IsUnderWay (naming : Naming) (tree : ReadTree) (asked : List ℕ) (units : Units) (waiting : List (List ℕ)) (next : ℕ) : Type 0 where
   pub loaded : (unit : List ℕ) (l : Loading) → map.get units unit ≡ Some l → l ≡ load tree unit
   pub walked : (unit : List ℕ) (l : Loading) → map.get units unit ≡ Some l → IsWalked naming tree asked unit

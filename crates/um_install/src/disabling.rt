@@ -39,7 +39,7 @@ fn is_link_for(units: &Units, path: &ServedPath<'_>, target: &str) -> bool
         && (pulls_in(units, path.place()) || contains(units, unit_in_target(target)))
 }
 
-/// Whether disabling the units removes what stands at the path.
+/// Whether disabling the units removes the entry at the path.
 pub(crate) fn is_unlinked(units: &Units, path: &str, entry: Entry<'_>) -> bool
     ensures { result ≡ changes.is_unlinked (units_of units.now.entries) (path.now, entry_of entry.entry) }
 {
@@ -65,7 +65,7 @@ fn unlinked(alloc: Global, tree: &Tree, units: &Units) -> Result<Vec<String>, Al
     Ok(paths)
 }
 
-/// The tree without what stands at the paths.
+/// The tree without the entries at the paths.
 fn without(tree: &Tree, paths: &[String]) -> Result<Tree, Refusal>
     ensures { Gives (λ t. t) result (changes.removed tree.now (each string_bytes paths.now)) }
 {

@@ -28,7 +28,7 @@ fn is_linked(tree: &Tree, units: &Units) -> bool
     false
 }
 
-/// How a unit with this section is enabled where no link is there.
+/// How a unit with this section is enabled if there is no link.
 fn enabling_by(install: &InstallSettings) -> Enabling
     ensures { result ≡ model.enabling_by ((install_of install.now).alias ++ (install_of install.now).wanted_by ++ (install_of install.now).required_by) (install_of install.now).also }
 {
@@ -48,7 +48,7 @@ fn enabling_by(install: &InstallSettings) -> Enabling
     }
 }
 
-/// How a unit is enabled by what became of the look for it, and by whether there is a link that disabling it removes.
+/// How a unit is enabled, by the outcome of its look-up, and by whether there is a link that disabling it removes.
 fn enabling_of(asked: &UnitName, loading: &Loading, linked: bool) -> Enabling
     ensures { result ≡ model.enabling_of asked.now (loading_of loading.now) linked }
 {
@@ -64,8 +64,8 @@ fn enabling_of(asked: &UnitName, loading: &Loading, linked: bool) -> Enabling
     }
 }
 
-/// How the unit is enabled in the tree as it is read (systemctl(1), "is-enabled"): the first that fits of not found, masked, another name of a
-/// unit, enabled, disabled, indirect and static. It is enabled where there is a link that disabling it removes.
+/// How the unit is enabled in the tree as it is read (systemctl(1), "is-enabled"): the first that fits of not found, masked, another name
+/// of a unit, enabled, disabled, indirect and static. It is enabled if there is a link that disabling it removes.
 pub fn is_enabled(
     alloc: Global,
     reading: Reading<'_>,

@@ -1,4 +1,4 @@
-//! Enabling: the links that are asked for, and why they aren't made.
+//! Enabling: the requested links, and why they aren't made.
 
 ghost use Rattle.std.specs.Prelude.{◌≡◌, Some, None, true, false, is_none, IfOk, map as each, option_map};
 ghost use Rattle.std.specs.FinMap as map;
@@ -34,7 +34,7 @@ fn check_fit(alloc: Global, tree: &Tree, links: &[LinkAt]) -> Result<(), Refusal
     }
 }
 
-/// Refuses the least path at which something else stands, or another link is asked for (E11).
+/// Refuses the least path that has another entry, or for which another link is requested (E11).
 fn check_free(
     alloc: Global,
     tree: &Tree,
@@ -116,7 +116,7 @@ fn with_links(tree: &Tree, targets: &Targets) -> Result<Tree, Refusal>
     Ok(linked)
 }
 
-/// Refuses to enable the unit where one that it takes along can't be enabled: the least of them.
+/// Refuses to enable the unit if one that it takes along can't be enabled: the least of them.
 pub(crate) fn check_taken(
     alloc: Global,
     reading: Reading<'_>,
@@ -128,7 +128,7 @@ pub(crate) fn check_taken(
     check_units(alloc, &units)
 }
 
-/// The tree with the links that enabling the unit asks for, whether the units that it takes can be enabled or not.
+/// The tree with the links that enabling the unit requests, whether or not the units that it takes can be enabled.
 pub(crate) fn enabled(alloc: Global, reading: Reading<'_>, unit: &UnitName) -> Result<Tree, Refusal>
     ensures installs { IfOk result (λ t. model.Installs (tree_read reading.entry) verbs.Enable unit.now t) }
     ensures refused { RefusesBy (model.RefusesLinks (tree_read reading.entry) verbs.Enable unit.now) result }

@@ -1,4 +1,4 @@
-//! Which links may not stand where they are asked for.
+//! Requested links that may not stand at their paths.
 
 ghost use Rattle.std.specs.Prelude.{◌≡◌, None, map as each, option_map};
 ghost use Rattle.um_install.specs.Checks as checks;

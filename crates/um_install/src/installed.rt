@@ -15,17 +15,17 @@ use um_tree::Tree;
 use um_unit::Reading;
 use um_wire::Refusal;
 
-/// A tree that a verb made of another one.
+/// A tree that a verb made from another one.
 #[derive(Drop)]
 pub struct Installed {
     pub tree: Tree,
-    /// The paths at which it has something and the other nothing, ascending by bytes.
+    /// The paths at which it has an entry and the other has none, ascending by bytes.
     pub made: Vec<String>,
-    /// The paths at which the other has something and it nothing, ascending by bytes.
+    /// The paths at which the other has an entry and it has none, ascending by bytes.
     pub removed: Vec<String>,
 }
 
-/// The paths at which something stands in the tree and nothing in the other, ascending.
+/// The paths at which the tree has an entry and the other has none, ascending.
 fn paths_beyond(alloc: Global, other: &Tree, tree: &Tree) -> Result<Vec<String>, AllocError>
     ensures { IfOk result (λ paths. each string_bytes paths.items ≡ model.paths_beyond other.now tree.now) }
 {
@@ -38,7 +38,7 @@ fn paths_beyond(alloc: Global, other: &Tree, tree: &Tree) -> Result<Vec<String>,
     Ok(paths)
 }
 
-/// The tree that the verb makes of this one.
+/// The tree that the verb makes from this one.
 fn changed(
     alloc: Global,
     reading: Reading<'_>,
@@ -56,12 +56,13 @@ fn changed(
     }
 }
 
-/// What the verb makes of the tree, as it is read, for the unit, with the paths that are made and removed, whether the units that it takes can be
-/// enabled or not: `check_units` asks that.
+/// The tree that the verb makes from this one, as it is read, for the unit, with the paths that are made and removed. It doesn't check whether
+/// the units that it takes can be enabled: `check_units` does. It is refused for the first cause that applies:
+/// - the least path that isn't served or at which its link may not stand (E12);
+/// - the least path that has another entry or for which another link is requested (E11);
+/// - more new paths than there is room for (E13 `entries`).
 ///
-/// Refused are the least path that isn't served or at which its link may not stand (E12), the least at which something else stands
-/// or another link is asked for (E11), and more new paths than there is room for (E13 `entries`), in this order. Want of memory is
-/// E15.
+/// Want of memory is E15.
 pub fn relink(
     alloc: Global,
     reading: Reading<'_>,
@@ -97,8 +98,8 @@ pub fn check_units(
     }
 }
 
-/// What the verb makes of the tree, as it is read, for the unit, with the paths that are made and removed: what `enable`, `disable`, `mask` or `unmask`
-/// makes of it, which say what is refused and when.
+/// The tree that the verb makes from this one, as it is read, for the unit, with the paths that are made and removed. The refusals are
+/// those of `enable`, `disable`, `mask` or `unmask`.
 pub fn install(
     alloc: Global,
     reading: Reading<'_>,

@@ -1,4 +1,4 @@
-//! Laws of enabling.
+//! Theorems about enabling.
 
 ghost use Rattle.std.specs.Prelude.{◌≡◌, ◌⊎◌, ℕ, List, [], true};
 ghost use Rattle.um_install.specs.Enabled.{Obeys, IsFoundByName, IsUndone, HasNoAlias};
@@ -26,14 +26,15 @@ pub fn a_unit_is_enabled_in_one_way()
     ensures one { (tree : ReadTree) (asked : List ℕ) (a b : Enabling) → IsEnabledAs tree asked a → IsEnabledAs tree asked b → a ≡ b }
 {}
 
-/// Disabling undoes enabling, by whatever profile the tree is read then: of a unit under its own name no link is left that its [Install] section asks for.
+/// Disabling undoes enabling, by whatever profile the tree is read then: of a unit under its own name no link is left that its [Install]
+/// section requests.
 pub fn disabling_undoes_enabling()
     ensures { (tree : ReadTree) (asked file : List ℕ) (l : LoadedUnit) → IsFoundByName tree asked file l → (u : ReadTree) (v : Tree)
         → Obeys tree verbs.Enable asked u.entries → Installs u verbs.Disable asked v → IsUndone l asked file v }
 {}
 
-/// Enabling a unit a second time isn't refused and makes nothing, where no unit that is taken asks for another name: such a name may
-/// lead to other units the second time.
+/// Enabling a unit a second time isn't refused and makes nothing, if no unit that is taken requests another name: such a name may lead to
+/// other units the second time.
 pub fn enabling_twice_makes_nothing()
     ensures free { (tree : ReadTree) (asked : List ℕ) (u : Tree) → is_unit_name asked ≡ true → HasNoAlias tree asked → Obeys tree verbs.Enable asked u
         → Obeys (read_by tree.profile u) verbs.Enable asked u }

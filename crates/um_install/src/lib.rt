@@ -1,5 +1,5 @@
-//! Enabling: `install` makes and removes in a tree exactly the links that the definitions tell for enabling, disabling, masking
-//! and unmasking a unit, or refuses for the first cause there is; and `is_enabled` tells how a unit is enabled.
+//! Enabling: `install` makes and removes in a tree exactly the links that the definitions give for enabling, disabling, masking and
+//! unmasking a unit, or refuses for the first cause that applies; and `is_enabled` returns how a unit is enabled.
 #![tactic(auto)]
 
 mod disabling;

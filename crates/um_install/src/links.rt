@@ -1,4 +1,4 @@
-//! The links that enabling asks for.
+//! The links that enabling requests.
 
 ghost use Rattle.std.specs.Prelude.{◌≡◌, ◌++◌, Some, IfOk, OnOk, map as each, string_bytes};
 ghost use Rattle.std.specs.FinMap as map;
@@ -27,7 +27,7 @@ pub(crate) struct LinkAt {
 /// The targets of links by the paths at which they stand.
 pub(crate) type Targets = BTreeMap<String, String>;
 
-/// The path in `etc/` of the unit with what stands behind its name.
+/// The path in `etc/` of the unit: its name, followed by `folder` and `file`.
 fn path_in_etc(alloc: Global, unit: &str, folder: &str, file: &str) -> Result<String, AllocError>
     ensures { IfOk result (λ path. string_bytes path ≡ layer_text Etc ++ (unit.now ++ (folder.now ++ file.now))) }
 {
@@ -38,8 +38,7 @@ fn path_in_etc(alloc: Global, unit: &str, folder: &str, file: &str) -> Result<St
     Ok(path)
 }
 
-/// The name under which a unit is linked: its own, or that of a template with its default instance, where the whole is a unit
-/// name.
+/// The name under which a unit is linked: its own, or that of a template with its default instance, if the whole is a unit name.
 pub(crate) fn linked_name(unit: &LoadedUnit) -> Result<Option<UnitName>, AllocError>
     ensures { IfOk result (λ name. name ≡ model.linked_name (unit_of unit.now)) }
 {
@@ -73,7 +72,7 @@ fn push_links(
     Ok(())
 }
 
-/// Adds those that a unit of this name with a file at the path asks for.
+/// Adds the links that a unit of this name with a file at the path requests.
 fn push_links_to(
     alloc: Global,
     links: &mut Vec<LinkAt>,
@@ -103,7 +102,7 @@ fn push_links_to(
     Ok(())
 }
 
-/// Adds those of a unit that was found, if it has a file and a name under which it is linked.
+/// Adds the links of a unit that was found, if it has a file and a name under which it is linked.
 fn push_links_of(
     alloc: Global,
     links: &mut Vec<LinkAt>,
@@ -127,7 +126,7 @@ fn push_links_of(
     Ok(())
 }
 
-/// Adds those of a unit by what was found of it.
+/// Adds the links of a unit by the outcome of its look-up.
 fn push_links_by(
     alloc: Global,
     links: &mut Vec<LinkAt>,
@@ -144,7 +143,7 @@ fn push_links_by(
     }
 }
 
-/// The links that the units ask for.
+/// The links that the units request.
 pub(crate) fn links_of(alloc: Global, units: &Units) -> Result<Vec<LinkAt>, AllocError>
     ensures { IfOk result (λ links. each link_of links.items ≡ links_in (units_of units.now.entries)) }
 {

@@ -51,7 +51,7 @@ fn is_masking(entry: Option<Entry<'_>>) -> bool
     }
 }
 
-/// The tree without the link that masks the unit, where there is one.
+/// The tree without the link that masks the unit, if there is one.
 pub(crate) fn unmasked(
     alloc: Global,
     reading: Reading<'_>,

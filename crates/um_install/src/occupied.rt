@@ -1,4 +1,4 @@
-//! At which paths something else stands than the link that is asked for, and whether there is room for the new ones.
+//! Which paths of requested links have another entry, and whether there is room for the new ones.
 
 ghost use Rattle.std.specs.Prelude.{◌≡◌, None, is_none, map as each, option_map};
 ghost use Rattle.std.specs.FinMap as map;
@@ -10,7 +10,7 @@ use crate::fitness::lesser;
 use crate::links::{LinkAt, Targets};
 use um_tree::{Entry, Tree};
 
-/// Whether something else than the link stands at its path.
+/// Whether an entry other than the link stands at its path.
 fn is_in_the_way(tree: &Tree, link: &LinkAt) -> bool
     ensures { result ≡ is_other_than_link (map.get tree.now (link_of link.now).path) (link_of link.now).target }
 {
@@ -47,7 +47,7 @@ fn is_occupied(tree: &Tree, targets: &Targets, link: &LinkAt) -> bool
     is_in_the_way(tree, link) || differs(targets, link)
 }
 
-/// The least path at which something else stands, or another link is asked for.
+/// The least path that has another entry, or for which another link is requested.
 pub(crate) fn least_occupied<'l>(
     tree: &Tree,
     targets: &Targets,
@@ -64,17 +64,17 @@ pub(crate) fn least_occupied<'l>(
     least
 }
 
-/// Whether nothing stands at the path.
+/// Whether the path has no entry.
 pub(crate) fn is_new(tree: &Tree, path: &str) -> bool
     ensures { result ≡ is_none (map.get tree.now path.now) }
 {
     tree.get(path).is_none()
 }
 
-/// A tree has at most so many entries.
+/// The greatest number of entries in a tree.
 const ENTRY_LIMIT: usize = 4_096;
 
-/// Whether there is room in the tree for the paths at which nothing stands yet.
+/// Whether there is room in the tree for the paths that have no entry yet.
 pub(crate) fn has_room(tree: &Tree, targets: &Targets) -> bool
     ensures room { result ≡ checks.has_room tree.now (targets_of targets.now.entries) }
     ensures tree { IsTree tree.now }

@@ -12,13 +12,14 @@ use um_name::UnitName;
 use um_unit::Reading;
 use um_wire::Refusal;
 
-/// Enables the unit (systemctl(1), "enable"): makes the links in `etc/` that the [Install] sections of the unit, of those of its
-/// Also=, and so on ask for.
+/// Enables the unit (systemctl(1), "enable"): makes the links in `etc/` that the [Install] sections of the unit, of those in its Also=, and
+/// so on request. It is refused for the first cause that applies:
+/// - the least path that isn't served or at which its link may not stand (E12);
+/// - the least path that has another entry or for which another link is requested (E11);
+/// - more new paths than there is room for (E13 `entries`);
+/// - the least unit that isn't found (E4), is masked (E5), has a refused setting or is a template without a fit default instance (E6).
 ///
-/// Refused are the least path that isn't served or at which its link may not stand (E12), the least at which something else stands
-/// or another link is asked for (E11), more new paths than there is room for (E13 `entries`), and the least unit that isn't found
-/// (E4), is masked (E5), has a refused setting or is a template without a fit default instance (E6), in this order. Want of memory
-/// is E15.
+/// Want of memory is E15.
 pub fn enable(alloc: Global, reading: Reading<'_>, unit: &UnitName) -> Result<Installed, Refusal>
     ensures installed { IfOk result (λ i. model.Installs (tree_read reading.entry) InstallVerb.Enable unit.now i.tree) }
     ensures made { IfOk result (λ i. each string_bytes i.made.items ≡ model.paths_beyond reading.entry.tree.now i.tree) }
@@ -39,8 +40,8 @@ pub fn disable(alloc: Global, reading: Reading<'_>, unit: &UnitName) -> Result<I
     install(alloc, reading, InstallVerb::Disable, unit)
 }
 
-/// Masks the unit (systemctl(1), "mask"): makes `etc/NAME` a link to `/dev/null`. Refused is a path at which something else stands
-/// (E11), and one more than 4,096 entries (E13 `entries`). Want of memory is E15.
+/// Masks the unit (systemctl(1), "mask"): makes `etc/NAME` a link to `/dev/null`. Refused with another entry at that path (E11), and with
+/// more than 4,096 entries (E13 `entries`). Want of memory is E15.
 pub fn mask(alloc: Global, reading: Reading<'_>, unit: &UnitName) -> Result<Installed, Refusal>
     ensures installed { IfOk result (λ i. model.Installs (tree_read reading.entry) InstallVerb.Mask unit.now i.tree) }
     ensures made { IfOk result (λ i. each string_bytes i.made.items ≡ model.paths_beyond reading.entry.tree.now i.tree) }

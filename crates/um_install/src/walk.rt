@@ -1,4 +1,4 @@
-//! The units that a verb takes: the one that is asked for, those that its Also= names, and so on.
+//! The units that a verb takes: the requested one, those that its Also= names, and so on.
 
 ghost use Rattle.std.specs.Prelude.{◌≡◌, ◌++◌, IfOk, OnOk, map as each, string_bytes};
 ghost use Rattle.std.specs.FinMap as map;
@@ -15,10 +15,10 @@ use um_resolve::unit_named;
 use um_tree::Tree;
 use um_unit::{Loading, Reading, load};
 
-/// Units by their names, each with what became of the look for it.
+/// Units by their names, each with the outcome of its look-up.
 pub(crate) type Units = BTreeMap<String, Loading>;
 
-/// What is taken for a name.
+/// The name that is taken for a name.
 #[derive(Clone, Copy)]
 pub(crate) enum Naming {
     /// The unit to which it leads.
@@ -110,7 +110,7 @@ fn take(
     Ok(())
 }
 
-/// The unit that is asked for, those that its Also= names, and so on; each is loaded once.
+/// The requested unit, those that its Also= names, and so on; each is loaded once.
 pub(crate) fn walk(
     alloc: Global,
     reading: Reading<'_>,

@@ -1,4 +1,4 @@
--- That the test of the code tells whether a job is dropped.
+-- The code's test for a dropped job agrees with the definition.
 use Rattle.std.proofs.Common.{◌≡◌, ◌∙◌, Bool, true, false, true≢false, ◌||◌, Option, Some, None, refl, sym, ap}
 use Rattle.um_model.specs.Jobs.{DropsOne, drops, job_of, no_jobs}
 use Rattle.um_model.specs.declared.jobs.JobKind.{JobKind}
@@ -31,7 +31,7 @@ or_true : (a : Bool) → (a || true) ≡ true
 or_true true = refl
 or_true false = refl
 
--- what the test tells is dropped
+-- if the test says so, a job is dropped
 pub told_dropped : (before after : UnitJobs) → drops_one before after ≡ true → DropsOne before after
 told_dropped before after t = elim (is_dropped before.stop after.stop) as (λ b. is_dropped before.stop after.stop ≡ b → (b || is_dropped before.start after.start) ≡ true → DropsOne before after) [
   | true ↦ λ e _. let g = gone before.stop after.stop e in drops Stop g.0 g.1 g.2
@@ -42,7 +42,7 @@ dropped_of : (kind : JobKind) (before after : UnitJobs) (state : JobState) → j
 dropped_of Stop before after state e f = ap (λ b. b || is_dropped before.start after.start) (stays before.stop after.stop state e f)
 dropped_of Start before after state e f = ap (λ b. is_dropped before.stop after.stop || b) (stays before.start after.start state e f) ∙ or_true (is_dropped before.stop after.stop)
 
--- what is dropped is told
+-- if a job is dropped, the test says so
 pub dropped_told : (before after : UnitJobs) → DropsOne before after → drops_one before after ≡ true
 dropped_told before after (drops kind state e f) = dropped_of kind before after state e f
 
@@ -50,6 +50,6 @@ none_of : (kind : JobKind) (state : JobState) → job_of kind no_jobs ≡ Some s
 none_of Stop state e = cc
 none_of Start state e = cc
 
--- of a unit without a job none is dropped
+-- no job of a unit without jobs is dropped
 pub none_dropped : (after : UnitJobs) → DropsOne no_jobs after → ⊥
 none_dropped after (drops kind state e f) = none_of kind state e

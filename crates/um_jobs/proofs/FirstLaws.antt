@@ -1,4 +1,4 @@
--- A unit's start waits where that of the first neighbour which it comes after is pending.
+-- A unit's start waits while that of the first neighbour which it comes after is pending.
 use Rattle.std.proofs.Common.{◌≡◌, ◌&&◌, ℕ, Bool, true, false, cond, List, [], ◌∷◌, Option, Some, None, IfSome, find, option_map, is_some, refl}
 use Rattle.std.specs.List.{list_any}
 use Rattle.std.proofs.lemmas.Bool.{or_left, or_right}
@@ -9,7 +9,7 @@ use Rattle.um_graph.specs.declared.row.Neighbour.{Neighbour}
 use Rattle.um_jobs.specs.Named.{jobs_at}
 use Rattle.um_jobs.specs.RowReady.{holds_start}
 
--- where the start of this unit is pending, one of the neighbours holds a start
+-- if the start of this unit is pending, one of the neighbours holds a start
 abbrev pub Holds : List UnitJobs → List Neighbour → ℕ → Type 0
 Holds units row v = is_some (jobs_at units v).start ≡ true → list_any (holds_start units) row ≡ true
 

@@ -1,4 +1,4 @@
--- By the counts a unit has a ready job where it has one by its row, and the least such unit has the least ready job.
+-- By the counts a unit has a ready job if it has one by its row, and the least such unit has the least ready job.
 use Rattle.std.proofs.Common.{◌≡◌, ◌⊎◌, ◌∙◌, ◌+◌, ◌<◌, ◌&&◌, ◌||◌, ◌==◌, ℕ, Bool, true, false, true≢false, cond, not, List, length, get_or, Option, Some, None, is_none, is_some, refl, sym, ap, inl, inr, arith}
 use Rattle.std.specs.List.{list_any}
 use Rattle.um_model.specs.Jobs.{IsToldBefore, Job}
@@ -31,7 +31,7 @@ two_tell true false = inl (refl, omega arith)
 two_tell false true = inl (refl, omega arith)
 two_tell false false = inr (refl, refl)
 
--- a count is 0 where the test finds nothing
+-- a count is 0 if the test finds nothing
 zero_told : (b : Bool) (n : ℕ) → Tells b n → (n == 0) ≡ not b
 zero_told b n (inl h) = other_number n 0 (λ e. absurd (omega (arith, h.1, e))) ∙ sym (ap not h.0)
 zero_told b n (inr h) = same_number n 0 h.1 ∙ sym (ap not h.0)

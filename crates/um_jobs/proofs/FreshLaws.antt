@@ -1,4 +1,4 @@
--- Where no job is pending nothing is counted and no job is ready, whichever units count as deactivating.
+-- With no pending job all counts are 0 and no job is ready, whichever units count as deactivating.
 use Rattle.std.proofs.Common.{◌≡◌, ◌∙◌, ℕ, Bool, true, false, List, length, get_or, replicate, refl, sym, ap, subst, inl, inr, arith}
 use Rattle.std.proofs.lemmas.Bool.{cases_lt}
 use Rattle.std.proofs.lemmas.List.{get_or-replicate, get_or_past, length-replicate}
@@ -57,7 +57,7 @@ module _ (g : GraphView) (is : IsGraph g) (m : ℕ) (e : m ≡ length g.names) (
       (subst (λ cs. IsKept g (replicate m no_jobs) held cs ready) (sym c)
       (subst (IsKept g (replicate m no_jobs) held (replicate m none)) (sym d) fresh_kept))
 
--- what is kept of jobs is kept of the same ones
+-- the counts of jobs are the counts of the same ones
 pub kept_as : (g : GraphView) (units same_units : List UnitJobs) (held same_held : List Bool) (counts same_counts : List Blockers) (ready : List Bool)
     → units ≡ same_units → held ≡ same_held → counts ≡ same_counts → IsKept g units held counts ready → IsKept g same_units same_held same_counts ready
 kept_as g units same_units held same_held counts same_counts ready a b d kept =

@@ -16,8 +16,8 @@ use Rattle.um_jobs.proofs.MirrorLaws.{mirror}
 use Rattle.um_jobs.proofs.ShortLaws.{row_short}
 use Rattle.um_jobs.proofs.SumLaws.{counted_anew, same_number, sum_most, sum_of_most, sum_of_none, summed_le}
 
--- ---- what a way to count has to be: nothing is counted of a unit that isn't ordered, two jobs at most of one that is, and only
--- which jobs are pending counts
+-- ---- a way to count must count nothing of a unit that isn't ordered, at most two jobs of one that is, and depend only on which jobs are
+-- pending
 pub record IsCounting (counting : Counting) : Type 0 where
   none : (j : UnitJobs) → counting j false false ≡ 0
   two : (j : UnitJobs) (a b : Bool) → counting j a b ≤ 2
@@ -56,7 +56,7 @@ of_starts = record {
   alike = λ old new e a b. let s = same_pending old new e in λ i. one_if (b && s.1 i) + one_if ((a || b) && s.0 i);
 }
 
--- whether a job of a unit is ready, of what is held of it
+-- whether a job of a unit is ready, from its jobs, its mark and its counts
 abbrev pub free_by : UnitJobs → Bool → ℕ → ℕ → Bool
 free_by j h a b = (is_waiting j.stop && (a == 0)) || (is_waiting j.start && (is_none j.stop && (not h && (b == 0))))
 
@@ -70,7 +70,7 @@ module _ (g : GraphView) (units : List UnitJobs) (counts : List Blockers) (k : I
   abbrev later_units : List UnitJobs
   later_units = set units x j
 
-  -- ---- what the calls ask for
+  -- ---- the requirements of the calls
   within_by : (b : Bool) (n : ℕ) → n ≡ length g.names → All (λ (m : Neighbour). m.unit < n) (cond b (row_of g.rows x) [])
   within_by true n e i d h =
       let r = row_of g.rows x in
@@ -103,7 +103,7 @@ module _ (g : GraphView) (units : List UnitJobs) (counts : List Blockers) (k : I
     pub may_count : MayCountAnew counting now old j row
     may_count = may_by (changes_pending old j)
 
-    -- ---- what they give
+    -- ---- the results of the calls
     alike_in : changes_pending old j ≡ false → (u : ℕ) (r : List Neighbour) → sum_of (behind counting old) u r ≡ sum_of (behind counting j) u r
     alike_in e u r = ap (λ c. sum_of c u r) (λ i n. is.alike old j e (has after_bit n.kinds) (has before_bit n.kinds) i)
 
@@ -141,11 +141,11 @@ module _ (g : GraphView) (units : List UnitJobs) (counts : List Blockers) (k : I
     starts = exact_anew before_start of_starts (start_at counts) k.starts (start_at later_counts) starts;
   }
 
--- the counts of what is kept
+-- the counts that are kept
 pub counted_of : (g : GraphView) (units : List UnitJobs) (held : List Bool) (counts : List Blockers) (ready : List Bool) → IsKept g units held counts ready → IsCounted g units counts
 counted_of g units held counts ready k = record { graph = k.graph; units_long = k.units_long; counts_long = k.counts_long; stops = k.stops; starts = k.starts }
 
--- with units that are counted so, and marked so, all is kept
+-- all is kept, for units with these counts and these marks
 pub kept_so : (g : GraphView) (units : List UnitJobs) (held : List Bool) (counts : List Blockers) (ready : List Bool) → IsCounted g units counts
     → length held ≡ length g.names → length ready ≡ length g.names → ((u : ℕ) → get_or ready u false ≡ is_free units held counts u) → IsKept g units held counts ready
 kept_so g units held counts ready c a b e = record {

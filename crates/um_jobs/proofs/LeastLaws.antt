@@ -10,7 +10,7 @@ module _ (marks : List Bool) (tree : List ℕ) (is : IsTreeOf marks tree) where
   abbrev at : ℕ → ℕ
   at i = get_or tree i 0
 
-  -- the root is at most what stands at any place
+  -- the root is at most the number at any place
   root_below : (fuel i : ℕ) → i ≤ fuel → 1 ≤ i → i < n + n → at 1 ≤ at i
   root_below zero i h l k = absurd (omega arith)
   root_below (suc fuel) i h l k = elim (cases_lt 1 i) as (λ _. at 1 ≤ at i) [
@@ -29,7 +29,7 @@ module _ (marks : List Bool) (tree : List ℕ) (is : IsTreeOf marks tree) where
   leaf_real true i e h = e
   leaf_real false i e h = absurd (omega arith)
 
-  -- what stands at any place is in the set, unless it is the limit
+  -- the number at any place is in the set, unless it is the limit
   is_real : (fuel i : ℕ) → n + n ≤ fuel + i → 1 ≤ i → i < n + n → at i < n → get_or marks (at i) false ≡ true
   is_real zero i h l k s = absurd (omega arith)
   is_real (suc fuel) i h l k s = elim (cases_lt i n) as (λ _. get_or marks (at i) false ≡ true) [

@@ -1,4 +1,4 @@
--- What is counted of a unit in the row of another is what is counted of that one in its row.
+-- The count of a unit in the row of another is the count of that one in the first one's row.
 use Rattle.std.proofs.Common.{◌≡◌, ◌∙◌, ◌↔◌, ◌&&◌, ◌==◌, ℕ, Bool, true, false, List, refl, sym}
 use Rattle.std.specs.List.{list_any}
 use Rattle.std.proofs.lemmas.Bool.{and_from, and_parts, eqb-true}

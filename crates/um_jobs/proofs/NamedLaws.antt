@@ -1,4 +1,4 @@
--- What the pending jobs by name say of a unit is what the list says of its number.
+-- The pending jobs of a unit by its name are those in the list at its number.
 use Rattle.std.proofs.Common.{◌≡◌, ◌∙◌, ◌+◌, ◌<◌, ◌≤◌, ℕ, zero, suc, List, [], ◌∷◌, length, set, sym, ap, inl, inr, arith, unwrap_or}
 use Rattle.std.proofs.lemmas.Bool.{cases_lt}
 use Rattle.std.proofs.lemmas.Grind.{get_or-set_at}
@@ -40,6 +40,6 @@ put_more plan js n j h l e u k = elim (cases_lt u n) as (λ _. jobs_at (set js n
   | inr past ↦ let at : u ≡ n = omega arith in get_or-set_at js n u j no_jobs at l ∙ (e ∙ ap (jobs_at plan) (sym at))
 ]
 
--- and where as many were put as there are, they are all
+-- and once those of all units were put, they are all
 pub all_put : (plan js : List UnitJobs) (n : ℕ) → ((u : ℕ) → u < n → jobs_at js u ≡ jobs_at plan u) → length js ≤ n → length plan ≡ length js → js ≡ plan
 all_put plan js n h l e = ext_get_or no_jobs js plan (sym e) (λ u k. h u (omega (arith, k, l)))

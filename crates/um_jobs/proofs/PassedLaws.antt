@@ -1,4 +1,4 @@
--- Units that a search has passed over stay so where each job is as it was, or runs now.
+-- Units that a search has passed over stay so while each job is as it was, or runs now.
 use Rattle.std.proofs.Common.{◌≡◌, ◌∙◌, ◌<◌, ◌&&◌, ◌||◌, ℕ, Bool, true, false, true≢false, cond, not, List, length, set, Option, Some, None, is_none, is_some, refl, sym, ap, subst, inl, inr}
 use Rattle.std.specs.List.{list_any}
 use Rattle.std.proofs.lemmas.Bool.{and_from, and_parts, cases_eq, cases_lt, not-true, or_cases, or_left, or_right}
@@ -75,7 +75,7 @@ all_but units u j within binds = record { stop = λ x. (both x).0; start = λ x.
           subst (Stays (jobs_at units x)) (sym (get_or-set_other units u x j no_jobs apart)) (same_stays (jobs_at units x).stop, same_stays (jobs_at units x).start)
     ]
 
--- what was held back still is
+-- units that were held back still are
 abbrev pub StayHeld : List Bool → List Bool → Type 0
 StayHeld before after = (x : ℕ) → held_at before x ≡ true → held_at after x ≡ true
 
@@ -155,7 +155,7 @@ module _ (g : GraphView) (before after : List UnitJobs) (wb wa : List Bool) (sta
       let start = false_back (is_start_ready g before wb u) (is_start_ready g after wa u) (start_back u) none.1 in
       ap (λ a. kind_by a (is_start_ready g after wa u)) stop ∙ ap (kind_by false) start
 
--- ---- what a change of one unit leaves
+-- ---- what a change of one unit leaves unchanged
 pub passed_at : (units : List UnitJobs) (u : ℕ) (j : UnitJobs) → u < length units → binds_as_before (jobs_at units u) j ≡ true → (n : ℕ) (g : GraphView) (held : List Bool)
     → ArePassed g units held n → ArePassed g (set units u j) held n
 passed_at units u j within binds n g held = passed_on g units (set units u j) held held (all_but units u j within binds) (λ x is. is) n

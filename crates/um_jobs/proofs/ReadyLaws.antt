@@ -63,7 +63,7 @@ waiting_is (Some Waiting) h = refl
 waiting_is (Some Running) h = cc
 waiting_is None h = cc
 
--- ---- what goes before a stop, and before a start
+-- ---- jobs that go before a stop, and before a start
 before_stop : (Before : List ℕ → List ℕ → Type 0) (j k : Job) → GoesBefore Before j k → k.kind ≡ Stop → (y : List ℕ) × Before k.unit y × (j ≡ stop_job y)
 before_stop Before j k (starts h) e = cc
 before_stop Before j k (stops {y = y} h) e = (y, h, refl)
@@ -325,7 +325,7 @@ module _ (g : GraphView) (is : IsGraph g) (v : JobsView) where
   pub none_ready : ((w : ℕ) → Inside w → ready_kind g v w ≡ None) → (j : Job) → ¬ IsReadyIn g v j
   none_ready none j r = let a = known_of j r in kind_whole a.0 a.1 j.kind (subst (IsReadyIn g v) (at_unit j a.0 a.2) r) (none a.0 a.1)
 
-  -- ---- what has been passed over
+  -- ---- the jobs that were passed over
   told_of : (j k : Job) → IsToldBefore j k → IsNamedBefore j.unit k.unit ⊎ (j.unit ≡ k.unit)
   told_of j k (by_name h) = inl h
   told_of j k stop_first = inr refl

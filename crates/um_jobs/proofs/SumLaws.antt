@@ -1,4 +1,4 @@
--- Sums over a row, and what is counted of one unit in them.
+-- Sums over a row, and the part of one unit in them.
 use Rattle.std.proofs.Common.{◌≡◌, ◌≢◌, ◌⊎◌, ◌∙◌, ◌+◌, ◌*◌, ◌<◌, ◌≤◌, ℕ, suc, Bool, true, false, true≢false, cond, ◌&&◌, ◌||◌, ◌==◌, List, [], ◌∷◌, length, take, set, get_or, refl, sym, ap, subst, inl, inr, arith}
 use Rattle.std.specs.List.{list_any, sum_by}
 use Rattle.std.proofs.lemmas.Bool.Decides.{eqb_tells}
@@ -31,7 +31,7 @@ or_none : (a : Bool) → (a || false) ≡ a
 or_none true = refl
 or_none false = refl
 
--- what is counted of a unit in the first neighbours and in the next one
+-- the part of a unit in the first neighbours and in the next one
 pub taken_le : (w : Neighbour → ℕ) (row : List Neighbour) (i : ℕ) (d : Neighbour) → i < length row
     → sum_of w (get_or row i d).unit (take i row) + w (get_or row i d) ≤ sum_of w (get_or row i d).unit row
 taken_le w row i d h =
@@ -39,7 +39,7 @@ taken_le w row i d h =
     let test : Neighbour → ℕ = λ m. cond (m.unit == n.unit) (w m) 0 in
     subst (λ b. sum_by test (take i row) + cond b (w n) 0 ≤ sum_by test row) (same_number n.unit n.unit refl) (sum_by_more_le test row i d h)
 
--- where of the next neighbour so much is counted anew, it is of all up to that one
+-- if the next neighbour is counted again, all up to that one are
 pub counted_more : (w v : Neighbour → ℕ) (first now later : ℕ → ℕ) (row : List Neighbour) (i : ℕ) (d : Neighbour) → i < length row
     → ((u : ℕ) → now u + sum_of w u (take i row) ≡ first u + sum_of v u (take i row))
     → later (get_or row i d).unit + w (get_or row i d) ≡ now (get_or row i d).unit + v (get_or row i d)
@@ -72,7 +72,7 @@ sums_alike f a g b e (n ∷ row) =
     let h = e n in
     let k = sums_alike f a g b e row in omega arith
 
--- the jobs of one unit are others: what is counted of the others stays
+-- the jobs of one unit change: the counts of the others stay
 pub counted_anew : (counting : Counting) (units : List UnitJobs) (x : ℕ) (j : UnitJobs) → x < length units → (row : List Neighbour)
     → sum_by (λ n. ahead counting (jobs_at (set units x j) n.unit) n) row + sum_of (ahead counting (jobs_at units x)) x row
     ≡ sum_by (λ n. ahead counting (jobs_at units n.unit) n) row + sum_of (ahead counting j) x row
@@ -97,7 +97,7 @@ counted_anew counting units x j l row = sums_alike
               let d : cond (n.unit == x) (ahead counting j n) 0 ≡ 0 = ap (λ t. cond t (ahead counting j n) 0) h.0 in omega arith
         ]
 
--- what is counted of a unit is a part of the whole
+-- the count of a unit is a part of the whole
 pub summed_le : (counting : Counting) (units : List UnitJobs) (x : ℕ) (row : List Neighbour)
     → sum_of (ahead counting (jobs_at units x)) x row ≤ sum_by (λ n. ahead counting (jobs_at units n.unit) n) row
 summed_le counting units x row = sum_by-le-sum_by (λ n. cond (n.unit == x) (ahead counting (jobs_at units x) n) 0) (λ n. ahead counting (jobs_at units n.unit) n) row each
@@ -110,7 +110,7 @@ summed_le counting units x row = sum_by-le-sum_by (λ n. cond (n.unit == x) (ahe
       | inr h ↦ let b : cond (n.unit == x) (ahead counting (jobs_at units x) n) 0 ≡ 0 = ap (λ t. cond t (ahead counting (jobs_at units x) n) 0) h.0 in omega arith
     ]
 
--- a sum is at most so much for each
+-- a sum is at most the bound for each item times the number of items
 pub sum_most : (f : Neighbour → ℕ) (m : ℕ) → ((n : Neighbour) → f n ≤ m) → (row : List Neighbour) → sum_by f row ≤ length row * m
 sum_most f m h row = sum_by-le f m row (λ k d l. h (get_or row k d))
 
@@ -121,7 +121,7 @@ sum_of_most w m h x row = sum_most (λ n. cond (n.unit == x) (w n) 0) m (λ n. e
     each true k l = l
     each false k l = omega arith
 
--- of a unit that isn't in the row nothing is counted
+-- a unit that isn't in the row counts nothing
 pub sum_of_none : (w : Neighbour → ℕ) (x : ℕ) (row : List Neighbour) → is_listed row x ≡ false → sum_of w x row ≡ 0
 sum_of_none w x [] e = refl
 sum_of_none w x (n ∷ row) e =
@@ -142,7 +142,7 @@ once_rest n row once i j d l k = once (suc i) (suc j) d (omega arith) (omega ari
 alone : (n : Neighbour) (row : List Neighbour) → AreOnce (n ∷ row) → is_listed row n.unit ≡ false
 alone n row once = list_any_none (λ m. m.unit == n.unit) row (λ k d l. other_number (get_or row k d).unit n.unit (λ e. once 0 (suc k) d (omega arith) (omega arith) (sym e)))
 
--- where a unit stands in a row once at most, so much is counted of it as by its bits
+-- a unit that stands in a row at most once counts as its bits say
 pub sum_of_once : (w : Bool → Bool → ℕ) → w false false ≡ 0 → (p q : Neighbour → Bool) (x : ℕ) (row : List Neighbour) → AreOnce row
     → sum_of (λ n. w (p n) (q n)) x row ≡ w (list_any (λ n. (n.unit == x) && p n) row) (list_any (λ n. (n.unit == x) && q n) row)
 sum_of_once w z p q x [] once = sym z
@@ -170,7 +170,7 @@ sum_of_once w z p q x (n ∷ row) once =
     here k a b c d t e f g h =
         let v : w (a || c) (b || d) ≡ w a b = λ i. w ((ap (λ c. a || c) f ∙ or_none a) i) ((ap (λ d. b || d) g ∙ or_none b) i) in omega arith
 
--- nothing is counted in a row where the test finds nothing
+-- a row counts nothing if the test finds nothing
 pub counts_none : (f : Neighbour → ℕ) (p : Neighbour → Bool) → ((n : Neighbour) → (p n ≡ true) × (0 < f n) ⊎ (p n ≡ false) × (f n ≡ 0)) → (row : List Neighbour)
     → (list_any p row ≡ true) × (0 < sum_by f row) ⊎ (list_any p row ≡ false) × (sum_by f row ≡ 0)
 counts_none f p h [] = inr (refl, refl)

@@ -1,6 +1,6 @@
--- How many pending jobs of its neighbours come before the stop of a unit and before its start, and which units have a ready job by these counts.
--- Follows the definition of ready jobs: a job that waits is ready where nothing is counted before it.
--- What `Jobs` keeps stands on this file.
+-- The number of neighbours' pending jobs before the stop and before the start of a unit, and which units have a ready job by these counts.
+-- Follows the definition of ready jobs: a job that waits is ready if no job is counted before it.
+-- The counts that `Jobs` keeps stand on this file.
 use Rattle.std.specs.Prelude.{◌≡◌, ℕ, ◌+◌, ◌<◌, ◌≤◌, ◌^◌, Bool, true, false, not, ◌&&◌, ◌||◌, ◌==◌, if◌then◌else◌, List, [], length, is_none, is_some, get_or}
 use Rattle.std.specs.List.{list_any, sum_by}
 use Rattle.um_model.specs.Machine.{is_waiting}
@@ -12,7 +12,7 @@ use Rattle.um_jobs.specs.Jobs.{held_at}
 use Rattle.um_jobs.specs.Named.{jobs_at}
 use Rattle.um_jobs.specs.declared.counts.Blockers.{Blockers}
 
--- ---- what is counted
+-- ---- the counted jobs
 
 abbrev pub one_if : Bool → ℕ
 one_if true = 1
@@ -42,7 +42,7 @@ behind counting jobs n = counting jobs (has after_bit n.kinds) (has before_bit n
 abbrev pub count_before : Counting → GraphView → List UnitJobs → ℕ → ℕ
 count_before counting g units u = sum_by (λ n. ahead counting (jobs_at units n.unit) n) (row_of g.rows u)
 
--- ---- what is kept of it
+-- ---- the counts that are kept
 
 -- the counts of a unit; 0 past the last
 abbrev pub blockers_at : List Blockers → ℕ → Blockers
@@ -86,20 +86,20 @@ pub record IsKept (g : GraphView) (units : List UnitJobs) (held : List Bool) (co
   pub starts : (u : ℕ) → start_at counts u ≡ count_before before_start g units u
   pub exact : (u : ℕ) → get_or ready u false ≡ is_free units held counts u
 
--- the graph is one, and of each of its units there are jobs, and whether it counts as deactivating
+-- it is a graph, and for each of its units there are jobs, and a mark whether it counts as deactivating
 pub record IsTable (g : GraphView) (units : List UnitJobs) (held : List Bool) : Type 0 where
   pub graph : IsGraph g
   pub units_long : length units ≡ length g.names
   pub held_long : length held ≡ length g.names
 
--- ---- what a change of one unit's jobs changes of it
+-- ---- the effect on the counts of a change of one unit's jobs
 
 -- both hold, or neither does
 abbrev pub is_alike : Bool → Bool → Bool
 is_alike true b = b
 is_alike false b = not b
 
--- not the same jobs of the unit are pending as before: one that begins is pending as before
+-- other jobs of the unit are pending than before: a job that begins was pending already
 abbrev pub changes_pending : UnitJobs → UnitJobs → Bool
 changes_pending old new = not (is_alike (is_some old.stop) (is_some new.stop) && is_alike (is_some old.start) (is_some new.start))
 
@@ -111,11 +111,11 @@ touched row old new = if changes_pending old new then row else []
 abbrev pub is_listed : List Neighbour → ℕ → Bool
 is_listed row u = list_any (λ (n : Neighbour). n.unit == u) row
 
--- what is counted of one unit in a row
+-- the part of one unit in the counts of a row
 abbrev pub sum_of : (Neighbour → ℕ) → ℕ → List Neighbour → ℕ
 sum_of count u row = sum_by (λ (n : Neighbour). if n.unit == u then count n else 0) row
 
--- of each neighbour the new jobs of the unit whose row it is are counted in place of the old ones
+-- for each neighbour, the new jobs of the unit whose row it is are counted in place of the old ones
 abbrev pub IsCountedAnew : Counting → (ℕ → ℕ) → (ℕ → ℕ) → UnitJobs → UnitJobs → List Neighbour → Type 0
 IsCountedAnew counting before after old new row = (u : ℕ) → after u + sum_of (behind counting old) u row ≡ before u + sum_of (behind counting new) u row
 

@@ -12,7 +12,7 @@ use Rattle.um_graph.specs.Kinds.{before_bit}
 use Rattle.um_graph.specs.Named.{Joins, item_for, name_at}
 use Rattle.um_jobs.specs.Named.{jobs_by}
 
--- the graph of the units; and of each of them, by its number: its pending jobs, and whether it counts as deactivating
+-- the graph of the units; and for each of them, by number: its pending jobs, and whether it counts as deactivating
 pub record JobsView : Type 0 where
   pub graph : GraphView
   pub units : List UnitJobs
@@ -24,7 +24,7 @@ held_at held u = slice_index_or held u false
 
 -- ---- which job is ready
 
--- the job waits, none comes before it by the rows of the graph, and one that starts its unit doesn't find it deactivating
+-- the job waits, none comes before it by the rows of the graph, and if it is a start, its unit isn't deactivating
 pub record IsReadyIn (g : GraphView) (v : JobsView) (job : Job) : Type 0 where
   pub waits : (state_of_job (jobs_by g.names v.units) job ≡ Some Waiting)
   pub free : (other : Job) → ¬ ComesBefore (Joins g before_bit) (jobs_by g.names v.units) other job

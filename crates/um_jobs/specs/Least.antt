@@ -1,5 +1,5 @@
 -- A set of numbers below a limit, and a tree that has its least number at the root.
--- Follows no manual page: it is how the least number is at hand.
+-- Follows no manual page: it is how the least number is found in one look.
 -- The set of units with a ready job stands on this file.
 use Rattle.std.specs.Prelude.{◌≡◌, ℕ, ◌+◌, ◌<◌, ◌≤◌, min, Bool, true, false, if◌then◌else◌, List, length, get_or}
 
@@ -13,15 +13,15 @@ pub record IsLeastIn (marks : List Bool) (i : ℕ) : Type 0 where
 abbrev pub IsNone : List Bool → Type 0
 IsNone marks = (i : ℕ) → i < length marks → get_or marks i false ≡ false
 
--- what stands in the leaf of a number: the number where it is in the set, else the limit
+-- the leaf of a number: the number if it is in the set, else the limit
 abbrev pub leaf_of : Bool → ℕ → ℕ → ℕ
 leaf_of is_in i limit = if is_in then i else limit
 
--- at each place from 1 on below the limit stands the lesser of what stands at twice the place and at the next one
+-- each place from 1 on below the limit holds the lesser of the numbers at twice the place and at the next one
 abbrev pub HoldsLesser : List ℕ → ℕ → Type 0
 HoldsLesser tree limit = (i : ℕ) → 1 ≤ i → i < limit → get_or tree i 0 ≡ min (get_or tree (i + i) 0) (get_or tree (i + i + 1) 0)
 
--- the leaves stand behind the inner places, in the order of their numbers
+-- the leaves follow the inner places, in the order of their numbers
 pub record IsTreeOf (marks : List Bool) (tree : List ℕ) : Type 0 where
   pub size : length tree ≡ length marks + length marks
   pub leaves : (i : ℕ) → i < length marks → get_or tree (length marks + i) 0 ≡ leaf_of (get_or marks i false) i (length marks)

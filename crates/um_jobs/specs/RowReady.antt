@@ -1,6 +1,6 @@
--- Which job of a unit is ready, as the unit's own row says it: by what is pending of the neighbours.
--- Follows systemd.unit(5), "Before=, After="; it is what the definition of ready jobs comes to for one unit.
--- The search for the next job stands on this file, and what is proved of the counts.
+-- Which job of a unit is ready by the unit's own row: by the pending jobs of its neighbours.
+-- Follows systemd.unit(5), "Before=, After=": it is the definition of ready jobs for one unit.
+-- The search for the next job and the laws of the counts stand on this file.
 use Rattle.std.specs.Prelude.{◌≡◌, ◌<◌, ℕ, Bool, true, false, not, ◌&&◌, ◌||◌, if◌then◌else◌, List, Option, Some, None, is_none, is_some}
 use Rattle.std.specs.List.{list_any}
 use Rattle.std.specs.Option.{option_map_or}
@@ -34,7 +34,7 @@ awaits_first g units u = option_map_or (λ first. is_some (jobs_at units first).
 abbrev pub is_stop_ready : GraphView → List UnitJobs → ℕ → Bool
 is_stop_ready g units u = is_waiting (jobs_at units u).stop && not (list_any (holds_stop units) (row_of g.rows u))
 
--- the start of the unit waits, for no other job, nor for the unit's own stop or the end of its being deactivating
+-- the start of the unit waits, for no other job, nor for the unit's own stop, and the unit isn't deactivating
 abbrev pub is_start_ready : GraphView → List UnitJobs → List Bool → ℕ → Bool
 is_start_ready g units held u =
     is_waiting (jobs_at units u).start
@@ -44,9 +44,9 @@ is_start_ready g units held u =
 abbrev pub ready_kind : GraphView → JobsView → ℕ → Option JobKind
 ready_kind g v u = if is_stop_ready g v.units u then Some Stop else (if is_start_ready g v.units v.held u then Some Start else None)
 
--- ---- what needn't be looked at again
+-- ---- units that needn't be looked at again
 
--- none of so many units, from the first on, has a ready job
+-- none of this number of units, from the first on, has a ready job
 abbrev pub ArePassed : GraphView → List UnitJobs → List Bool → ℕ → Type 0
 ArePassed g units held n = (u : ℕ) → u < n → ready_kind g (record { graph = g; units = units; held = held }) u ≡ None
 

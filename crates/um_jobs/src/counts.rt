@@ -1,4 +1,4 @@
-//! How many pending jobs of other units come before a job.
+//! The number of pending jobs of other units before a job.
 
 ghost use Rattle.std.specs.Prelude.{◌≡◌, ◌<◌, ◌≤◌, ◌+◌, ◌^◌, ℕ, All, length, slice_set};
 ghost use Rattle.um_graph.specs.Graph.{row_of};
@@ -11,7 +11,7 @@ use crate::table::jobs_of;
 use um_graph::{Graph, Neighbour};
 use um_model::UnitJobs;
 
-/// How many pending jobs of other units come before the stop of a unit, and before its start.
+/// The number of pending jobs of other units before the stop of a unit, and before its start.
 #[derive(Clone, Copy, Debug, PartialEq, Eq)]
 pub struct Blockers {
     pub stop: u32,
@@ -19,7 +19,7 @@ pub struct Blockers {
 }
 
 impl Blockers {
-    /// Nothing comes before them.
+    /// No job comes before them.
     pub const NONE: Blockers = Blockers { stop: 0, start: 0 };
 
     /// The pending jobs of the unit in whose row the neighbour stands, counted before those of the neighbour.
@@ -27,7 +27,7 @@ impl Blockers {
         ensures stop { result.stop ≡ behind before_stop jobs neighbour }
         ensures start { result.start ≡ behind before_start jobs neighbour }
     {
-        // The row tells how the unit stands to the neighbour; here it is asked the other way round.
+        // The row has the unit's relation to the neighbour; this is the inverse.
         let is_before = neighbour.kinds.is_after();
         let is_after = neighbour.kinds.is_before();
         let is_ordered = is_before || is_after;
@@ -60,21 +60,21 @@ fn one_if(holds: bool) -> u32
     if holds { 1 } else { 0 }
 }
 
-/// Whether not the same jobs of a unit are pending as before. One that begins is pending as before.
+/// Whether other jobs of a unit are pending than before. A job that begins was pending already.
 fn changes_pending(old: UnitJobs, new: UnitJobs) -> bool
     ensures { result ≡ told.changes_pending old new }
 {
     old.stop.is_some() != new.stop.is_some() || old.start.is_some() != new.start.is_some()
 }
 
-/// The neighbours in a unit's row whose counts change where it has the new jobs in place of the old ones.
+/// The neighbours in a unit's row whose counts change when it has the new jobs in place of the old ones.
 fn touched(row: &[Neighbour], old: UnitJobs, new: UnitJobs) -> &[Neighbour]
     ensures { result.now ≡ told.touched row.now old new }
 {
     if changes_pending(old, new) { row } else { &[] }
 }
 
-/// Counts, before the jobs of each of a unit's neighbours, its new jobs in place of the old ones.
+/// Counts the unit's new jobs in place of the old ones, for each of its neighbours.
 fn count_anew(counts: &mut [Blockers], row: &[Neighbour], old: UnitJobs, new: UnitJobs)
     requires within { All (λ (n : Neighbour). n.unit < length counts.old) row.now }
     requires stops { MayCountAnew before_stop (stop_at counts.old) old new row.now }
@@ -89,7 +89,7 @@ fn count_anew(counts: &mut [Blockers], row: &[Neighbour], old: UnitJobs, new: Un
     }
 }
 
-/// The unit has just these jobs from now on, and what comes before the jobs of its neighbours is counted anew. The result is the neighbours whose
+/// The unit has just these jobs from now on, and the jobs before those of its neighbours are counted again. Returns the neighbours whose
 /// counts may differ.
 pub fn recount<'g>(
     graph: &'g Graph,
@@ -113,7 +113,7 @@ pub fn recount<'g>(
     row
 }
 
-/// Each unit has just its jobs of the plan from now on, and what comes before them is counted anew.
+/// Each unit has just its jobs of the plan from now on, and the jobs before them are counted again.
 pub fn recount_all(
     graph: &Graph,
     units: &mut [UnitJobs],

@@ -25,10 +25,10 @@ use um_model::{JobKind, JobState, UnitJobs};
 use um_name::UnitName;
 use um_wire::{Refusal, no_such_job};
 
-/// What is counted of pending jobs.
+/// The counts of pending jobs.
 #[derive(Drop)]
 struct Counted {
-    /// Of each unit how many pending jobs of its neighbours come before its own.
+    /// For each unit the number of its neighbours' pending jobs before its own.
     blockers: Vec<Blockers>,
     /// The units that have a ready job.
     ready: LeastSet,
@@ -37,14 +37,14 @@ struct Counted {
 /// The pending jobs of the units of a graph by their numbers, and which units count as deactivating. A number past the last unit
 /// is that of a unit without jobs, and nothing changes it.
 ///
-/// Which job is ready is found by going over the units, until `count` has counted what comes before each of them: that costs as much as
-/// a few such searches, and a change costs more from then on, but a search next to nothing.
+/// A ready job is found by going over the units, until `count` has counted the jobs before each of them. The count costs as much as a few
+/// such searches, and makes each later change dearer, but a search then costs next to nothing.
 pub struct Jobs<'g> {
     graph: &'g Graph,
     units: Vec<UnitJobs>,
     held: Vec<bool>,
     counted: Option<Counted>,
-    /// So many of the units, from the first on, are known to have no ready job.
+    /// The first `passed` units are known to have no ready job.
     passed: usize,
 }
 
@@ -63,7 +63,7 @@ impl<'g> Model for Jobs<'g> {
         × ArePassed j.graph.now j.units.items j.held.items j.passed };
 }
 
-// One call, where a derived one is taken apart at each exit.
+// One call for the prover, which takes a derived `Drop` apart at each exit.
 impl<'g> Drop for Jobs<'g> {
     fn drop(self) {
         let Jobs {
@@ -106,7 +106,7 @@ impl<'g> Jobs<'g> {
         Ok(jobs)
     }
 
-    /// The same jobs again, of which nothing is counted.
+    /// A copy of the jobs, without counts.
     pub fn copy(&self) -> Result<Jobs<'g>, AllocError>
         ensures { IfOk result (λ j. j ≡ self.now) }
     {
@@ -144,7 +144,7 @@ impl<'g> Jobs<'g> {
 }
 
 impl Jobs<'_> {
-    /// Leaves just these jobs, those of a plan by number. It takes no memory. Which units count as deactivating stays.
+    /// Leaves just these jobs, those of a plan by number. It takes no memory. The units that count as deactivating stay the same.
     pub fn install(&mut self, plan: &[UnitJobs])
         ensures each { (u : ℕ) → u < length self.old.units → jobs_at self.new.units u ≡ jobs_at plan.now u }
         ensures whole { length plan.now ≡ length self.old.units → self.new.units ≡ plan.now }
@@ -185,8 +185,8 @@ impl Jobs<'_> {
         }
     }
 
-    /// The unit with this number has just these jobs. It takes no memory, and goes over the unit's row only where something is counted and
-    /// not the same jobs of it are pending as before.
+    /// The unit with this number has just these jobs. It takes no memory. It goes over the unit's row only if there are counts and other
+    /// jobs of the unit are pending than before.
     fn set(&mut self, unit: usize, jobs: UnitJobs)
         ensures { self.new ≡ with_jobs_at self.old unit jobs }
     {
@@ -228,7 +228,7 @@ impl Jobs<'_> {
         self.set(unit, without_job(kind, self.get(unit)));
     }
 
-    /// Takes out the jobs of the unit that wait. Where none waits it is refused (E21), and all is as before.
+    /// Takes out the waiting jobs of the unit. It is refused if there is none (E21), and all is as before.
     pub fn cancel(&mut self, alloc: Global, unit: usize, name: &UnitName) -> Result<(), Refusal>
         ensures ok { OnOk result (self.new ≡ with_jobs_at self.old unit (model.cancelled (jobs_at self.old.units unit))) }
         ensures waits { IsOk result ↔ (has_waiting (jobs_at self.old.units unit) ≡ true) }
@@ -245,7 +245,7 @@ impl Jobs<'_> {
 }
 
 impl Jobs<'_> {
-    /// Counts what comes before the jobs of each unit, from now on with each change. The jobs stay as they are, also where memory is refused.
+    /// Counts the jobs before those of each unit, from now on with each change. The jobs stay as they are, even if memory is refused.
     pub fn count(&mut self, alloc: Global) -> Result<(), AllocError>
         ensures { self.new ≡ self.old }
     {
@@ -265,10 +265,11 @@ impl Jobs<'_> {
         Ok(())
     }
 
-    /// The job that begins next, with the number of its unit: the least ready one; none where none is ready. It takes no memory.
+    /// The job that begins next, with the number of its unit: the least ready one; None if none is ready. It takes no memory.
     ///
-    /// A job is ready where it waits and no other comes before it by the rows of the graph, be that one waiting or running; a start
-    /// moreover where its unit doesn't count as deactivating. One is less than another by the names of their units, and of one unit the stop is.
+    /// A job is ready if it waits and no other job comes before it by the rows of the graph, whether that one waits or runs; and a start
+    /// only if its unit doesn't count as deactivating. Jobs are ordered by the names of their units, and a unit's stop is less than its
+    /// start.
     pub fn ready(&self) -> Option<(usize, JobKind)>
         ensures least { MatchOption result ((job : Job) → ¬ IsReadyIn self.now.graph self.now job)
             (λ r. IsLeast IsToldBefore (IsReadyIn self.now.graph self.now) (job_named self.now.graph r.0 r.1)) }
@@ -286,7 +287,8 @@ impl Jobs<'_> {
         Some((unit, JobKind::Start))
     }
 
-    /// What `ready` gives. A search behind it doesn't go over the units before that one again, until a change may let one of their jobs be ready.
+    /// The same as `ready`. A later search doesn't go over the units before that one again, until a change may make one of their jobs
+    /// ready.
     pub fn find_ready(&mut self) -> Option<(usize, JobKind)>
         ensures same { self.new ≡ self.old }
         ensures least { MatchOption result ((job : Job) → ¬ IsReadyIn self.old.graph self.old job)

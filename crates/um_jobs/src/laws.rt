@@ -1,3 +1,5 @@
+//! Theorems about ready jobs.
+
 ghost use Rattle.std.specs.Prelude.{◌≡◌};
 ghost use Rattle.um_graph.specs.Graph.{GraphView};
 ghost use Rattle.um_jobs.specs.Jobs.{IsReadyIn, JobsView};

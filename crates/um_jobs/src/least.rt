@@ -1,4 +1,4 @@
-//! A set of numbers below a limit whose least one is at hand.
+//! A set of numbers below a limit whose least one is found in one look.
 
 ghost use Rattle.std.specs.Prelude.{◌≡◌, ◌<◌, ◌+◌, ℕ, false, length, replicate, slice_set, get_or, IfOk, MatchOption};
 ghost use Rattle.um_jobs.specs.Least.{HoldsLesser, IsLeastIn, IsNone};
@@ -10,10 +10,10 @@ use std::marker::Model;
 /// binary digits; one that changes nothing takes none.
 #[derive(Drop)]
 pub struct LeastSet {
-    /// Of each number whether it is in the set.
+    /// For each number whether it is in the set.
     marks: Vec<bool>,
-    /// At place `limit + i` stands i where that is in the set, else the limit; at each place from 1 to the limit the lesser of what
-    /// stands at twice the place and at the next one.
+    /// Place `limit + i` has i if that is in the set, else the limit; each place from 1 to the limit has the lesser of the numbers at twice
+    /// the place and at the next one.
     tree: Vec<usize>,
 }
 
@@ -38,7 +38,7 @@ impl LeastSet {
         Ok(LeastSet { marks, tree })
     }
 
-    /// The same set again.
+    /// A copy of the set.
     pub fn copy(&self) -> Result<LeastSet, AllocError>
         ensures { IfOk result (λ s. s ≡ self.now) }
     {
@@ -65,7 +65,7 @@ impl LeastSet {
         }
     }
 
-    /// The least number of the set; none where it has none.
+    /// The least number of the set; None if it is empty.
     pub fn least(&self) -> Option<usize>
         ensures { MatchOption result (IsNone self.now) (λ i. IsLeastIn self.now i) }
     {
@@ -78,7 +78,7 @@ impl LeastSet {
     }
 }
 
-/// Puts what stands in the leaf of a number, and what follows from it up to the root.
+/// Puts the leaf of a number, and updates its path up to the root.
 fn put_leaf(tree: &mut [usize], limit: usize, number: usize, leaf: usize)
     requires number { number < limit }
     requires len { length tree.old ≡ limit + limit }

@@ -1,4 +1,4 @@
-//! The jobs of units: what becomes of those of one unit, and which of the pending jobs of a graph's units begins next.
+//! The jobs of units: the changes of one unit's jobs, and which of the pending jobs of a graph's units begins next.
 #![tactic(auto)]
 
 mod counts;

@@ -1,4 +1,4 @@
-//! Which units have a ready job, told anew after each change.
+//! Which units have a ready job, kept up to date after each change.
 
 ghost use Rattle.std.specs.Prelude.{◌≡◌, ◌<◌, ◌≤◌, ℕ, All, length, get_or, if◌then◌else◌, ◌||◌, ◌&&◌, ◌==◌, false, slice_set};
 ghost use Rattle.um_graph.specs.declared.row.Neighbour.{Neighbour};
@@ -21,7 +21,7 @@ pub fn is_stop_free(units: &[UnitJobs], counts: &[Blockers], unit: usize) -> boo
     is_waiting(units[unit].stop) && counts[unit].stop == 0
 }
 
-/// Whether the start of a unit waits, and neither for another job nor for the end of its being deactivating.
+/// Whether the start of a unit waits, for no other job, and the unit isn't deactivating.
 fn is_start_free(units: &[UnitJobs], held: &[bool], counts: &[Blockers], unit: usize) -> bool
     requires units { unit < length units.now }
     requires held { unit < length held.now }
@@ -32,7 +32,7 @@ fn is_start_free(units: &[UnitJobs], held: &[bool], counts: &[Blockers], unit: u
     is_waiting(jobs.start) && jobs.stop.is_none() && !held[unit] && counts[unit].start == 0
 }
 
-/// Tells anew of a unit whether a job of it is ready.
+/// Marks a unit if a job of it is ready, and clears the mark otherwise.
 pub fn mark(
     ready: &mut LeastSet,
     units: &[UnitJobs],
@@ -52,7 +52,7 @@ pub fn mark(
     ready.set(unit, is_free);
 }
 
-/// Tells anew of a unit's neighbours whether a job of them is ready.
+/// Sets the marks of a unit's neighbours.
 fn mark_row(
     ready: &mut LeastSet,
     units: &[UnitJobs],
@@ -73,7 +73,7 @@ fn mark_row(
     }
 }
 
-/// The unit has just these jobs from now on, and what follows from it is counted and marked anew.
+/// The unit has just these jobs from now on; the counts and marks that this changes are updated.
 pub fn change(
     graph: &Graph,
     units: &mut [UnitJobs],
@@ -93,7 +93,7 @@ pub fn change(
     mark(ready, units, held, counts, unit);
 }
 
-/// Tells anew of each unit whether a job of it is ready.
+/// Sets the mark of each unit.
 fn mark_all(ready: &mut LeastSet, units: &[UnitJobs], held: &[bool], counts: &[Blockers])
     requires ready { length ready.old ≡ length units.now }
     requires held { length held.now ≡ length units.now }
@@ -106,8 +106,8 @@ fn mark_all(ready: &mut LeastSet, units: &[UnitJobs], held: &[bool], counts: &[B
     }
 }
 
-/// Each unit has just its jobs of the plan from now on, and what follows from them is counted first, and then marked, so that no unit is marked
-/// as ready that waits for one further on.
+/// Each unit has just its jobs of the plan from now on. All counts are updated first and then the marks, so that no unit is marked as ready
+/// while it waits for a later one.
 pub fn change_all(
     graph: &Graph,
     units: &mut [UnitJobs],

@@ -1,4 +1,4 @@
-//! Which job is ready by the rows of the units, where nothing is counted.
+//! Which job is ready by the rows of the units, if there are no counts.
 
 ghost use Rattle.std.specs.List.{list_any};
 ghost use Rattle.std.specs.Prelude.{◌≡◌, ◌<◌, true, Bool, List, length, slice_set, IfSome, MatchOption};
@@ -50,8 +50,8 @@ fn is_start_held(units: &[UnitJobs], row: &[Neighbour]) -> bool
     row.iter().any(|neighbour| holds_start(units, *neighbour))
 }
 
-/// Whether the first neighbour that the unit with this number comes after has a pending start. As a rule that is what a start waits for, and the row
-/// needn't be looked at then.
+/// Whether the first neighbour that the unit with this number comes after has a pending start. As a rule a start waits for that, and the
+/// row needn't be looked at then.
 fn awaits_first(graph: &Graph, units: &[UnitJobs], unit: usize) -> bool
     ensures first { result ≡ told.awaits_first graph.now units.now unit }
     ensures holds { result ≡ true → list_any (told.holds_start units.now) (row_of graph.now.rows unit) ≡ true }
@@ -70,7 +70,7 @@ fn is_stop_ready(graph: &Graph, units: &[UnitJobs], unit: usize) -> bool
     is_waiting(jobs_of(units, unit).stop) && !is_stop_held(units, graph.neighbours(unit))
 }
 
-/// Whether the start of the unit with this number waits, for no other of these jobs, and not for the end of its being deactivating.
+/// Whether the start of the unit with this number waits, for no other of these jobs, and the unit isn't deactivating.
 fn is_start_ready(graph: &Graph, units: &[UnitJobs], held: &[bool], unit: usize) -> bool
     ensures { result ≡ told.is_start_ready graph.now units.now held.now unit }
 {
@@ -82,7 +82,7 @@ fn is_start_ready(graph: &Graph, units: &[UnitJobs], held: &[bool], unit: usize)
         && !is_start_held(units, graph.neighbours(unit))
 }
 
-/// The job of the unit with this number that is ready, its stop before its start; None where none is.
+/// The ready job of the unit with this number, its stop before its start; None if none is ready.
 fn ready_kind(graph: &Graph, units: &[UnitJobs], held: &[bool], unit: usize) -> Option<JobKind>
     ensures { result ≡ told.ready_kind graph.now (record { graph = graph.now; units = units.now; held = held.now }) unit }
 {
@@ -95,8 +95,8 @@ fn ready_kind(graph: &Graph, units: &[UnitJobs], held: &[bool], unit: usize) -> 
     }
 }
 
-/// The least ready job with the number of its unit, found by going over the units, but for so many from the first on that have none; None where
-/// none is ready. It takes no memory.
+/// The least ready job with the number of its unit, found by going over the units after the first `passed`, which have none; None if none
+/// is ready. It takes no memory.
 pub fn next_ready(
     graph: &Graph,
     units: &[UnitJobs],
@@ -116,8 +116,8 @@ pub fn next_ready(
     None
 }
 
-/// How many of the units, from the first on, are still known to have no ready job where so many were, once the unit with this number has just
-/// these jobs.
+/// The number of units, from the first on, that are still known to have no ready job, if `passed` were, once the unit with this number has
+/// just these jobs.
 pub fn still_passed(units: &[UnitJobs], unit: usize, jobs: UnitJobs, passed: usize) -> usize
     ensures { (g : GraphView) (held : List Bool) → ArePassed g units.now held passed → ArePassed g (slice_set units.now unit jobs) held result }
 {

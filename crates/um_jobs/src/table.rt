@@ -1,4 +1,4 @@
-//! What becomes of the jobs of one unit (systemctl(1), "start", "stop", "restart").
+//! The changes of one unit's jobs (systemctl(1), "start", "stop", "restart").
 
 ghost use Rattle.std.specs.Prelude.{◌≡◌, ◌||◌, ◌<◌, ℕ, Some, length, unwrap_or};
 ghost use Rattle.um_jobs.specs.Drops.{drops_one, is_dropped};
@@ -48,7 +48,7 @@ fn stays_or_runs(old: Option<JobState>, new: Option<JobState>) -> bool
     }
 }
 
-/// Whether each job of a unit is as it was, or runs now. Then no job of it or of another unit is ready that wasn't.
+/// Whether each job of a unit is as it was, or runs now. Then no job of it or of another unit becomes ready by the change.
 pub fn binds_as_before(old: UnitJobs, new: UnitJobs) -> bool
     ensures { result ≡ binds_as_before old new }
 {
@@ -76,8 +76,8 @@ fn is_up(active: ActiveState) -> bool
     !matches!(active, ActiveState::Inactive | ActiveState::Failed)
 }
 
-/// After a start a start job that is pending stays. Else a stop job that waits is dropped, one that runs stays, and a start job
-/// is put, unless the unit is active and no stop job remains.
+/// A pending start job stays at a start. Otherwise a stop job that waits is dropped and one that runs stays; then a start job is put,
+/// unless the unit is active and no stop job remains.
 fn started(active: ActiveState, now: UnitJobs) -> UnitJobs
     ensures { result ≡ model.started active now.stop now.start }
 {
@@ -100,7 +100,7 @@ fn started(active: ActiveState, now: UnitJobs) -> UnitJobs
     }
 }
 
-/// After a stop the start job is dropped; a stop job is put where none is pending and the unit is up.
+/// At a stop the start job is dropped; a stop job is put if none is pending and the unit is up.
 fn stopped(active: ActiveState, now: UnitJobs) -> UnitJobs
     ensures { result ≡ model.stopped active now.stop }
 {
@@ -112,8 +112,8 @@ fn stopped(active: ActiveState, now: UnitJobs) -> UnitJobs
     UnitJobs { stop, start: None }
 }
 
-/// After a restart of a unit that is up a start job that runs is dropped; a stop job is put where none is pending, and a start
-/// job where none waits.
+/// At a restart of a unit that is up, a start job that runs is dropped; a stop job is put if none is pending, and a start job if none
+/// waits.
 fn restarted(now: UnitJobs) -> UnitJobs
     ensures { result ≡ model.jobs (Some (unwrap_or now.stop Waiting)) (Some Waiting) }
 {
@@ -136,7 +136,7 @@ pub fn jobs_for(demand: Option<Demand>, active: ActiveState, now: UnitJobs) -> U
     }
 }
 
-/// Whether a job that was pending is gone, or is no more as it was.
+/// Whether a job that was pending is gone, or has changed.
 fn is_dropped(before: Option<JobState>, after: Option<JobState>) -> bool
     ensures { result ≡ is_dropped before after }
 {
@@ -173,8 +173,7 @@ fn start_left(start: StartJob, job: Option<JobState>) -> Option<JobState>
     }
 }
 
-/// What an event leaves of the jobs of its unit: the running start job is over where it ended or failed, the running stop job
-/// where it ended.
+/// The jobs of a unit after an event: the running start job is over if it ended or failed, the running stop job if it ended.
 pub fn jobs_left(start: StartJob, stop_ends: bool, now: UnitJobs) -> UnitJobs
     ensures { result ≡ model.jobs_left start stop_ends now }
 {

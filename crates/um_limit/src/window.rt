@@ -1,3 +1,4 @@
+//! The window in which the starts of a unit are counted.
 ghost use Rattle.std.specs.Prelude.{◌≡◌, ℕ, false, Option, None};
 ghost use Rattle.um_model.specs.Limit.{is_unlimited, is_over, counted};
 ghost use Rattle.um_model.specs.declared.limit.Counted.{Counted};
@@ -61,10 +62,10 @@ impl Window {
         self.counted
     }
 
-    /// Whether a start at the moment is let through. It is where the interval or the burst is 0, since then there is no limit
-    /// and the window stays. Else it begins a window where there is none or more than the interval went by since the last
-    /// one began; else it is counted where fewer starts than the burst were; else it is refused and the window stays. A moment
-    /// before the window counts as its beginning, and an interval of `None` is infinite: its window never ends.
+    /// Whether a start at the moment is let through. It is if the interval or the burst is 0: then there is no limit and the window stays.
+    /// Otherwise it begins a window if there is none or more than the interval passed since the last one began. Otherwise it is counted if
+    /// the window has fewer starts than the burst, or else refused, and the window stays. A moment before the window counts as its
+    /// beginning, and an interval of `None` is infinite: its window never ends.
     pub fn count(&mut self, moment: Moment, interval: Option<Span>, burst: u32) -> bool
         ensures answer { result ≡ (counted interval burst moment self.old).0 }
         ensures after { self.new ≡ (counted interval burst moment self.old).1 }
@@ -92,7 +93,7 @@ impl Window {
         true
     }
 
-    /// The same window again.
+    /// A copy of the window.
     pub fn copy(&self) -> Window
         ensures { result ≡ self.now }
     {

@@ -3,7 +3,7 @@ use std::process::Abort;
 use um_model::{JobState, Moment, UnitJobs};
 use um_state::{Action, Start};
 
-/// The moment of so many microseconds.
+/// The moment of this number of microseconds.
 pub fn at(rt: &impl Abort, micros: u64) -> Moment {
     Moment::new(micros).expect(rt, "no moment")
 }
@@ -14,15 +14,14 @@ pub const WAITS_TO_START: UnitJobs = UnitJobs {
     start: Some(JobState::Waiting),
 };
 
-/// The words of what is to be started, and its environment.
+/// The words of the command to be started, and its environment.
 fn started(rt: &(impl AllocGlobal + Abort), start: &Start) -> String {
     let words = start.words(rt.alloc()).expect(rt, "no memory");
     let environment = start.environment(rt.alloc()).expect(rt, "no memory");
     format!(in rt.alloc(); "{words:?} {environment:?}").expect(rt, "no memory")
 }
 
-/// What the action asks for: to start a process under a number, with its words and its environment, or to send a signal to the
-/// process of a number.
+/// The action in text: the start of a process under a number, with its words and its environment, or a signal to the process of a number.
 fn asked(rt: &(impl AllocGlobal + Abort), action: &Action) -> String {
     let asked = match action {
         Action::Spawn { number, start } => {
@@ -37,7 +36,7 @@ fn asked(rt: &(impl AllocGlobal + Abort), action: &Action) -> String {
     asked.expect(rt, "no memory")
 }
 
-/// What the actions ask for, in their order.
+/// The actions in text, in their order.
 pub fn told(rt: &(impl AllocGlobal + Abort), actions: &[Action]) -> String {
     let mut told = String::new(rt.alloc());
     for action in actions {

@@ -20,11 +20,11 @@ const T_BOUND_TO_A: &str =
 const C_BOUND_TO_T: &str =
     r#"{"verb":"put-file","path":"lib/c.service","text":"[Unit]\nBindsTo=t.target\n[Service]\nExecStart=/bin/c\n"}"#;
 
-/// A service that is bound to a, with a name behind that of the target.
+/// A service that is bound to a, with a name after that of the target.
 const Z_BOUND_TO_A: &str =
     r#"{"verb":"put-file","path":"lib/z.service","text":"[Unit]\nBindsTo=a.service\n[Service]\nExecStart=/bin/z\n"}"#;
 
-// What is asked in turn, and replied.
+// The requests in turn, and their replies.
 
 const A_UNIT_IS_STOPPED_AT_ONCE_WHERE_THE_ONE_IT_IS_BOUND_TO_FAILS: Script = Script {
     shows: "a unit is stopped at once where the one it is bound to fails",

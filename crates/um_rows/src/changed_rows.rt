@@ -1,4 +1,4 @@
-//! Of how many units a step changes what is held, and that the way back leads to what was held before.
+//! The number of units whose held state a step changes, and the way back to the state before.
 use crate::answers::told;
 use crate::steps::{SIZE, committed, empty, engine_of, happened, obeyed, planned, standing};
 use std::process::Abort;
@@ -19,7 +19,7 @@ pub const COMES_LAST: &str =
 
 pub const RUNS_ONCE: &str = "[Service]\nType=oneshot\nExecStart=/bin/sleep 9\n";
 
-/// Three starts of what sleeps.
+/// Three starts of a service that sleeps.
 const SPAWNS: &str =
     r#"spawn 1 ["/bin/sleep", "9"] [];spawn 2 ["/bin/sleep", "9"] [];spawn 3 ["/bin/sleep", "9"] [];"#;
 
@@ -52,7 +52,7 @@ pub fn ended(rt: &(impl AllocGlobal + Abort), number: u64) -> Box<Input> {
     happened(rt, 9, Happening::ProcessEnded { number, end })
 }
 
-/// Takes the step that the input is, which tells so many rows: what is asked of processes, and the way back.
+/// Takes the step of the input, which reports this number of rows. Returns the actions in text, and the way back.
 fn take(
     rt: &(impl AllocGlobal + Abort),
     engine: &mut Engine,
@@ -66,7 +66,7 @@ fn take(
     (told(rt, actions.as_slice()), back)
 }
 
-/// Takes the step, which tells so many rows: the way back.
+/// Takes the step, which reports this number of rows, and returns the way back.
 fn leave(
     rt: &(impl AllocGlobal + Abort),
     engine: &mut Engine,
@@ -78,7 +78,7 @@ fn leave(
     back
 }
 
-/// Takes the step, which tells so many rows.
+/// Takes the step, which reports this number of rows.
 pub fn step(
     rt: &(impl AllocGlobal + Abort),
     engine: &mut Engine,
@@ -89,7 +89,7 @@ pub fn step(
     let _taken = take(rt, engine, input.as_ref(), rows, shows);
 }
 
-/// Takes a step that changes so many rows and asks this of processes: the way back.
+/// Takes a step that changes this number of rows and has these actions, and returns the way back.
 fn ask(
     rt: &(impl AllocGlobal + Abort),
     engine: &mut Engine,
@@ -108,7 +108,7 @@ fn add(rt: &(impl AllocGlobal + Abort), engine: &mut Engine, path: &str, content
     step(rt, engine, put(rt, path, content), None, path);
 }
 
-/// The units get known.
+/// The units become known.
 fn load(rt: &(impl AllocGlobal + Abort), engine: &mut Engine) {
     step(rt, engine, reload(rt), None, "units get known");
 }
@@ -118,7 +118,7 @@ pub fn new_engine(rt: &(impl AllocGlobal + Abort)) -> Box<Engine> {
     engine_of(rt, empty(rt), SIZE)
 }
 
-/// The three services get known, of which the first pulls in the others, at the moment 5.
+/// The three services become known, of which the first pulls in the others, at the moment 5.
 fn add_three(rt: &(impl AllocGlobal + Abort), engine: &mut Engine) {
     add(rt, engine, "lib/a.service", PULLS_IN_TWO);
     add(rt, engine, "lib/b.service", SLEEPS);
@@ -163,7 +163,7 @@ fn a_step_tells_how_many_rows_it_changes(rt: HostRuntime) {
     change_rows(&rt, engine.as_mut());
 }
 
-/// Steps to what stands already, and a removal.
+/// Steps to entries that stand there already, and a removal.
 fn change_nothing(rt: &(impl AllocGlobal + Abort), engine: &mut Engine) {
     let again = put(rt, "lib/b.service", SLEEPS);
     step(rt, engine, again, Some(0), "the text stands there");
@@ -216,12 +216,12 @@ fn a_job_that_waits_is_a_row_that_changes(rt: HostRuntime) {
     step(&rt, engine.as_mut(), end, Some(2), "the next begins");
 }
 
-/// A unit gets known, a job is dropped, and the unit starts.
+/// A unit becomes known, a job is dropped, and the unit starts.
 fn get_known(rt: &(impl AllocGlobal + Abort), engine: &mut Engine) {
     add(rt, engine, "lib/Z.service", SLEEPS);
     load(rt, engine);
     let dropped = cancel(rt, "g.service");
-    // what is known was found while something was held of it
+    // the `Known` was made while something was held of it
     step(rt, engine, dropped, Some(1), "its job is dropped");
     let start = asked(rt, UnitVerb::Start, "Z.service");
     step(rt, engine, start, Some(1), "the same units are known");
@@ -255,7 +255,7 @@ fn the_way_back_leads_to_the_rows_that_were(rt: HostRuntime) {
     }
 }
 
-/// The second process ends behind a reload by which a unit gets known, and both ways back are taken.
+/// The second process ends after a reload by which a unit becomes known, and both ways back are taken.
 fn end_and_go_back(rt: &(impl AllocGlobal + Abort), engine: &mut Engine) {
     let loaded = leave(rt, engine, reload(rt), None, "a unit gets known");
     let back = leave(rt, engine, ended(rt, 2), Some(1), "an end");
@@ -278,7 +278,7 @@ fn end_behind_a_reload(rt: &(impl AllocGlobal + Abort), engine: &mut Engine) {
 fn rows_have_other_numbers_behind_a_reload(rt: HostRuntime) {
     let mut engine = three(&rt);
     let _back = start_three(&rt, engine.as_mut());
-    // by its name it stands before the others
+    // its name is before the others
     add(&rt, engine.as_mut(), "lib/Z.service", SLEEPS);
     end_behind_a_reload(&rt, engine.as_mut());
 }
@@ -309,7 +309,7 @@ fn chain(rt: &(impl AllocGlobal + Abort)) -> Box<Engine> {
     engine
 }
 
-/// What the start of the service of this number in the chain asks for.
+/// The action of the start of the service with this number in the chain.
 fn start_of(rt: &(impl AllocGlobal + Abort), number: usize) -> String {
     let start = format!(in rt.alloc(); "spawn {number} [\"/bin/c{number}\"] [];");
     start.expect(rt, "no memory")

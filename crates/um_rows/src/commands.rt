@@ -1,15 +1,15 @@
-//! Commands for a unit with jobs pending, and the jobs as they are told.
+//! Commands for a unit with jobs pending, and the jobs as replies show them.
 use crate::script::{Script, play_script};
 use crate::texts::{
     ACTIONS, BAD_REQUEST, CANCEL_A, DONE, FIRST_ENDS, FIRST_TOLD_TO_END, JOBS, NOTHING, PUT_A,
     RELOAD, RESTART_A, SPAWNED_FIRST, SPAWNED_SECOND, START_A,
 };
 
-/// What is told of the jobs of a restart whose stop runs.
+/// The list of jobs of a restart whose stop runs.
 const RESTARTS: &str =
     r#"{"ok":true,"value":[["a.service","stop","running"],["a.service","start","waiting"]]}"#;
 
-// What is asked in turn, and replied.
+// The requests in turn, and their replies.
 
 const A_RESTART_IS_A_STOP_AND_THEN_A_START: Script = Script {
     shows: "a restart is a stop and then a start",

@@ -2,7 +2,7 @@
 use crate::script::{Script, play_script};
 use crate::texts::{DONE, RELOAD};
 
-// What is asked in turn, and replied.
+// The requests in turn, and their replies.
 
 const A_LINE_IS_JOINED_TO_THE_NEXT_OVER_A_COMMENT: Script = Script {
     shows: "a line is joined to the next over a comment",

@@ -25,7 +25,7 @@ impl Read for Slow {
     }
 }
 
-/// A writer that takes one byte at a time, and fails once it has taken so many.
+/// A writer that takes one byte at a time, and fails once it has taken a given number.
 #[derive(Drop)]
 struct Short {
     left: usize,
@@ -59,7 +59,7 @@ fn ended(answer: &Result<Ending, Fault>) -> (Option<Ending>, Option<ErrorKind>) 
     }
 }
 
-/// Asserts that a writer that takes so many bytes has taken as many of the replies, and that serving ends at its failure where
+/// Asserts that a writer with room for this number of bytes has taken that many of the replies, and that serving ends at its failure if
 /// they are more.
 fn takes(rt: &(impl AllocGlobal + Abort), input: &[u8], replies: &[u8], left: usize) {
     let mut output = Short {

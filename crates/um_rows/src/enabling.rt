@@ -1,11 +1,11 @@
-//! Enabling and its kin, as replies show them.
+//! Enabling, disabling and the like, as replies show them.
 use crate::script::{Script, play_script};
 use crate::texts::{DONE, RELOAD, START_S};
 
 /// A reply to a verb that changes no link.
 const NO_LINKS: &str = r#"{"ok":true,"value":{"made":[],"removed":[]}}"#;
 
-// What is asked in turn, and replied.
+// The requests in turn, and their replies.
 
 const ENABLING_MAKES_LINKS_AND_DISABLING_REMOVES_THOSE_MADE_BY_HAND_TOO: Script = Script {
     shows: "enabling makes links and disabling removes those made by hand too",

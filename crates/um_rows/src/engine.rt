@@ -8,7 +8,7 @@ use um_model::{End, JobMode, SubState, UnitState, UnitVerb};
 use um_state::{BootId, Command, Happening, Input};
 use um_wire::Refusal;
 
-/// What comes in: at the moment 5, but at 7 a boot, and an end at its own.
+/// An input: at the moment 5, but a boot at 7, and an end at its own moment.
 #[derive(Drop)]
 enum Comes {
     /// A file is put.
@@ -17,16 +17,16 @@ enum Comes {
     Reload,
     /// A command for `a.service`.
     Asked(UnitVerb, JobMode),
-    /// At so many microseconds the process of this number ends.
+    /// At this number of microseconds the process of this number ends.
     Ended(u64, u64, End),
     /// The machine is booted, with this id.
     Booted(&'static str),
 }
 
-/// What comes in, its answer, and how far `a.service` has come then; None: it stands as before.
+/// An input, its answer, and the sub state of `a.service` then; None: it stands as before.
 type Step = (Comes, &'static str, Option<SubState>);
 
-/// What comes in turn into a state of so many files. At the end the main process of `a.service` has this number.
+/// Inputs in turn, into a state with this number of files. At the end the main process of `a.service` has this number.
 struct Script {
     shows: &'static str,
     entries: usize,
@@ -50,13 +50,13 @@ const START_OR_FAIL: Comes = Comes::Asked(UnitVerb::Start, JobMode::Fail);
 
 const STOP_OR_FAIL: Comes = Comes::Asked(UnitVerb::Stop, JobMode::Fail);
 
-/// The end of the first process, by the signal that asks it to end.
+/// The end of the first process, by the signal to end.
 const FIRST_ENDS: Comes = Comes::Ended(5, 1, End::Signal(15));
 
 /// The end of a process that isn't there.
 const LATE: Comes = Comes::Ended(7, 2, End::Code(0));
 
-/// The answer to what has no effect.
+/// The answer to an input without effect.
 const NO_EFFECT: &str = "no effect";
 
 const SPAWN_1: &str = r#"spawn 1 ["/bin/sleep", "9"] [];"#;
@@ -71,7 +71,7 @@ const RUNNING: Option<SubState> = Some(SubState::Running);
 
 const STOPPING: Option<SubState> = Some(SubState::StopSigterm);
 
-/// What is refused or has no effect.
+/// Inputs that are refused or have no effect.
 const REFUSALS: &[Script] = &[
     Script {
         shows: "a start of nothing is refused",
@@ -86,10 +86,10 @@ const REFUSALS: &[Script] = &[
     },
     Script {
         shows: "a put into a full tree is refused",
-        // a tree has 4096 at most
+        // a tree has at most 4,096
         entries: 4095,
         steps: &[
-            // the last one that has room is put once more in its own place
+            // the last one with room is put again in its own place
             (PUT, "", None),
             (PUT, "", None),
             (
@@ -259,7 +259,7 @@ fn input_of(rt: &(impl AllocGlobal + Abort), comes: &Comes) -> Box<Input> {
     }
 }
 
-/// An engine in a state with so many files.
+/// An engine in a state with this number of files.
 fn engine_with(rt: &(impl AllocGlobal + Abort), entries: usize) -> Box<Engine> {
     let mut state = empty(rt);
     for number in 0..entries {
@@ -270,7 +270,7 @@ fn engine_with(rt: &(impl AllocGlobal + Abort), entries: usize) -> Box<Engine> {
     engine_of(rt, state, SIZE)
 }
 
-/// What comes of a step that is taken: it has no effect, or asks for this.
+/// The outcome of a step that is taken: no effect, or its actions.
 fn taken(rt: &(impl AllocGlobal + Abort), engine: &mut Engine, next: Box<Next>) -> String {
     let effect = if next.as_ref().has_effect() {
         ""
@@ -282,12 +282,12 @@ fn taken(rt: &(impl AllocGlobal + Abort), engine: &mut Engine, next: Box<Next>) 
     format!(in rt.alloc(); "{effect}{asked}").expect(rt, "no memory")
 }
 
-/// What the refusal prints as.
+/// The refusal as it prints.
 fn refused(rt: &(impl AllocGlobal + Abort), refusal: &Refusal) -> String {
     refusal.to_string(rt.alloc()).expect(rt, "no memory")
 }
 
-/// What comes of the input: its refusal; or it is taken, and has no effect or asks for this.
+/// The outcome of the input: its refusal; or it is taken, and has no effect or these actions.
 fn answer_to(rt: &(impl AllocGlobal + Abort), engine: &mut Engine, input: &Input) -> String {
     match engine.plan(input) {
         Ok(next) => taken(
@@ -308,7 +308,7 @@ fn is_as_before(rt: &impl Abort, now: &UnitState, before: &UnitState, row: (&str
     assert_eq!(rt; *now, *before, "at {row:?}");
 }
 
-/// Asserts that the step has its answer, and that `a.service` stands then as it is told: how it stands.
+/// Asserts that the step has its answer, and that `a.service` stands then as the row says. Returns how it stands.
 fn takes(
     rt: &(impl AllocGlobal + Abort),
     engine: &mut Engine,
@@ -328,7 +328,7 @@ fn takes(
     now
 }
 
-/// Asserts that each step of the script has its answer, and that `a.service` stands then as it is told.
+/// Asserts that each step of the script has its answer, and that `a.service` stands then as it says.
 fn plays(rt: &(impl AllocGlobal + Abort), engine: &mut Engine, script: &Script) {
     let mut stands = standing(rt, engine, "a.service");
     same_at!(rt, &stands, &UnitState::DEAD, script.shows);
@@ -339,7 +339,7 @@ fn plays(rt: &(impl AllocGlobal + Abort), engine: &mut Engine, script: &Script) 
     same_at!(rt, main, script.main, script.shows);
 }
 
-/// Plays the script in a state of so many files as it tells.
+/// Plays the script in a state with its number of files.
 fn play(rt: &(impl AllocGlobal + Abort), script: &Script) {
     let mut engine = engine_with(rt, script.entries);
     plays(rt, engine.as_mut(), script);
@@ -365,8 +365,8 @@ fn stands_so(rt: &(impl AllocGlobal + Abort), engine: &Engine, wanted: &UnitStat
     assert_eq!(rt; standing(rt, engine, "a.service"), *wanted);
 }
 
-/// Asserts that the step is taken to the clock of so many microseconds and that the way back leads to the other; `a.service` stands
-/// as before all along, and nothing is asked of processes.
+/// Asserts that the step is taken to a clock of this number of microseconds and that the way back leads to the other; `a.service` stands as
+/// before all along, and there are no actions.
 fn is_taken_back(
     rt: &(impl AllocGlobal + Abort),
     engine: &mut Engine,
@@ -386,7 +386,7 @@ fn is_taken_back(
     stands_so(rt, engine, &stands);
 }
 
-/// What leads to a running service.
+/// The inputs up to a running service.
 const RUNS: &[Comes] = &[PUT, Comes::Reload, START];
 
 /// The service runs.

@@ -3,7 +3,7 @@ use crate::script::{Script, front, play_script, rest, served};
 use crate::texts::{BAD_REQUEST, DEAD_A, DONE, NO_A, PUT_A, RELOAD, SHOW_A};
 use um_asserts::{frames, same};
 
-// What is asked in turn, and replied.
+// The requests in turn, and their replies.
 
 const A_FILE_THAT_IS_PUT_IS_SHOWN_AFTER_A_RELOAD: Script = Script {
     shows: "a file that is put is shown after a reload",

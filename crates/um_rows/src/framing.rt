@@ -1,4 +1,4 @@
-//! Where the frames of a stream begin and end.
+//! The bounds of the frames in a stream.
 use crate::devices::Slow;
 use crate::script::{front, has_replies, rest, served};
 use crate::texts::{BAD_REQUEST, DONE, RELOAD};
@@ -14,14 +14,14 @@ const SHOW: &str = r#"{"verb":"show","unit":"nix.service"}"#;
 const NOT_FOUND: &str =
     r#"{"ok":true,"value":{"ActiveState":"inactive","Description":"","Id":"nix.service","LoadState":"not-found","MainNumber":0,"Result":"success","SubState":"dead","Warnings":[]}}"#;
 
-/// A request with spaces behind it, of so many bytes.
+/// A request followed by spaces, of this number of bytes in all.
 fn padded(rt: &(impl AllocGlobal + Abort), size: usize) -> String {
     let spaces = " ".repeat(rt.alloc(), size.saturating_sub(SHOW.len()));
     let spaces = spaces.expect(rt, "no memory");
     format!(in rt.alloc(); "{SHOW}{spaces}").expect(rt, "no memory")
 }
 
-/// An empty frame, a short one, one of so many bytes, one longer than the longest by a byte, and one that isn't read.
+/// An empty frame, a short one, one of this number of bytes, one longer than the longest by a byte, and one that isn't read.
 fn at_the_limits(rt: &(impl AllocGlobal + Abort), size: usize) -> Vec<u8> {
     let long = padded(rt, size);
     let longer = padded(rt, FRAME_LIMIT + 1);

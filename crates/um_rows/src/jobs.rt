@@ -61,7 +61,7 @@ fn jobs_of<'g>(
     Box::new(rt.alloc(), jobs).expect(rt, "no memory")
 }
 
-/// Asserts that this is the job that begins next, also behind a search that went over the units in front of it.
+/// Asserts that this is the job that begins next, also after a search that went over the units before it.
 fn is_ready(rt: &impl Abort, jobs: &mut Jobs<'_>, wanted: Option<(usize, JobKind)>) {
     same!(rt, jobs.find_ready(), wanted);
     same!(rt, jobs.ready(), wanted);
@@ -140,7 +140,7 @@ fn refuses_cancel(rt: &(impl AllocGlobal + Abort), jobs: &mut Jobs<'_>, of: usiz
     refused
 }
 
-/// Asserts that a cancel takes out of these jobs what waits and nothing else, where a runs and b waits.
+/// Asserts that a cancel takes the waiting jobs out of these and nothing else, when a runs and b waits.
 fn cancel_what_waits(rt: &(impl AllocGlobal + Abort), left: &mut Jobs<'_>) {
     let cancelled = left.cancel(rt.alloc(), 1, &unit!(rt, "b.service"));
     cancelled.expect(rt, "none waits");

@@ -1,4 +1,4 @@
-//! That behind each step just those units are known that a fresh engine knows, and how many rows the step tells, among 300 units.
+//! After each step just those units are known that a fresh engine knows, and the step reports its number of rows, among 300 units.
 use crate::changed_rows::{COMES_LAST, RUNS_ONCE, SLEEPS, asked, cancel, put, reload, step};
 use crate::steps::{SIZE, empty, engine_of, happened, obeyed};
 use std::process::Abort;
@@ -57,7 +57,7 @@ fn loaded(rt: &(impl AllocGlobal + Abort)) -> Box<Engine> {
     engine
 }
 
-/// The names that a listing tells.
+/// The names in a listing.
 fn names(rt: &(impl AllocGlobal + Abort), reply: &Reply) -> String {
     let mut names = String::new(rt.alloc());
     let Reply::Listed(units) = reply else {
@@ -112,8 +112,8 @@ fn a_stop_of_what_never_ran_keeps_nothing(rt: HostRuntime) {
     rests(&rt, engine.as_mut(), "u0.service");
 }
 
-/// An instance of a target starts, and is known then; behind its stop nothing but its count of starts is held, and once that is forgotten it isn't
-/// known any more.
+/// An instance of a target starts, and is known then. After its stop only its count of starts is held, and once that is forgotten it is no
+/// longer known.
 fn begin_and_forget(rt: &(impl AllocGlobal + Abort), engine: &mut Engine) {
     let start = asked(rt, UnitVerb::Start, "bar@7.target");
     step(rt, engine, start, None, "it gets known");

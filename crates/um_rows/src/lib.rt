@@ -1,4 +1,4 @@
-//! Worked rows of the protocol, from bytes to bytes as the program serves them, and of the machine's layers by their public calls.
+//! Worked rows of the protocol, from bytes to bytes as the program serves them, and of the machine's layers by their public functions.
 #![tactic(auto)]
 
 #[cfg(test)]

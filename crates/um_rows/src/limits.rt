@@ -12,26 +12,26 @@ use um_state::{Command, Input, State};
 /// The size of a store, in bytes; `LARGE_SIZE` has room for as many units as may be known.
 const SIZE: u64 = 32_256;
 
-/// A state, by what the tree in hand holds.
+/// A state, by the contents of the tree in hand.
 #[derive(Debug, Drop)]
 enum Held {
     Nothing,
-    /// `lib/a.service`, with a text of so many bytes.
+    /// `lib/a.service`, with a text of this number of bytes.
     Text(usize),
-    /// `lib/a.service`, which is loaded and wants so many units that aren't there.
+    /// `lib/a.service`, which is loaded and wants this number of missing units.
     Wanting(usize),
-    /// The same where an entry under `run/` masks `a.service`, so that only without that entry all these are known.
+    /// The same with an entry under `run/` that masks `a.service`, so that only without that entry all these are known.
     Hidden(usize),
     /// `lib/a.service` of this text and `lib/b.service`, which starts after it; both are loaded and wait to start.
     Waiting(&'static str),
 }
 
-/// So many bytes.
+/// A text of this number of bytes.
 fn long(rt: &(impl AllocGlobal + Abort), count: usize) -> String {
     "#".repeat(rt.alloc(), count).expect(rt, "no memory")
 }
 
-/// The names of so many units that aren't there, with a space before each.
+/// The names of this number of missing units, with a space before each.
 fn names(rt: &(impl AllocGlobal + Abort), count: usize) -> String {
     let mut names = String::new(rt.alloc());
     for number in 0..count {
@@ -49,7 +49,7 @@ fn with_file(rt: &(impl AllocGlobal + Abort), text: &str) -> Box<State> {
     state
 }
 
-/// A state with `lib/a.service` loaded, which wants so many units that aren't there.
+/// A state with `lib/a.service` loaded, which wants this number of missing units.
 fn with_wanted(rt: &(impl AllocGlobal + Abort), count: usize) -> Box<State> {
     let names = names(rt, count);
     let unit = format!(in rt.alloc(); "[Service]\nExecStart=/bin/sleep 9\n[Unit]\nWants={names}");
@@ -61,7 +61,7 @@ fn with_wanted(rt: &(impl AllocGlobal + Abort), count: usize) -> Box<State> {
     state
 }
 
-/// The same where an entry under `run/` masks `a.service`.
+/// The same with an entry under `run/` that masks `a.service`.
 fn with_hidden(rt: &(impl AllocGlobal + Abort), count: usize) -> Box<State> {
     let mut state = with_wanted(rt, count);
     let link: Result<_, _> = state.as_mut().put_link("run/a.service", "/dev/null");
@@ -160,7 +160,7 @@ fn an_engine_shows_the_state_that_it_was_made_from(rt: HostRuntime) {
     same!(&rt, state.loaded().tree.weight(), 0);
 }
 
-/// At the moment 0 `lib/a.service` is put with a text of so many bytes.
+/// At the moment 0 `lib/a.service` is put with a text of this number of bytes.
 fn put_long(rt: &(impl AllocGlobal + Abort), length: usize) -> Box<Input> {
     let path = text!(rt, "lib/a.service");
     let text = long(rt, length);
@@ -177,7 +177,7 @@ fn a_state_has_room_up_to_the_size_of_its_store(rt: HostRuntime) {
     }
 }
 
-/// A request to put `lib/a.service`, which wants so many units that aren't there, with this behind it.
+/// A request to put `lib/a.service`, which wants this number of missing units, followed by this text.
 fn put_wanting_and(rt: &(impl AllocGlobal + Abort), count: usize, behind: &str) -> String {
     let names = names(rt, count);
     let request: Result<_, _> = format!(in rt.alloc();
@@ -186,7 +186,7 @@ fn put_wanting_and(rt: &(impl AllocGlobal + Abort), count: usize, behind: &str) 
     request.expect(rt, "no memory")
 }
 
-/// A request to put `lib/a.service`, which wants so many units that aren't there.
+/// A request to put `lib/a.service`, which wants this number of missing units.
 fn put_wanting(rt: &(impl AllocGlobal + Abort), count: usize) -> String {
     put_wanting_and(rt, count, "")
 }
@@ -262,7 +262,7 @@ fn too_many_units_of_a_plan_are_told_before_its_clash(rt: HostRuntime) {
     }
 }
 
-/// What a service asks for that is to be enabled along with one that isn't there.
+/// The section of a service that is to be enabled along with a missing one.
 const INSTALL: &str = r"\n[Install]\nWantedBy=w.target\nAlso=gone.service\n";
 
 const ENABLE_A: &str = r#"{"verb":"enable","unit":"a"}"#;

@@ -1,4 +1,4 @@
-//! What the words of a command line ask for.
+//! The meaning of a command line's words.
 use std::process::Abort;
 use um_asserts::{same, same_at, text};
 use um_line::{Line, a_runner_s_words_are_run, read_line};
@@ -12,7 +12,7 @@ fn words_of(rt: &(impl AllocGlobal + Abort), line: &str) -> Vec<String> {
     words
 }
 
-/// What is asked for, and what is told where nothing more is asked for.
+/// The kind of the line, and its text if it only prints one.
 fn asked<'a>(line: &'a Line<'_>) -> (&'static str, &'a str) {
     match line {
         Line::Memory => ("memory", ""),
@@ -33,10 +33,10 @@ fn asked<'a>(line: &'a Line<'_>) -> (&'static str, &'a str) {
     }
 }
 
-/// Words, what they ask for, and a part of what they are told.
+/// Words, the kind of their line, and a part of its text.
 type Row = (&'static str, &'static str, &'static str);
 
-/// Words that ask to be told something, and a part of it.
+/// Words that only print something, and a part of it.
 const TOLD: &[Row] = &[
     ("umd --help", "to be told", "--memory"),
     ("umd -h", "to be told", "--version"),
@@ -52,7 +52,7 @@ const TOLD: &[Row] = &[
     ("umd help --help", "to be told", "umd help E9"),
 ];
 
-/// Words about a look at a file.
+/// Words for a check of a file.
 const CHECKS: &[Row] = &[
     ("umd check f", "check", ""),
     ("umd check --units f", "check", ""),
@@ -230,7 +230,7 @@ const OTHERS: &[Row] = &[
     ("umd --memory=1", "wrong", ""),
 ];
 
-/// Asserts that the words of the text ask for that, and that what is told has this part.
+/// Asserts that the words of the text are a line of that kind, and that its text has this part.
 fn asks(rt: &(impl AllocGlobal + Abort), text: &str, wanted: &str, part: &str) {
     let words = words_of(rt, text);
     let read = read_line(rt.alloc(), words.as_slice());
@@ -276,7 +276,7 @@ fn entries_may_stand_in_a_file(rt: HostRuntime) {
     drop(read);
 }
 
-/// Asserts that the words ask a manager, and wait for so many seconds.
+/// Asserts that the words are a request to a manager, with these seconds to retry and to wait.
 fn waits(rt: &(impl AllocGlobal + Abort), text: &str, retry: Option<u32>, timeout: Option<u32>) {
     let words = words_of(rt, text);
     let read = read_line(rt.alloc(), words.as_slice());
@@ -318,7 +318,7 @@ fn a_manager_starts_what_it_is_told(rt: HostRuntime) {
     starts(&rt, started, Some("u"));
 }
 
-/// Asserts that the words ask for a look at the file `f`, and for its units or not.
+/// Asserts that the words check the file `f`, with or without its units.
 fn looks(rt: &(impl AllocGlobal + Abort), text: &str, units: bool) {
     let words = words_of(rt, text);
     let read = read_line(rt.alloc(), words.as_slice());

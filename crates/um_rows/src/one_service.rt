@@ -1,4 +1,4 @@
-//! One simple service: started, stopped, killed on its time-out and seen to end.
+//! One simple service: started, stopped, killed on its time-out, and its end seen.
 use crate::script::{Script, play_script};
 use crate::texts::{
     A_FAILED_BY_CODE, A_RUNS_AS_FIRST, A_RUNS_AS_SECOND, A_TIMED_OUT, ACTIONS, DONE, FIRST_ENDS,
@@ -6,7 +6,7 @@ use crate::texts::{
     SECOND_EXITS, SHOW_A, SPAWNED_FIRST, SPAWNED_SECOND, START_A, START_B, STOP_A,
 };
 
-// What is asked in turn, and replied.
+// The requests in turn, and their replies.
 
 const A_STARTED_SERVICE_RUNS: Script = Script {
     shows: "a started service runs",
@@ -82,7 +82,7 @@ const A_MOMENT_BEFORE_THE_CLOCK_COUNTS_AS_THE_CLOCK: Script = Script {
         (r#"{"verb":"daemon-reload","at":100000000}"#, DONE),
         (START_A, DONE),
         (ACTIONS, SPAWNED_FIRST),
-        // it is stopped at 100 seconds, and has 90 from there on
+        // it is stopped at 100 seconds, and has 90 seconds from then
         (r#"{"verb":"stop","unit":"a","at":5}"#, DONE),
         (ACTIONS, FIRST_TOLD_TO_END),
         (r#"{"verb":"tick","at":189999999}"#, DONE),

@@ -189,7 +189,7 @@ const WHAT_IS_REQUIRED_AND_IN_CONFLICT_CLASHES: Script = Script {
     ],
 };
 
-// What a job takes along.
+// The starts and stops that a job takes along.
 
 const A_FAILED_START_TAKES_ALONG_WHAT_NEEDS_IT: Script = Script {
     shows: "a failed start takes along what needs it",
@@ -259,7 +259,7 @@ const A_STOP_AND_A_RESTART_COME_OVER_TO_WHAT_LEANS_ON_THE_UNIT: Script = Script 
     ],
 };
 
-// What is pulled in, left or listed.
+// Units that are pulled in, left or listed.
 
 const WHAT_IS_WANTED_AND_CANNOT_START_IS_LEFT: Script = Script {
     shows: "what is wanted and cannot start is left",
@@ -350,7 +350,7 @@ fn units_in_conflict(rt: &(impl AllocGlobal + Abort)) {
     play_script(rt, &WHAT_IS_REQUIRED_AND_IN_CONFLICT_CLASHES);
 }
 
-/// Scripts of what a job takes along.
+/// Scripts of the starts and stops that a job takes along.
 fn jobs_along(rt: &(impl AllocGlobal + Abort)) {
     play_script(rt, &A_FAILED_START_TAKES_ALONG_WHAT_NEEDS_IT);
     play_script(
@@ -359,7 +359,7 @@ fn jobs_along(rt: &(impl AllocGlobal + Abort)) {
     );
 }
 
-/// Scripts of what is pulled in, left or listed.
+/// Scripts of units that are pulled in, left or listed.
 fn units_pulled_in(rt: &(impl AllocGlobal + Abort)) {
     play_script(rt, &WHAT_IS_WANTED_AND_CANNOT_START_IS_LEFT);
     play_script(rt, &KNOWN_UNITS_ARE_LISTED_BY_NAME);

@@ -1,5 +1,5 @@
-//! By which profile a tree is loaded: that of the input, or the one that the state has, where that is later. What is submitted is of the
-//! second one alone, so a store of the first and its inputs are read from their bytes.
+//! The profile by which a tree is loaded: that of the input, or the one that the state has, if that is later. New inputs have the second
+//! one only, so a store of the first and its inputs are read from their bytes.
 use crate::steps::{SIZE, committed, engine_of, planned};
 use std::process::Abort;
 use um_asserts::same_at;
@@ -8,14 +8,14 @@ use um_model::Profile;
 use um_state::{Input, State};
 use um_wire::Canon;
 
-/// An input in its bytes, and by which profile the tree is loaded behind it.
+/// An input in its bytes, and the profile by which the tree is loaded after it.
 struct Row {
     what: &'static str,
     bytes: &'static [u8],
     profile: Profile,
 }
 
-/// Inputs at moment 5, one behind the other.
+/// Inputs at moment 5, one after the other.
 const ROWS: &[Row] = &[
     Row {
         what: "a reload of profile 1",
@@ -62,7 +62,7 @@ fn input_of(rt: &(impl AllocGlobal + Abort), row: &Row) -> Box<Input> {
     Box::new(rt.alloc(), input).expect(rt, "no memory")
 }
 
-/// Takes the step that the row is.
+/// Takes the step of the row.
 fn take(rt: &(impl AllocGlobal + Abort), engine: &mut Engine, row: &Row) {
     let next = planned(rt, engine, &input_of(rt, row));
     let (actions, back) = committed(rt, engine, next);

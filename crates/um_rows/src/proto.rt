@@ -13,7 +13,7 @@ fn is_told(rt: &(impl AllocGlobal + Abort), reply: Reply, wanted: &str) {
     same!(rt, (text.as_str(), told.is_whole), (wanted, true));
 }
 
-/// Requests to the store in memory, and what each is refused by.
+/// Requests to the store in memory, and the refusal of each.
 const REQUESTS: &[(&str, Option<&str>)] = &[
     ("{\"verb\":\"daemon-reload\"}", None),
     ("{\"verb\":\"show\",\"unit\":\"a\",\"at\":7}", None),
@@ -103,7 +103,7 @@ fn file(rt: &(impl AllocGlobal + Abort), path: &str, content: &str) -> UnitFile 
     }
 }
 
-/// The files of a unit, its own and a drop-in that is empty, as they are told.
+/// The files of a unit, its own and an empty drop-in, as the reply shows them.
 const FILES: &str =
     "{\"ok\":true,\"value\":[[\"lib/a.service\",\"[Unit]\\nDescription=\\\"a\\\"\\n\"],[\"etc/a.service.d/b.conf\",\"\"]]}";
 

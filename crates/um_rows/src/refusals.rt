@@ -3,7 +3,7 @@ use crate::script::{Script, play, play_script};
 use crate::texts::{BAD_REQUEST, DONE, RELOAD};
 use std::process::Abort;
 
-// What is asked in turn, and replied.
+// The requests in turn, and their replies.
 
 const WHAT_IS_NO_REQUEST_IS_REFUSED: Script = Script {
     shows: "what is no request is refused",
@@ -54,7 +54,7 @@ fn scripts_have_their_replies(rt: HostRuntime) {
 /// The longest text of a file, in bytes.
 const TEXT_LIMIT: usize = 65_536;
 
-/// A request to put a file with a text of so many bytes.
+/// A request to put a file with a text of this number of bytes.
 fn put_of(rt: &(impl AllocGlobal + Abort), size: usize) -> String {
     let text = "#".repeat(rt.alloc(), size).expect(rt, "no memory");
     let request: Result<_, _> = format!(in rt.alloc();
@@ -63,7 +63,7 @@ fn put_of(rt: &(impl AllocGlobal + Abort), size: usize) -> String {
     request.expect(rt, "no memory")
 }
 
-/// Arrays in one another, so many.
+/// This number of nested arrays.
 fn deep(rt: &(impl AllocGlobal + Abort), count: usize) -> String {
     let open = "[".repeat(rt.alloc(), count).expect(rt, "no memory");
     let close = "]".repeat(rt.alloc(), count).expect(rt, "no memory");
@@ -86,7 +86,7 @@ fn what_is_too_deep_or_too_long_is_refused(rt: HostRuntime) {
     play(&rt, "limits", &steps);
 }
 
-/// Asserts that a removal at this path is refused, and the path is told.
+/// Asserts that a removal at this path is refused, and that the refusal names the path.
 fn is_no_path(rt: &(impl AllocGlobal + Abort), path: &str) {
     let request = format!(in rt.alloc(); r#"{{"verb":"remove","path":"{path}"}}"#);
     let request = request.expect(rt, "no memory");

@@ -39,7 +39,7 @@ fn push_life(rt: &(impl AllocGlobal + Abort), script: &mut Script, number: usize
     push(rt, script, end.as_str(), DONE);
 }
 
-/// Adds that a service is started and ends so many times, and then is started once more.
+/// Adds that a service is started and ends this number of times, and is then started once more.
 fn push_lives(rt: &(impl AllocGlobal + Abort), script: &mut Script, count: usize) {
     push(rt, script, PUT, DONE);
     push(rt, script, RELOAD, DONE);
@@ -50,7 +50,7 @@ fn push_lives(rt: &(impl AllocGlobal + Abort), script: &mut Script, count: usize
     push(rt, script, SHOW_A, RUNS);
 }
 
-/// Asserts that the requests have the replies that are wanted, and end behind the last.
+/// Asserts that the requests have the wanted replies, and that serving ends after the last.
 fn is_served(rt: &(impl AllocGlobal + Abort), script: &Script) {
     let (output, ending) = served(rt.alloc(), script.input.as_slice()).expect(rt, "not served");
     same!(rt, output.as_slice(), script.wanted.as_slice());
@@ -63,7 +63,7 @@ fn replies_go_on_behind_a_renewal_of_the_store(rt: HostRuntime) {
         input: Vec::new(rt.alloc()),
         wanted: Vec::new(rt.alloc()),
     };
-    // two inputs each, and a renewal behind each 512th
+    // two inputs each, and a renewal after each 512th
     push_lives(&rt, &mut script, 600);
     is_served(&rt, &script);
 }

@@ -31,7 +31,7 @@ const WITH_DASH: &str =
 const AWAITS_RESTART_AFTER_SIGNAL: &str =
     r#"{"ok":true,"value":{"ActiveState":"activating","Description":"","Id":"a.service","LoadState":"loaded","MainNumber":0,"Result":"signal","SubState":"auto-restart","Warnings":[]}}"#;
 
-// What is asked in turn, and replied.
+// The requests in turn, and their replies.
 
 const A_RESTART_COMES_WITH_THE_TICK_AT_WHICH_IT_IS_DUE: Script = Script {
     shows: "a restart comes with the tick at which it is due",

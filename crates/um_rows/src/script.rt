@@ -4,14 +4,14 @@ use std::process::Abort;
 use um_asserts::{push_frame, same_at};
 use um_memory::{Ending, Fault, memory};
 
-/// A script: what it shows, and its requests, each with the reply that is wanted for it. Most are constants of their own: what the
-/// prover takes for one grows with its texts times their bytes.
+/// A script: what it shows, and its requests, each with the wanted reply. Most are constants of their own, because the prover's time for
+/// one grows with its texts times their bytes.
 pub struct Script {
     pub shows: &'static str,
     pub steps: &'static [(&'static str, &'static str)],
 }
 
-/// What is written for the bytes, and how they ended.
+/// The bytes written for these, and how serving ended.
 pub fn served(alloc: Global, bytes: &[u8]) -> Result<(Vec<u8>, Ending), Fault> {
     let mut input = bytes;
     let mut output = Vec::new(alloc);
@@ -19,7 +19,7 @@ pub fn served(alloc: Global, bytes: &[u8]) -> Result<(Vec<u8>, Ending), Fault> {
     Ok((output, ending))
 }
 
-/// What the first frame holds and what stands behind it; where no whole frame stands in front, all the bytes.
+/// The contents of the first frame and the bytes after it; all the bytes if no whole frame stands in front.
 fn cut_frame(bytes: &[u8]) -> (&[u8], &[u8]) {
     let Some((length, behind)) = bytes.split_first_chunk() else {
         return (bytes, &[]);
@@ -61,12 +61,12 @@ pub fn play_script(rt: &(impl AllocGlobal + Abort), script: &Script) {
     play(rt, script.shows, script.steps);
 }
 
-/// The first bytes, so many of them or all.
+/// The first `count` bytes, or all.
 pub fn front(bytes: &[u8], count: usize) -> &[u8] {
     &bytes[..count.min(bytes.len())]
 }
 
-/// The bytes behind the first so many.
+/// The bytes after the first `count`.
 pub fn rest(bytes: &[u8], count: usize) -> &[u8] {
     &bytes[count.min(bytes.len())..]
 }

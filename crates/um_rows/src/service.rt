@@ -1,4 +1,4 @@
-//! What follows for a unit from what happens to it.
+//! The changes of a unit by its events.
 use crate::answers::{at, told};
 use std::process::Abort;
 use std::rc::Rc;
@@ -7,9 +7,9 @@ use um_model::{End, SubState, UnitResult, UnitState};
 use um_service::{Around, NextNumber, Service, ServiceSettings, StartJob, UnitEvent, UnitKind};
 use um_words::Command;
 
-/// What happens to a unit at so many microseconds, and what follows: what is asked of its processes, what becomes of its start job,
-/// and whether its stop job ends. Then the unit has come so far, with this result, this number of its main process and this deadline
-/// in microseconds.
+/// An event of a unit at this number of microseconds, and its effects: the actions on its processes, the change of its start job, and
+/// whether its stop job ends. Then the unit has this sub state, this result, this number of its main process, and this deadline in
+/// microseconds.
 struct Step {
     event: UnitEvent,
     micros: u64,
@@ -67,7 +67,7 @@ const IS_GIVEN_UP: Step = Step {
     stands: (SubState::Failed, UnitResult::Timeout, None, None),
 };
 
-/// An end by the signal that asked for it is clean.
+/// An end by the signal of the stop is clean.
 const ENDS_AS_ASKED: Step = Step {
     event: UnitEvent::MainEnds(End::Signal(15)),
     micros: 6_000_000,
@@ -77,7 +77,7 @@ const ENDS_AS_ASKED: Step = Step {
     stands: (SubState::Dead, UnitResult::Success, None, None),
 };
 
-/// A failure without restart stays; what rests has no stop job that runs on.
+/// A failure without restart stays; a unit at rest has no stop job that runs on.
 const FAILS: Step = Step {
     event: UnitEvent::MainEnds(End::Code(1)),
     micros: 1_000_000,
@@ -87,7 +87,7 @@ const FAILS: Step = Step {
     stands: (SubState::Failed, UnitResult::ExitCode, None, None),
 };
 
-/// What happens to a simple service in turn.
+/// The events of a simple service in turn.
 const LIVES: &[&[Step]] = &[
     &[STARTS, IS_STOPPED, IS_KILLED, IS_GIVEN_UP],
     &[STARTS, IS_STOPPED, ENDS_AS_ASKED],
@@ -109,14 +109,14 @@ const IS_STARTED: Step = Step {
     ),
 };
 
-/// A bound stop is as a stop job that begins, but that the start fails.
+/// A bound stop is like a stop job that begins, but the start fails.
 const IS_BOUND: Step = Step {
     event: UnitEvent::BoundStop,
     start: StartJob::Fails,
     ..IS_STOPPED
 };
 
-/// What happens to an exec service in turn.
+/// The events of an exec service in turn.
 const STARTS_OF_EXEC: &[&[Step]] = &[&[IS_STARTED, IS_STOPPED], &[IS_STARTED, IS_BOUND]];
 
 /// The settings of `ExecStart=/bin/sleep 9` in a service of this kind.
@@ -132,7 +132,7 @@ fn sleeps(rt: &(impl AllocGlobal + Abort), kind: UnitKind) -> Rc<ServiceSettings
     Rc::new(rt.alloc(), settings).expect(rt, "no memory")
 }
 
-/// Asserts that the unit stands as it does behind this step.
+/// Asserts that the unit stands as it should after this step.
 fn stands(rt: &impl Abort, unit: &Service, step: &Step) {
     let now = unit.unit();
     let main = now.main.map(|main| main.get());

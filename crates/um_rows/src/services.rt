@@ -14,7 +14,7 @@ const STOPS: &str = r#"{"ok":true,"value":[["a.service","stop","running"]]}"#;
 const PUT: &str =
     r#"{"verb":"put-file","path":"lib/a.service","text":"[Service]\nExecStart=/bin/sleep 9\nExecStop=/bin/x\n"}"#;
 
-// What is asked in turn, and replied.
+// The requests in turn, and their replies.
 
 const A_START_THAT_NO_REPORT_ENDS_IN_TIME_FAILS: Script = Script {
     shows: "a start that no report ends in time fails",

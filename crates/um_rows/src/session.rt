@@ -1,4 +1,4 @@
-//! A client's session by its public calls.
+//! A client's session by its public functions.
 use crate::script::{front, rest};
 use std::process::Abort;
 use um_asserts::{same, same_at, text};
@@ -10,7 +10,7 @@ use um_wire::Refusal;
 /// `{"verb":"daemon-reload"}` in its frame: 28 bytes.
 const RELOAD: &[u8] = b"\0\0\0\x18{\"verb\":\"daemon-reload\"}";
 
-/// What the request is called.
+/// A word for the request.
 fn word(request: &Request) -> &'static str {
     match request {
         Request {
@@ -21,7 +21,7 @@ fn word(request: &Request) -> &'static str {
     }
 }
 
-/// What is read: `reload`, the refusal, or nothing.
+/// The result of reading, in text: `reload`, the refusal, or nothing.
 fn told(rt: &(impl AllocGlobal + Abort), read: &Option<Result<Request, Refusal>>) -> String {
     match read {
         None => text!(rt, ""),
@@ -30,7 +30,7 @@ fn told(rt: &(impl AllocGlobal + Abort), read: &Option<Result<Request, Refusal>>
     }
 }
 
-/// What is read next.
+/// The next result of reading, in text.
 fn next(rt: &(impl AllocGlobal + Abort), session: &mut Session) -> String {
     let read = session.next_request();
     let told = told(rt, &read);
@@ -79,7 +79,7 @@ fn a_frame_cut_anywhere_in_two_and_in_three_is_the_same_request(rt: HostRuntime)
     }
 }
 
-/// A frame that is refused, what is read then, whether the session has failed, and what is read behind a reload.
+/// A frame that is refused, what is read then, whether the session has failed, and what is read after a reload.
 struct Refused {
     frame: &'static [u8],
     reads: &'static [&'static str],
@@ -88,7 +88,7 @@ struct Refused {
 }
 
 const REFUSED: &[Refused] = &[
-    // an empty frame, behind which the stream goes on
+    // an empty frame, after which the stream goes on
     Refused {
         frame: &[0, 0, 0, 0],
         reads: &[],
@@ -104,7 +104,7 @@ const REFUSED: &[Refused] = &[
     },
 ];
 
-/// Asserts that the frame of this row is refused, and what is read behind it.
+/// Asserts that the frame of this row is refused, and that this is read after it.
 fn is_refused(
     rt: &(impl AllocGlobal + Abort),
     session: &mut Session,
@@ -124,7 +124,7 @@ fn a_frame_is_refused_and_the_stream_goes_on_or_ends(rt: HostRuntime) {
     }
 }
 
-/// What is put out after two replies, and then.
+/// The output after two replies, and then.
 const OUTPUTS: &[&[u8]] = &[b"\0\0\0\x02{}\0\0\0\x03[1]", b""];
 
 /// Asserts that the replies are put out as frames, once.

@@ -16,7 +16,7 @@ const A_IS_PREPARED: &str =
 /// The reply that `/bin/a` is to be started as the first process.
 const SPAWNED_A: &str = r#"{"ok":true,"value":[["spawn",1,["/bin/a"]]]}"#;
 
-// What is asked in turn, and replied.
+// The requests in turn, and their replies.
 
 const A_SERVICE_STARTS_BEHIND_THE_COMMANDS_OF_EXECSTARTPRE_THE_SECOND_OF_WHICH_MAY_FAIL: Script =
     Script {

@@ -63,7 +63,7 @@ fn state_in(rt: &(impl AllocGlobal + Abort), units: &Units, name: &str) -> UnitS
     units.get(&unit!(rt, name))
 }
 
-/// Asserts that the two units are in the copy, and that a is dead in what it was taken of once it is put so.
+/// Asserts that the two units are in the copy, and that the original says a is dead once it is set so.
 fn is_left(rt: &(impl AllocGlobal + Abort), units: &mut Units, copy: &Units) {
     same!(rt, state_in(rt, copy, "b.service"), starting(8, 60));
     set(rt, units, "a.service", UnitState::DEAD);
@@ -121,7 +121,7 @@ fn stands(rt: &(impl AllocGlobal + Abort), state: &mut State, name: &str, unit_s
     set.expect(rt, "no memory");
 }
 
-/// Asserts what the state of a new store holds as a comes and goes and b has jobs.
+/// Asserts the contents of the state of a new store as a comes and goes and b has jobs.
 fn hold_in_turn(rt: &(impl AllocGlobal + Abort), state: &mut State) {
     holds(rt, state, (0, false, false));
     stands(rt, state, "a.service", starting(7, 90));

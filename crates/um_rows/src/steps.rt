@@ -1,5 +1,5 @@
-//! An engine, the steps that it takes, and how a unit stands then. What is large is boxed, or let go by `drop`: else the prover takes
-//! it apart, field by field, wherever it is let go.
+//! An engine, the steps that it takes, and how a unit stands then. Large values are boxed, or dropped by `drop`: otherwise the prover takes
+//! them apart, field by field, wherever they are dropped.
 use crate::answers::at;
 use std::process::Abort;
 use um_asserts::unit;
@@ -21,25 +21,25 @@ pub fn engine_of(rt: &(impl AllocGlobal + Abort), state: Box<State>, size: u64) 
     Box::new(rt.alloc(), engine.expect(rt, "not served")).expect(rt, "no memory")
 }
 
-/// The command at so many microseconds.
+/// The command at this number of microseconds.
 pub fn obeyed(rt: &(impl AllocGlobal + Abort), micros: u64, command: Command) -> Box<Input> {
     let input = Input::new(at(rt, micros), Event::Commanded(command));
     Box::new(rt.alloc(), input).expect(rt, "no memory")
 }
 
-/// What happens at so many microseconds.
+/// The happening at this number of microseconds.
 pub fn happened(rt: &(impl AllocGlobal + Abort), micros: u64, happening: Happening) -> Box<Input> {
     let input = Input::new(at(rt, micros), Event::Happened(happening));
     Box::new(rt.alloc(), input).expect(rt, "no memory")
 }
 
-/// The step that the input is.
+/// The step of the input.
 pub fn planned(rt: &(impl AllocGlobal + Abort), engine: &Engine, input: &Input) -> Box<Next> {
     let next = engine.plan(input).expect(rt, "a step is refused");
     Box::new(rt.alloc(), next).expect(rt, "no memory")
 }
 
-/// Takes the step: what it asks for, and the way back.
+/// Takes the step, and returns its actions and the way back.
 pub fn committed(
     rt: &(impl AllocGlobal + Abort),
     engine: &mut Engine,

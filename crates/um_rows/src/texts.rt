@@ -3,7 +3,7 @@
 /// A request to load the tree.
 pub const RELOAD: &str = r#"{"verb":"daemon-reload"}"#;
 
-/// A request for what is asked of processes since the last one.
+/// A request for the actions since the last such request.
 pub const ACTIONS: &str = r#"{"verb":"actions"}"#;
 
 /// A request for the pending jobs.
@@ -43,7 +43,7 @@ pub const SHOW_A: &str = r#"{"verb":"show","unit":"a"}"#;
 /// A request to show `b.service`.
 pub const SHOW_B: &str = r#"{"verb":"show","unit":"b"}"#;
 
-/// The end of the first process, by the signal that asks it to end.
+/// The end of the first process, by the signal to end.
 pub const FIRST_ENDS: &str = r#"{"verb":"end","number":1,"signal":15}"#;
 
 /// The end of the first process, with the code 0.
@@ -76,7 +76,7 @@ pub const SPAWNED_FIRST: &str = r#"{"ok":true,"value":[["spawn",1,["/bin/sleep",
 /// The reply that the second process is to be started, and to sleep.
 pub const SPAWNED_SECOND: &str = r#"{"ok":true,"value":[["spawn",2,["/bin/sleep","9"]]]}"#;
 
-/// The reply that the first process is to be asked to end.
+/// The reply that the first process is sent the signal to end.
 pub const FIRST_TOLD_TO_END: &str = r#"{"ok":true,"value":[["signal",1,"TERM"]]}"#;
 
 /// The reply that the first process is to be killed.
@@ -89,7 +89,7 @@ pub const TOO_MANY_UNITS: &str = r#"{"detail":["units"],"error":13,"ok":false}"#
 pub const DEAD_A: &str =
     r#"{"ok":true,"value":{"ActiveState":"inactive","Description":"","Id":"a.service","LoadState":"loaded","MainNumber":0,"Result":"success","SubState":"dead","Warnings":[]}}"#;
 
-/// How `a.service` is shown where it isn't there.
+/// How `a.service` is shown when it is missing.
 pub const NO_A: &str =
     r#"{"ok":true,"value":{"ActiveState":"inactive","Description":"","Id":"a.service","LoadState":"not-found","MainNumber":0,"Result":"success","SubState":"dead","Warnings":[]}}"#;
 
@@ -109,6 +109,6 @@ pub const A_FAILED_BY_CODE: &str =
 pub const A_TIMED_OUT: &str =
     r#"{"ok":true,"value":{"ActiveState":"failed","Description":"","Id":"a.service","LoadState":"loaded","MainNumber":0,"Result":"timeout","SubState":"failed","Warnings":[]}}"#;
 
-/// How `b.service` is shown where what it requires failed.
+/// How `b.service` is shown when a unit that it requires failed.
 pub const B_LACKS_ANOTHER: &str =
     r#"{"ok":true,"value":{"ActiveState":"inactive","Description":"","Id":"b.service","LoadState":"loaded","MainNumber":0,"Result":"dependency","SubState":"dead","Warnings":[]}}"#;

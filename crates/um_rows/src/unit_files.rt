@@ -2,7 +2,7 @@
 use crate::script::{Script, play_script};
 use crate::texts::{ACTIONS, DONE, NO_A, RELOAD, SHOW_A, SHOW_B, START_A, START_B};
 
-// What is asked in turn, and replied.
+// The requests in turn, and their replies.
 
 const SPECIFIERS_TELL_THE_NAME_OF_AN_INSTANCE: Script = Script {
     shows: "specifiers tell the name of an instance",

@@ -1,4 +1,4 @@
--- What a process is started with, as the definitions have it.
+-- The words and the environment of a started process agree with the definitions.
 use Rattle.std.proofs.Common.{◌≡◌, ◌↔◌, ℕ, Bool, true, false, cond, List, Option, Some, None, refl, subst}
 use Rattle.um_model.specs.Commands.{Command}
 use Rattle.um_model.specs.Substitution.{Variable}

@@ -1,4 +1,4 @@
--- What a process is started with, and how long that may be.
+-- The words and the environment that a process is started with, and how long they may be.
 -- Follows systemd.service(5), "Command lines", and execve(2), "Limits on size of arguments and environment".
 -- Actions, orders and the children stand on this file.
 use Rattle.std.specs.Prelude.{ℕ, Bool, List, [], ◌++◌, Option, Some, None, not, slice_get, if◌then◌else◌}
@@ -15,7 +15,7 @@ abbrev pub started_words : List Variable → Option Command → List (List ℕ)
 started_words environment None = []
 started_words environment (Some c) = if c.substitutes then substituted environment c.words else c.words
 
--- what a process is started with
+-- the words and the environment of a started process
 pub record Started : Type 0 where
   pub words : List (List ℕ)
   pub environment : List (List ℕ)
@@ -27,10 +27,10 @@ started_at s which i = record {
   environment = model.environment_texts s;
 }
 
--- what execve(2) takes: two MiB in all, and 128 KiB in one, a zero byte behind each
+-- the limits of execve(2): two MiB in all, and 128 KiB in one text, each with its zero byte
 abbrev pub arguments : Room
 arguments = record { total = 2097152; longest = 131072; beside = 1 }
 
--- no process can be started with so much
+-- no process can be started with texts of this length
 abbrev pub is_too_long : (words environment : List (List ℕ)) → Bool
 is_too_long words environment = not (fits arguments (words ++ environment))

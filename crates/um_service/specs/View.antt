@@ -1,4 +1,4 @@
--- What the code asks of processes as the definitions have it.
+-- The orders to a unit's processes, as those of the definitions.
 use Rattle.std.specs.Prelude.{◌≡◌, ◌<◌}
 use Rattle.um_model.specs.Moments.{process_limit}
 use Rattle.um_model.specs.Service as service
@@ -8,7 +8,7 @@ use Rattle.um_model.specs.declared.transition.Order.{Order}
 use Rattle.um_service.specs.declared.actions.Action.{Action}
 use Rattle.um_service.specs.declared.actions.Action.TheVariants as action
 
--- where the order starts a process there is a number left
+-- if the order starts a process, there is a number left
 abbrev pub HasRoom : Around → Order → Type 0
 HasRoom c o = spawned o ≡ 1 → c.next < process_limit
 

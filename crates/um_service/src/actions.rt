@@ -1,4 +1,4 @@
-//! What is asked of a unit's processes, as actions.
+//! The actions on a unit's processes.
 
 ghost use Rattle.std.specs.Prelude.{◌≡◌, ◌<◌, ◌∷◌, [], IfOk, map};
 ghost use Rattle.um_model.specs.Moments.{process_limit};
@@ -15,7 +15,7 @@ use std::rc::Rc;
 use um_model::{Around, CommandList, NextNumber, Order, ProcessNumber, Signal, UnitState};
 use um_unit::ServiceSettings;
 
-/// What is asked of the children.
+/// An action for the children.
 #[derive(Debug, Drop)]
 pub enum Action {
     /// To start a process under this number.
@@ -30,7 +30,7 @@ pub enum Action {
     },
 }
 
-/// The one action.
+/// A list of one action.
 fn only(alloc: Global, action: Action) -> Result<Vec<Action>, AllocError>
     ensures { IfOk result (λ actions. actions.items ≡ action ∷ []) }
 {
@@ -92,7 +92,7 @@ fn spawn(
     only(alloc, Action::Spawn { number, start })
 }
 
-/// The order as actions.
+/// The actions of the order, in their order.
 pub fn actions_of(
     alloc: Global,
     settings: &Rc<ServiceSettings>,

@@ -1,11 +1,11 @@
-//! Parts of what follows for a unit.
+//! Parts of a unit's changes.
 
 ghost use Rattle.std.specs.Prelude.{◌≡◌, ℕ};
 ghost use Rattle.um_model.specs.Transitions.{deadline_after, is_live, just, asking, start_ends, start_fails, stop_ends};
 
 use um_model::{Change, Deadline, Moment, Order, Span, StartJob, UnitState};
 
-/// The deadline a span after the moment; none where the span never ends.
+/// The deadline a span after the moment; None if the span never ends.
 pub fn deadline_after(moment: Moment, span: Option<Span>) -> Option<Deadline>
     ensures { result ≡ deadline_after moment span }
 {
@@ -34,7 +34,7 @@ pub fn just(unit: UnitState) -> Change
     }
 }
 
-/// The unit is now this, and so much is asked of its processes.
+/// The unit is now this, with this order to its processes.
 pub fn asking(order: Order, unit: UnitState) -> Change
     ensures { result ≡ asking order (just unit) }
 {

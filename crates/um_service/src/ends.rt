@@ -13,7 +13,7 @@ use um_model::{
 use um_unit::ServiceSettings;
 use um_value::ExitSet;
 
-/// Whether the end was told, by a code or a signal.
+/// Whether the end is known, as a code or a signal.
 pub fn is_told(end: End) -> bool
     ensures { result ≡ is_told end }
 {
@@ -32,7 +32,7 @@ fn is_stopping(sub: SubState) -> bool
     }
 }
 
-/// Whether the signal asks a service to end: hang-up, interrupt, a broken pipe, terminate.
+/// Whether the signal is a request to end: hang-up, interrupt, a broken pipe, terminate.
 fn asks_to_end(signal: u8) -> bool
     ensures { result ≡ asks_to_end signal }
 {
@@ -61,7 +61,7 @@ fn is_clean_alone(kind: UnitKind, sub: SubState, end: End) -> bool
     }
 }
 
-/// Whether the command of the main process is written with `-`: in these states that of a oneshot is its command at the unit's index.
+/// Whether the command of the main process is written with `-`. For a oneshot in one of these states it is the command at the unit's index.
 fn main_has_dash(settings: &ServiceSettings, unit: &UnitState) -> bool
     ensures { result ≡ main_has_dash settings.now.kind unit.now.sub (service_settings_of settings.now) unit.now }
 {
@@ -97,7 +97,7 @@ pub fn unclean_result(end: End) -> UnitResult
     }
 }
 
-/// The first result, which stands unless it is success; else the later one.
+/// The first result, unless it is success; else the later one.
 pub fn or_later(first: UnitResult, later: UnitResult) -> UnitResult
     ensures { result ≡ or_later first later }
 {
@@ -129,7 +129,7 @@ fn restarts_after(left: UnitResult, policy: RestartPolicy) -> bool
     }
 }
 
-/// Whether the main process ended so that the set holds it.
+/// Whether the set holds the main process's end.
 fn ended_in(set: &ExitSet, last: Option<End>) -> bool
     ensures { result ≡ option_map_or (holds set.now) last false }
 {
@@ -139,7 +139,8 @@ fn ended_in(set: &ExitSet, last: Option<End>) -> bool
     }
 }
 
-/// Whether a restart is wanted: by the last end of the main process, else by the result.
+/// Whether a restart is wanted: never if the last end of the main process prevents it, always if that forces it, else by the result and
+/// `Restart=`.
 pub fn is_restart_wanted(settings: &ServiceSettings, unit: &UnitState) -> bool
     ensures { result ≡ is_restart_wanted (service_settings_of settings.now) unit.now }
 {

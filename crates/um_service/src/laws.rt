@@ -1,4 +1,4 @@
-//! What the service table says of all units together, as functions that do nothing.
+//! Theorems about the service table for all units, as functions that do nothing.
 
 ghost use Rattle.std.specs.Prelude.{◌≡◌, ◌↔◌, ◌+◌, ◌^◌, ◌≤◌, ◌⊎◌, ℕ, List, Option};
 ghost use Rattle.um_model.specs.Commands.{Command};
@@ -12,8 +12,8 @@ ghost use Rattle.um_model.specs.declared.transition.Order.{Order};
 ghost use Rattle.um_model.specs.declared.transition.UnitEvent.{UnitEvent};
 ghost use Rattle.um_service.specs.Started.{started_words};
 
-/// Whatever happens to a unit that has its live process, it has one after it: a unit that starts or runs its main process,
-/// one that its `ExecStop=` commands stop a control process, and one that is told to end one of them.
+/// After any event, a unit that had its live process has one. A unit that starts or runs has its main process, and one that its
+/// `ExecStop=` commands stop has a control process. One whose processes were sent a signal to end has one of them.
 pub fn a_process_is_kept()
     ensures { (s : ServiceSettings) (around : Around) (unit : UnitState) (event : UnitEvent) → HasItsProcess unit → HasItsProcess (transition s around unit event).unit }
 {}
@@ -30,12 +30,12 @@ pub fn the_next_number_stays_small()
         → around.next + spawned (transition s around unit event).order ≤ 2 ^ 63 }
 {}
 
-/// What is asked of a unit's processes is one list of actions at most.
+/// An order gives at most one list of actions for a unit's processes.
 pub fn an_order_has_one_list_of_actions()
     ensures { (s : ServiceSettings) (around : Around) (unit : UnitState) (order : Order) (a b : List Action) → AreActions s around unit order a → AreActions s around unit order b → a ≡ b }
 {}
 
-/// What the function of the definitions finds for a command and an environment are the words that it is started with, and nothing else.
+/// For a command and an environment the function of the definitions finds the words that the command is started with, and no others.
 pub fn what_a_command_is_started_with_is_found()
     ensures { (environment : List Variable) (command : Option Command) (words : List (List ℕ)) → (started_words environment command ≡ words) ↔ AreStarted environment command words }
 {}

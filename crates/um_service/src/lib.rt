@@ -1,5 +1,5 @@
-//! What follows for a unit from each event, exactly as the service table has it: the unit, what is asked of its processes,
-//! and what becomes of its jobs; where memory is wanting, nothing follows.
+//! The effects of each event on a unit, exactly by the service table: the unit, the actions on its processes, and the changes of its jobs.
+//! If memory is wanting, nothing changes.
 #![tactic(auto)]
 
 mod actions;

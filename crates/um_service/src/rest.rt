@@ -1,4 +1,4 @@
-//! How a unit comes to rest.
+//! How a unit comes to rest: it is dead, failed, or waits for its restart.
 
 ghost use Rattle.std.specs.Prelude.{◌≡◌, ℕ, if◌then◌else◌};
 ghost use Rattle.um_model.specs.Service.{is_success};
@@ -11,7 +11,7 @@ use crate::ends::is_restart_wanted;
 use um_model::{Around, Change, Order, Signal, SubState, UnitResult, UnitState};
 use um_unit::ServiceSettings;
 
-/// Dead where all went well, else failed.
+/// Dead if all went well, else failed.
 fn resting(left: UnitResult) -> SubState
     ensures { result ≡ (if is_success left then Dead else Failed) }
 {
@@ -21,7 +21,7 @@ fn resting(left: UnitResult) -> SubState
     }
 }
 
-/// The unit comes to rest, and isn't started again by itself.
+/// The unit is at rest, and isn't started again by itself.
 pub fn rests_for_good(unit: UnitState) -> Change
     ensures { result ≡ rests_for_good unit }
 {
@@ -47,7 +47,7 @@ fn waits_to_restart(settings: &ServiceSettings, around: Around, unit: UnitState)
     }))
 }
 
-/// The unit comes to rest; one that nobody asked to stop may wait for its restart instead.
+/// The unit is at rest; or it waits for its restart, if no stop was requested, no stop job waits, and a restart is wanted.
 pub fn rests(settings: &ServiceSettings, around: Around, unit: UnitState) -> Change
     ensures { result ≡ rests (service_settings_of settings.now) around unit }
 {
@@ -69,7 +69,7 @@ pub fn rests_unless_live(settings: &ServiceSettings, around: Around, unit: UnitS
     }
 }
 
-/// The unit's live processes are told to end; without one it comes to rest.
+/// The unit's live processes are sent a signal to end; without one the unit is at rest.
 pub fn terminates(settings: &ServiceSettings, around: Around, unit: UnitState) -> Change
     ensures { result ≡ terminates (service_settings_of settings.now) around unit }
 {

@@ -1,4 +1,4 @@
-//! A unit, and what an event makes of it.
+//! A unit, and its changes by events.
 
 ghost use Rattle.std.specs.Prelude.{◌≡◌, ◌+◌, ◌^◌, ◌≤◌, ℕ, map, IfOk, OnOk, OnErr};
 ghost use Rattle.um_model.specs.Transitions.{HasItsProcess, transition, spawned, AreActions};
@@ -14,14 +14,14 @@ use std::rc::Rc;
 use um_model::{Around, NextNumber, Order, StartJob, UnitEvent, UnitState};
 use um_unit::ServiceSettings;
 
-/// What an event of a unit asks of its processes, and what becomes of its jobs.
+/// The actions on a unit's processes after an event, and the changes of its jobs.
 #[derive(Debug, Drop)]
 pub struct Actions {
-    /// In this order.
+    /// The actions, to be carried out in this order.
     pub actions: Vec<Action>,
-    /// What becomes of the running start job, where there is one.
+    /// The change of the running start job, if there is one.
     pub start: StartJob,
-    /// Whether the running stop job ends, where there is one.
+    /// Whether the running stop job, if there is one, ends.
     pub stop_ends: bool,
     /// The next process number from now on.
     pub next: NextNumber,
@@ -39,7 +39,7 @@ impl Model for Service {
     ghost view = { λ s. s.unit };
 }
 
-/// The next process number behind the order.
+/// The next process number after the order.
 fn next_after(around: &Around, order: Order) -> NextNumber
     requires { HasRoom around.now order }
     ensures { result ≡ around.now.next + spawned order }
@@ -58,25 +58,24 @@ impl Service {
         Service { unit }
     }
 
-    /// How the unit stands.
+    /// The unit's state after its events so far.
     pub fn unit(&self) -> UnitState
         ensures { result ≡ self.now }
     {
         self.unit
     }
 
-    /// The same unit again.
+    /// A copy of the unit.
     pub fn copy(&self) -> Service
         ensures { result ≡ self.now }
     {
         Service { unit: self.unit }
     }
 
-    /// Something happens to the unit, which has these settings: it changes by the first row of the service table that fits
-    /// (systemd.service(5)), and what the row asks of its processes is told. A command is started under the next process
-    /// number, with its words and the environment as they are then, for which the settings are shared; a signal goes to each live
-    /// process, the main one first.
-    /// Refused only for want of memory, and then the unit is as before.
+    /// An event of the unit, which has these settings. The unit changes by the first row of the service table that fits
+    /// (systemd.service(5)), and the row's actions are returned. A command is started under the next process number, with its words and the
+    /// environment as they are then, for which the settings are shared. A signal goes to each live process, the main one first. It fails
+    /// only for want of memory, and then the unit is as before.
     pub fn on(
         &mut self,
         alloc: Global,

@@ -34,7 +34,7 @@ pub fn has_place(settings: &ServiceSettings, which: CommandList, index: u32) -> 
     (index as usize) < commands_in(settings, which).len()
 }
 
-/// The place behind this one, where the list has a command there.
+/// The place after this one, if the list has a command there.
 pub fn next_place(settings: &ServiceSettings, which: CommandList, index: u32) -> Option<u32>
     ensures { result ≡ (if has_place (commands_in (service_settings_of settings.now) which) (index + 1) then Some (index + 1) else None) }
 {

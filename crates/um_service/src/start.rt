@@ -108,7 +108,7 @@ fn pre_command(around: Around, unit: UnitState, index: u32) -> Change
     )
 }
 
-/// The unit starts by its first `ExecStartPre=` command, or where it has none by its kind.
+/// The unit starts by its first `ExecStartPre=` command, or by its kind if it has none.
 fn prepares(settings: &ServiceSettings, around: Around, unit: UnitState) -> Change
     ensures { result ≡ prepares (service_settings_of settings.now) around unit }
 {

@@ -16,7 +16,7 @@ use um_model::CommandList;
 use um_unit::ServiceSettings;
 use um_words::{Command, Room, Variable, room_after, substitute};
 
-/// What execve(2) takes of words and environment: two MiB in all, and 128 KiB in one, a zero byte behind each.
+/// The limits of execve(2) for words and environment: two MiB in all, and 128 KiB in one, each with its zero byte.
 fn arguments() -> Room
     ensures { result ≡ arguments }
 {
@@ -27,8 +27,8 @@ fn arguments() -> Room
     }
 }
 
-/// A command of a unit that is to be started, as it is set: the settings are shared, and its words are put together only where they
-/// are read.
+/// A command of a unit that is to be started, as it is set. The settings are shared, and the words are put together only when they are
+/// read.
 #[derive(Debug, Drop)]
 pub struct Start {
     settings: Rc<ServiceSettings>,
@@ -42,7 +42,7 @@ impl Model for Start {
     ghost view = { λ s. started_at (service_settings_of s.settings.value) s.which s.index };
 }
 
-/// The words again.
+/// A copy of the words.
 fn copied(alloc: Global, words: &[String]) -> Result<Vec<String>, AllocError>
     ensures { IfOk result (λ copies. map string_bytes copies.items ≡ map string_bytes words.now) }
 {
@@ -71,7 +71,7 @@ fn words_of(
     }
 }
 
-/// The room that the words leave with which the command is started.
+/// The room left after the words that the command is started with.
 fn room_after_words(
     alloc: Global,
     room: Room,
@@ -111,7 +111,7 @@ fn environment_texts(alloc: Global, environment: &[Variable]) -> Result<Vec<Stri
     Ok(texts)
 }
 
-/// The room that the environment leaves.
+/// The room left after the environment.
 fn room_after_environment(room: Room, environment: &[Variable]) -> Option<Room>
     ensures { result ≡ left room (map variable_text (variables_of environment.now)) }
 {
@@ -140,14 +140,14 @@ impl Start {
         })
     }
 
-    /// The same again, which shares the settings.
+    /// A copy, which shares the settings.
     pub fn share(&self) -> Result<Start, AllocError>
         ensures { IfOk result (λ start. start ≡ self.now) }
     {
         Start::new(&self.settings, self.which, self.index)
     }
 
-    /// The program and its arguments, put together. Refused only for want of memory.
+    /// The program and its arguments, put together. It fails only for want of memory.
     pub fn words(&self, alloc: Global) -> Result<Vec<String>, AllocError>
         ensures { IfOk result (λ words. map string_bytes words.items ≡ self.now.words) }
     {
@@ -155,15 +155,15 @@ impl Start {
         words_of(alloc, command, self.settings.environment.as_slice())
     }
 
-    /// The environment, `NAME=value` each. Refused only for want of memory.
+    /// The environment, `NAME=value` each. It fails only for want of memory.
     pub fn environment(&self, alloc: Global) -> Result<Vec<String>, AllocError>
         ensures { IfOk result (λ texts. map string_bytes texts.items ≡ self.now.environment) }
     {
         environment_texts(alloc, self.settings.environment.as_slice())
     }
 
-    /// The room that the words leave, where they fit. They are not put together: memory is taken for the words of the variables' values
-    /// alone. Refused only for want of it.
+    /// The room left after the words, if they fit. They are not put together: memory is taken only for the words of the variables' values.
+    /// It fails only for want of memory.
     pub fn room_after_words(&self, alloc: Global, room: Room) -> Result<Option<Room>, AllocError>
         ensures { IfOk result (λ free. free ≡ left room self.now.words) }
     {
@@ -175,8 +175,8 @@ impl Start {
         )
     }
 
-    /// Whether the words and the environment are longer than execve(2) takes: past two MiB (2,097,152 bytes) in all, or 128 KiB
-    /// (131,072 bytes) in one, each with the zero byte behind it. Nothing is put together. Refused only for want of memory.
+    /// Whether the words and the environment are longer than execve(2) takes: over two MiB (2,097,152 bytes) in all, or 128 KiB (131,072
+    /// bytes) in one, each with its zero byte. Nothing is put together. It fails only for want of memory.
     pub fn is_too_long(&self, alloc: Global) -> Result<bool, AllocError>
         ensures { IfOk result (λ told. told ≡ is_too_long self.now.words self.now.environment) }
     {

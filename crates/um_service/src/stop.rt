@@ -14,7 +14,7 @@ use crate::settings::{has_place, next_place};
 use um_model::{Around, Change, CommandList, Order, Signal, SubState, UnitResult, UnitState};
 use um_unit::ServiceSettings;
 
-/// The `ExecStop=` command at this place is started; without a number for it the unit's processes are told to end.
+/// The `ExecStop=` command at this place is started; without a number for it the unit's processes are sent a signal to end.
 fn stop_command(settings: &ServiceSettings, around: Around, unit: UnitState, index: u32) -> Change
     ensures { result ≡ stop_command (service_settings_of settings.now) around unit index }
 {
@@ -38,7 +38,7 @@ fn stop_command(settings: &ServiceSettings, around: Around, unit: UnitState, ind
     )
 }
 
-/// The unit goes down, by its `ExecStop=` commands where it has any.
+/// The unit goes down, by its `ExecStop=` commands if it has any.
 pub fn winds_down(settings: &ServiceSettings, around: Around, unit: UnitState) -> Change
     ensures { result ≡ winds_down (service_settings_of settings.now) around unit 0 }
 {
@@ -49,7 +49,7 @@ pub fn winds_down(settings: &ServiceSettings, around: Around, unit: UnitState) -
     }
 }
 
-/// The next `ExecStop=` command is started; after the last the unit's processes are told to end.
+/// The next `ExecStop=` command is started; after the last one the unit's processes are sent a signal to end.
 pub fn next_stop(settings: &ServiceSettings, around: Around, unit: UnitState) -> Change
     ensures { result ≡ winds_down (service_settings_of settings.now) around unit (unit.index + 1) }
 {
@@ -73,7 +73,7 @@ pub fn exits(settings: &ServiceSettings, around: Around, unit: UnitState) -> Cha
     })
 }
 
-/// A stop was asked for.
+/// Notes that a stop was requested.
 pub fn told_to_stop(unit: UnitState) -> UnitState
     ensures { result ≡ told_to_stop unit }
 {
@@ -103,7 +103,7 @@ fn unless_failed(sub: SubState) -> SubState
     }
 }
 
-/// That the unit failed is forgotten, and how often it was started (systemctl(1), `reset-failed`).
+/// The unit's failure is forgotten, and the count of its starts (systemctl(1), `reset-failed`).
 pub fn forgiven(unit: UnitState) -> UnitState
     ensures { result ≡ forgiven unit }
 {

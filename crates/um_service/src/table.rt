@@ -59,7 +59,7 @@ fn without_control(settings: &ServiceSettings, unit: UnitState, end: End) -> Uni
     noted(left, end, clean)
 }
 
-/// The unit whose time is over: the result says so where there was none.
+/// The unit whose time is over: the result is timeout if it was success.
 fn timed_out(unit: UnitState) -> UnitState
     ensures { result ≡ timed_out unit }
 {
@@ -99,7 +99,7 @@ fn pre_meets(settings: &ServiceSettings, around: Around, unit: UnitState, end: E
     start_fails(rests(settings, around, without_control(settings, unit, end)))
 }
 
-/// The start doesn't come to its end in time.
+/// The start doesn't end in time.
 fn start_times_out(settings: &ServiceSettings, around: Around, unit: UnitState) -> Change
     ensures { result ≡ start_times_out (service_settings_of settings.now) around unit }
 {
@@ -136,7 +136,7 @@ fn run_meets(settings: &ServiceSettings, around: Around, unit: UnitState, end: E
     }
 }
 
-/// An `ExecStop=` command ended.
+/// An `ExecStop=` command ended: well, so that the next one is started, or so that the unit's processes are sent a signal to end.
 fn stop_meets(settings: &ServiceSettings, around: Around, unit: UnitState, end: End) -> Change
     ensures { result ≡ row (service_settings_of settings.now) around unit Deactivating Stop (ControlEnds end) }
 {
@@ -153,7 +153,7 @@ fn stop_meets(settings: &ServiceSettings, around: Around, unit: UnitState, end: 
     terminates(settings, around, without_control(settings, unit, end))
 }
 
-/// The rows: what follows from the event. The first that fits counts.
+/// The rows of the table, by event and state. The first that fits counts.
 fn row(settings: &ServiceSettings, around: Around, unit: UnitState, event: UnitEvent) -> Change
     ensures { result ≡ row (service_settings_of settings.now) around unit (active_state_of unit.sub) unit.sub event }
 {
@@ -204,7 +204,7 @@ fn row(settings: &ServiceSettings, around: Around, unit: UnitState, event: UnitE
     }
 }
 
-/// Whether a unit that has come so far is active or activating.
+/// Whether a unit in this state is active or activating.
 fn is_going(sub: SubState) -> bool
     ensures { result ≡ is_going (active_state_of sub) }
 {
@@ -232,8 +232,8 @@ fn fails_start(sub: SubState, change: Change) -> Change
     }
 }
 
-/// What follows from the event. A unit that can't be loaded isn't started; a bound stop is as a stop job that begins, where the unit is
-/// active or activating, but that a start that has begun fails by it.
+/// The change by an event. A unit that can't be loaded isn't started. A bound stop of a unit that is active or activating is like a stop
+/// job that begins, but a start that has begun fails by it.
 pub fn transition(
     settings: &ServiceSettings,
     around: Around,

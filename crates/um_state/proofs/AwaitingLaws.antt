@@ -1,4 +1,4 @@
--- What the numbers leave out once a row is set, or each row was noted.
+-- Which numbers are left out once a row is set, or each row was noted.
 use Rattle.std.proofs.Common.{ℕ, ◌≡◌, ◌∙◌, ◌<◌, ◌+◌, List, [], length, Some, set, sym, ap, arith, inl, inr, true≢false}
 use Rattle.std.proofs.lemmas.Bool.{cases_lt}
 use Rattle.std.proofs.lemmas.List.{get_or_past}
@@ -12,7 +12,7 @@ use Rattle.um_state.proofs.FindingLaws.{set_rows}
 
 -- ---- a number that is awaited is one of the unit's
 
--- nothing is awaited by a dead unit
+-- a dead unit waits for no report
 pub dead_awaits : (n : ℕ) → awaited_by dead_unit ≡ Some n → ⊥
 dead_awaits n e = none-some n e
 
@@ -21,7 +21,7 @@ dead_awaits n e = none-some n e
 pub has_set : (rows : List UnitState) (a : Awaited) (i : ℕ) (u : UnitState) → i < length rows → HasAll rows a → ((n : ℕ) → awaited_by u ≡ Some n → Has a n) → HasAll (set rows i u) a
 has_set rows a i u within all noted j n = set_rows (λ k v. awaited_by v ≡ Some n → Has a n) rows i u within (noted n) (λ k. all k n) j
 
--- nor is one left out where none is let go
+-- nor is one left out when none is let go
 pub has_kept : (rows : List UnitState) (a b : Awaited) → HasAll rows a → ((n : ℕ) → Has a n → Has b n) → HasAll rows b
 has_kept rows a b all keeps i n is = keeps n (all i n is)
 

@@ -1,4 +1,4 @@
--- A walk over rows from the last one back: what was put stands for the rows that were passed.
+-- A walk over rows from the last one back: the values put so far stand for the rows that were passed.
 use Rattle.std.proofs.Common.{◌≡◌, ◌≢◌, ◌∙◌, ◌+◌, ◌-◌, ◌<◌, ◌≤◌, ℕ, Bool, true, false, cond, List, [], ◌∷◌, length, drop, get_or, Option, Some, None, refl, sym, ap, subst, arith}
 use Rattle.std.proofs.lemmas.List.{drop_all, drop_more, get_or-drop, length-drop}
 use Rattle.std.proofs.lemmas.Map.Views.{tells_apart}

@@ -9,7 +9,7 @@ pub before_last : (rows : List Row) (r : Row) (s : Standing) → rows_before (ro
 before_last [] r s = refl
 before_last (q ∷ rows) r s = ap (put_row q) (before_last rows r s)
 
--- one row more is exchanged: what is left to put
+-- one more row is exchanged: the rows left to put
 pub after_more : (rows : List Row) (i : ℕ) (d new : Row) (s t : Standing) → i < length rows → t ≡ put_row (get_or rows i d) s
     → rows_after (drop (i + 1) (set rows i new)) t ≡ rows_after (drop i rows) s
 after_more rows i d new s t h e =
@@ -19,7 +19,7 @@ after_more rows i d new s t h e =
     drop_more : (rows : List Row) (i : ℕ) (d : Row) → i < length rows → drop i rows ≡ get_or rows i d ∷ drop (i + 1) rows
     drop_more rows i d h = rw (add-one, drop-cons rows i d)
 
--- and what leads back
+-- and the rows that lead back
 pub back_more : (rows : List Row) (i : ℕ) (new : Row) (s t : Standing) → i < length rows → put_row new t ≡ s
     → rows_before (take (i + 1) (set rows i new)) t ≡ rows_before (take i rows) s
 back_more rows i new s t h e =

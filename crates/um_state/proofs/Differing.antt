@@ -1,4 +1,4 @@
--- Whether one of two things differs, as it is found out one after the other.
+-- Whether one of two things differs, when one is compared after the other.
 use Rattle.std.proofs.Common.{◌≡◌, ◌∙◌, Bool, true, false, true≢false, not, ◌&&◌, sym}
 
 -- the first one differs
@@ -6,7 +6,7 @@ pub differs_first : (found first second : Bool) → found ≡ true → found ≡
 differs_first found true second is e = absurd (true≢false (sym is ∙ e))
 differs_first found false second is e = e
 
--- the first one doesn't, so it is what the second does
+-- the first one doesn't, so the second decides
 pub differs_second : (found other first second : Bool) → found ≡ false → found ≡ not first → other ≡ not second → other ≡ not (first && second)
 differs_second found other true second is e told = told
 differs_second found other false second is e told = absurd (true≢false (sym e ∙ is))

@@ -1,4 +1,4 @@
--- Whether numbers are distinct, by a walk that keeps those that it met.
+-- Whether numbers are distinct, by a walk that keeps those already seen.
 use Rattle.std.proofs.Common.{◌≡◌, ℕ, ◌==◌, Bool, true, false, not, cond, ◌&&◌, List, [], ◌∷◌, Ordering, Equal, is_eq, refl, sym, ap, ◌∙◌}
 use Rattle.std.specs.BTreeSet.{BTreeSet, contains}
 use Rattle.std.specs.BTreeMap.{is_at}

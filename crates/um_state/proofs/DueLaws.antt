@@ -1,4 +1,4 @@
--- No deadline is due where the test of each entry says so, and back.
+-- No deadline is due if and only if the test of each entry says so.
 use Rattle.std.proofs.Common.{ℕ, ◌≡◌, ◌∙◌, ◌<◌, true, List, Option, Some, None, unwrap_or, refl, ap, subst}
 use Rattle.std.specs.FinMap as map
 use Rattle.std.proofs.lemmas.Bool.{ltb-true}

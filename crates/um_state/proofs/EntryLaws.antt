@@ -26,7 +26,7 @@ held_rows is_held [] rows = []
 held_rows is_held (n ∷ ns) [] = []
 held_rows is_held (n ∷ ns) (row ∷ rows) = if is_held row then (n, row) ∷ held_rows is_held ns rows else held_rows is_held ns rows
 
--- what is given of each number from one on, as many, one behind another
+-- the values of as many numbers from one on, one after another
 abbrev pub gathered : {X : Type 0} → (ℕ → List X) → ℕ → ℕ → List X
 gathered f k zero = []
 gathered f k (suc n) = f k ++ gathered f (suc k) n
@@ -98,7 +98,7 @@ module _ {A : Type 0} (nothing : A) (put : ByUnit A → List ℕ → A → ByUni
       (λ q. found names rows (names_once names sorted) q ∙ ap (λ o. unwrap_or o nothing) (sym (got q))))
       ∙ finite.entries-from_sorted (slice_cmp nat_cmp) (held_rows is_held names rows) up
 
--- ---- what is told of the entries, told of the rows
+-- ---- a list over the entries is a list over the rows
 
 -- one number more
 pub gathered_more : {X : Type 0} (f : ℕ → List X) (k n : ℕ) → gathered f k (suc n) ≡ gathered f k n ++ f (k + n)
@@ -111,7 +111,7 @@ later : {X : Type 0} (f : ℕ → List X) (k n : ℕ) → gathered f (suc k) n �
 later f k zero = refl
 later f k (suc n) = ap (λ xs. f (suc k) ++ xs) (later f (suc k) n)
 
--- what is told is that of the numbers before this one, then of it too
+-- the list so far is that of the numbers before this one, and now includes this one
 pub one_more : {X : Type 0} (f : ℕ → List X) (i : ℕ) (begun told now : List X) → now ≡ told ++ f i → told ≡ begun ++ gathered f 0 i → now ≡ begun ++ gathered f 0 (i + 1)
 one_more f i begun told now e h =
     let here : i ≡ 0 + i = omega arith in
@@ -134,7 +134,7 @@ module _ {A : Type 0} (nothing : A) (is_held : A → Bool) where
       by true rest = ap (λ xs. n ∷ xs) rest
       by false rest = rest
 
-  -- what is given of each row, where nothing is given of one of which nothing is held
+  -- the values of each row, where a row of which nothing is held has none
   pub flat_gathered : {X : Type 0} (g : List ℕ → A → List X) → ((n : List ℕ) (r : A) → is_held r ≡ false → g n r ≡ []) → (names : List (List ℕ)) (rows : List A) → length rows ≡ length names
       → flat_map (λ (e : List ℕ × A). g e.0 e.1) (held_rows is_held names rows) ≡ gathered (λ i. g (name_at names i) (get_or rows i nothing)) 0 (length names)
   flat_gathered g none [] rows l = refl
@@ -216,7 +216,7 @@ job_keys names rows sorted l =
     sym (keys_gathered no_jobs has_job names rows l)
     ∙ (ap (map (λ (e : List ℕ × UnitJobs). e.0)) (sym (job_entries names rows sorted)) ∙ job_keys_are (jobs_by names rows))
 
--- the jobs of the rows, one after another, are those that are told
+-- the jobs of the rows, one after another, are the listed jobs
 pub jobs_told : (names : List (List ℕ)) (rows : List UnitJobs) → AreAscending names → length rows ≡ length names
     → gathered (λ i. jobs_shown_of (name_at names i) (get_or rows i no_jobs)) 0 (length names) ≡ jobs_shown (jobs_by names rows)
 jobs_told names rows sorted l =
@@ -225,7 +225,7 @@ jobs_told names rows sorted l =
     none : (n : List ℕ) (r : UnitJobs) → has_job r ≡ false → jobs_shown_of n r ≡ []
     none n r e = ap (jobs_shown_of n) (no_job_held r e)
 
--- what is given of each row is what is given of each entry, and a test of all rows is one of all entries, where a dead unit doesn't count
+-- the values of each row are those of each entry, and a test of all rows is one of all entries, where a dead unit doesn't count
 pub unit_flat : {X : Type 0} (g : UnitState → List X) → g dead_unit ≡ [] → (names : List (List ℕ)) (rows : List UnitState) → AreAscending names → length rows ≡ length names
     → flat_map g rows ≡ flat_map (λ (e : List ℕ × UnitState). g e.1) (finite.entries (units_by names rows))
 unit_flat g dead names rows sorted l =

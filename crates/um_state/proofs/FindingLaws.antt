@@ -1,4 +1,4 @@
--- What a finder tells once a row is set, or each row was added; and what the row of a number says of the units.
+-- The entries of a finder once a row is set, or each row was added; and the units' processes by the row of a number.
 use Rattle.std.proofs.Common.{ℕ, ◌≡◌, ◌≢◌, ◌∙◌, ◌⊎◌, ◌<◌, ◌+◌, false, List, [], length, Some, None, Option, MatchOption, set, get_or, sym, ap, subst, arith, true≢false, is_some, unwrap_or, inl, inr}
 use Rattle.std.proofs.lemmas.Bool.{cases_lt}
 use Rattle.std.proofs.lemmas.List.{get_or-set_same, get_or-set_other, get_or_default, get_or_past}
@@ -49,7 +49,7 @@ pub finds_set : (rows : List UnitState) (finder : Finder) (i : ℕ) (u : UnitSta
     → Finds (set rows i u) finder
 finds_set rows finder i u within finds told j n = set_rows (λ k v. HasNumber v n → Tells finder k n) rows i u within (told n) (λ k. finds k n) j
 
--- the same after what keeps all that is told
+-- the same after a change that keeps all recorded numbers
 pub finds_kept : (rows : List UnitState) (f g : Finder) → Finds rows f → ((i n : ℕ) → Tells f i n → Tells g i n) → Finds rows g
 finds_kept rows f g finds keeps i n has = keeps i n (finds i n has)
 
@@ -61,7 +61,7 @@ told_both f g i u main keeps control n (inr e) = control n e
 
 -- ---- each row was added
 
--- the first rows are told
+-- the first rows are recorded
 abbrev pub FindsBelow : List UnitState → Finder → ℕ → Type 0
 FindsBelow rows finder k = (i n : ℕ) → i < k → HasNumber (row_at rows i) n → Tells finder i n
 
@@ -104,23 +104,23 @@ told_wrong rows finder number i finds alone told wrong j has =
     let same : j ≡ i = ap (λ o. unwrap_or o i) (sym (finds j number has alone) ∙ told) in
     wrong (subst (λ k. HasNumber (row_at rows k) number) same has)
 
--- what the row of a number says where it is told of the number
+-- the row of a number, whether or not it is recorded for the number
 pub told_or_not : (rows : List UnitState) (finder : Finder) (number row : ℕ) → Finds rows finder → finder.is_partial ≡ false → told finder.live.list.items number ≡ Some row
     → (r : Option ℕ) → MatchOption r (¬ HasNumber (row_at rows row) number) (λ i. (i ≡ row) × HasNumber (row_at rows row) number) → MatchOption r (NoneHas rows number) (IsFirstWith rows number)
 told_or_not rows finder number row finds alone told None wrong = told_wrong rows finder number row finds alone told wrong
 told_or_not rows finder number row finds alone told (Some i) (is, has) = subst (IsFirstWith rows number) (sym is) (found rows finder number row finds alone told has)
 
--- ---- what rows say of the units
+-- ---- from rows to units
 
 module _ (t : Table UnitState) (names : List (List ℕ)) (rows : List UnitState) (seen : record { names = names; held = units_by names rows } ≡ t) (sorted : AreAscending names) where
   at_number : (i : ℕ) → i < length names → state_of_unit (units_by names rows) (name_at names i) ≡ row_at rows i
   at_number i h = by_at dead_unit with_unit units_put names rows (names_once names sorted) i h
 
-  -- what a row says of the unit with its number
+  -- a row is the state of the unit with its number
   pub told_row : (i : ℕ) → i < length t.names → row_at rows i ≡ state_of_unit t.held (name_at t.names i)
   told_row i h = subst (λ (u : Table UnitState). i < length u.names → row_at rows i ≡ state_of_unit u.held (name_at u.names i)) seen (λ k. sym (at_number i k)) h
 
-  -- what is so of a dead unit and of each row is so of each unit
+  -- a property of a dead unit and of each row is one of each unit
   pub of_each : (P : UnitState → Type 0) → P dead_unit → ((i : ℕ) → P (row_at rows i)) → (x : List ℕ) → P (state_of_unit t.held x)
   of_each P dead each x = subst (λ (u : Table UnitState). P (state_of_unit u.held x)) seen (by (among_or_apart names x))
     where

@@ -1,9 +1,9 @@
--- What a pattern takes off the front of a list, and what it leaves; and what stands in front of bytes to which more is put.
+-- The front and the rest of a list by a pattern; and the front of bytes to which more are appended.
 use Rattle.std.proofs.Common.{◌≡◌, ℕ, ◌≤◌, ◌-◌, List, [], ◌∷◌, ◌++◌, length, take, drop, slice_index, arith, append_assoc, refl, sym, ap, ◌∙◌}
 use Rattle.std.proofs.lemmas.List.{take_all}
 use Rattle.um_model.specs.Bytes.{IsInFront}
 
--- what a pattern leaves behind the first one
+-- the rest after the first one
 pub first_and_rest : (ns : List ℕ) → 1 ≤ length ns → ns ≡ slice_index ns 0 ∷ take (length ns - 1) (drop 1 ns)
 first_and_rest [] h = absurd (omega (arith, h))
 first_and_rest (n ∷ ns) h =
@@ -22,7 +22,7 @@ two_first [] h = absurd (omega (arith, h))
 two_first (a ∷ []) h = absurd (omega (arith, h))
 two_first (a ∷ b ∷ rest) h = refl
 
--- what a pattern leaves behind two bytes
+-- the rest after two bytes
 pub behind_two : (bytes : List ℕ) → 2 ≤ length bytes → take (length bytes - 2) (drop 2 bytes) ≡ drop 2 bytes
 behind_two [] h = absurd (omega (arith, h))
 behind_two (a ∷ []) h = absurd (omega (arith, h))
@@ -30,15 +30,15 @@ behind_two (a ∷ b ∷ rest) h =
     let low : length rest ≤ length (a ∷ b ∷ rest) - 2 = omega arith in
     take_all (length (a ∷ b ∷ rest) - 2) rest low
 
--- two lists, put one behind the other
+-- two lists, appended one after the other
 pub both_put : (old a b one both : List ℕ) → one ≡ old ++ a → both ≡ one ++ b → both ≡ old ++ (a ++ b)
 both_put old a b one both first second = second ∙ (ap (λ l. l ++ b) first ∙ append_assoc old a b)
 
--- what was there stands in front of what is put behind it
+-- the old bytes stand in front of the appended ones
 pub in_front : (old more new : List ℕ) → new ≡ old ++ more → IsInFront old new
 in_front old more new put = record { behind = more; parts = put }
 
--- and still where more is put behind that
+-- and still do when more is appended
 pub in_front_of_more : (old one all : List ℕ) → IsInFront old one → IsInFront one all → IsInFront old all
 in_front_of_more old one all first second = record {
   behind = first.behind ++ second.behind;

@@ -1,4 +1,4 @@
--- The numbers that rows have, as they are found by those that are told, and one row after another.
+-- The numbers that rows have, found from the recorded ones, and one row after another.
 use Rattle.std.proofs.Common.{ℕ, zero, suc, ◌≡◌, ◌∙◌, ◌⊎◌, ◌↔◌, ◌++◌, ◌==◌, ◌<◌, ◌≤◌, ◌+◌, true, false, cond, List, [], ◌∷◌, length, take, get_or, flat_map, Contains, Option, Some, None, refl, sym, ap, subst, inl, inr, arith}
 use Rattle.std.proofs.lemmas.Bool.{eqb-true}
 use Rattle.std.proofs.lemmas.List.{take_more, take_all}
@@ -13,9 +13,9 @@ use Rattle.um_state.specs.declared.finder.Finder.{Finder}
 use Rattle.um_state.specs.declared.live.Live.{Live}
 use Rattle.um_state.proofs.FindingLaws.{nobody}
 
--- ---- one of those that are told
+-- ---- one of the recorded numbers
 
--- one of them has the number still
+-- one of them is still the row's
 abbrev pub AreTold : List UnitState → List Live → ℕ → Type 0
 AreTold rows [] n = ⊥
 AreTold rows (live ∷ more) n = IsTold rows live n ⊎ AreTold rows more n

@@ -1,4 +1,4 @@
--- Of which units a state holds something, by the names that its maps have.
+-- The units of which a state holds something, by the names that its maps have.
 use Rattle.std.proofs.Common.{ℕ, ◌≡◌, ◌≢◌, ◌∙◌, ◌↔◌, ◌⊎◌, ◌++◌, Bool, true, false, not, List, Option, Some, None, is_some, unwrap_or, refl, sym, ap, inl, inr, true≢false}
 use Rattle.std.specs.Prelude.{Contains}
 use Rattle.std.specs.Cmp.{eq_by_cmp_equiv}
@@ -27,7 +27,7 @@ key_there m unit key = λ none.
 pub there_key : {A : Type 0} (m : ByUnit A) (unit : List ℕ) → map.get m unit ≢ None → Contains (map.keys m) unit
 there_key m unit there = contains_among (map.keys m) unit (among_keys m unit (some_there (map.get m unit) there))
 
--- of a name that isn't held nothing is told
+-- a name that isn't held has no value
 pub nothing_there : {A : Type 0} (nothing : A) (m : ByUnit A) (x : List ℕ) → (map.get m x ≢ None → ⊥) → unwrap_or (map.get m x) nothing ≡ nothing
 nothing_there {A = A} nothing m x free = by (map.get m x) free
   where
@@ -35,7 +35,7 @@ nothing_there {A = A} nothing m x free = by (map.get m x) free
     by None h = refl
     by (Some v) h = absurd (h (λ e. none-some v (sym e)))
 
--- the names of two maps are those that one of them holds
+-- the names of two maps are those that either of them holds
 pub keys_held : {A B : Type 0} (m : ByUnit A) (n : ByUnit B) (unit : List ℕ) → Contains (map.keys m ++ map.keys n) unit ↔ ((map.get m unit ≢ None) ⊎ (map.get n unit ≢ None))
 keys_held m n unit = (
   λ key. elim (Contains-append_cases (map.keys m) (map.keys n) unit key) as (λ _. (map.get m unit ≢ None) ⊎ (map.get n unit ≢ None)) [
@@ -48,7 +48,7 @@ keys_held m n unit = (
   ],
 )
 
--- ---- of which names something is held, by what is told of them
+-- ---- of which names something is held, by their values
 
 held_unit : (v : UnitState) → v ≢ dead_unit → not (holds_nothing v) ≡ true
 held_unit v other = by (holds_nothing v) refl

@@ -1,4 +1,4 @@
--- An input is read by the tag of its fields, behind its moment.
+-- An input is read by the tag of its fields, after its moment.
 use Rattle.std.proofs.Common.{◌≡◌, ℕ, zero, suc, ◌-◌, nat_lt, Bool, true, false, List, [], ◌∷◌, ◌++◌, length, map as each, Option, Some, None, refl, sym, ap, ◌∙◌}
 use Rattle.std.proofs.Common.{◌<◌, ◌≤◌, ◌+◌, take, drop, slice_index, arith}
 use Rattle.std.specs.Prelude.{⊤}
@@ -21,11 +21,11 @@ use Rattle.um_state.specs.Arms.{command_arms, event_at, for_unit, happening_arms
 abbrev Same : {A : Type 0} → Decoder A → Decoder A → Type 0
 Same one other = (bytes : List ℕ) → one bytes ≡ other bytes
 
--- behind a moment
+-- after a moment
 abbrev timed : Decoder Event → Decoder Timed
 timed one = pair_at moment_at one
 
--- what is read, told in another form, beside what was read before it
+-- a value as it was read, in another form, beside the value read before it
 abbrev pub told : {A B : Type 0} → (A → B) → Option (A × List ℕ) → Option (B × List ℕ)
 told to o = o >>= λ a. Some (to a.0, a.1)
 
@@ -35,7 +35,7 @@ beside a o = o >>= λ b. Some ((a, b.0), b.1)
 abbrev behind : {A B : Type 0} → Decoder B → Option (A × List ℕ) → Option ((A × B) × List ℕ)
 behind one o = o >>= λ a. beside a.0 (one a.1)
 
--- the fields read in one form and told in another, and then in a third
+-- the fields are read in one form, put into another, and then into a third
 module _ {A B : Type 0} (to : A → B) (last : B → Event) (reading : Decoder A) where
   abbrev timed_by : ℕ × A → Timed
   timed_by f = (f.0, last (to f.1))
@@ -71,7 +71,7 @@ same_arm (i ∷ is) [] h tag = absurd h
 same_arm (i ∷ is) (e ∷ es) h zero = h.0
 same_arm (i ∷ is) (e ∷ es) h (suc tag) = same_arm is es h.1 tag
 
--- the fields of all that comes in, by the tags
+-- the fields of all events, by the tags
 abbrev event_arms : List (Decoder Event)
 event_arms = each (as_at Commanded) command_arms ++ each (as_at Happened) happening_arms
 
@@ -122,7 +122,7 @@ all_same = (
     (comes ProcessExecuted Happened (number_at 8), (comes (λ nothing. Tick) Happened nothing_at, (comes Booted Happened boot_at, tt))),
   )
 
--- ---- an arm of two tables that stand one behind the other
+-- ---- an arm of two tables, one after the other
 
 module _ {A : Type 0} (to : A → Event) where
   arm_told : (arms : List (Decoder A)) (tag : ℕ) → Same (arm_in (each (as_at to) arms) tag) (as_at to (arm_in arms tag))
@@ -147,7 +147,7 @@ module _ {A B : Type 0} (to : A → Event) (other : B → Event) (others : List 
       let same : length (arm ∷ arms) + tag ≡ suc (length arms + tag) = omega arith in
       ap (λ n. arm_in (both (arm ∷ arms)) n bytes) same ∙ in_second arms tag bytes
 
--- the fields of what comes in are read by its tag
+-- the fields of the event are read by its tag
 event_here : (tag : ℕ) → Same (arm_in event_arms tag) (event_at tag)
 event_here tag bytes = by (nat_lt tag 15) refl where
   by : (low : Bool) → nat_lt tag 15 ≡ low → arm_in event_arms tag bytes ≡ event_at tag bytes
@@ -163,15 +163,15 @@ timed_same one other h bytes = by (moment_at bytes) where
   by None = refl
   by (Some x) = ap (beside x.0) (h x.1)
 
--- the profile of a tag, with the bytes behind it
+-- the profile of a tag, with the bytes after it
 abbrev tagged_by : List ℕ → Option Profile → Option (Profile × List ℕ)
 tagged_by rest o = o >>= λ p. Some (p, rest)
 
--- the input of what is read behind the tag of its profile
+-- the input that is read after the tag of its profile
 abbrev input_behind : List ℕ → Option Profile → Option (Input × List ℕ)
 input_behind rest o = told input_with (behind (choice_at (arm_in input_arms)) (tagged_by rest o))
 
--- behind the tag of a profile and another tag, an input is a moment, and the fields by the tag
+-- after the tag of a profile and another tag, an input is a moment and the fields of that tag
 pub input_here : (bytes : List ℕ) → 2 ≤ length bytes → (profile : Profile) → profile_of (slice_index bytes 0) ≡ Some profile
     → input_at bytes ≡ as_at (λ t. input_with (profile, t)) (timed_at (slice_index bytes 1)) (drop 2 bytes)
 input_here bytes long profile is =
@@ -189,7 +189,7 @@ input_here bytes long profile is =
         → input_behind (slice_index bytes 1 ∷ drop 2 bytes) o ≡ told (λ t. input_with (profile, t)) (arm_in input_arms (slice_index bytes 1) (drop 2 bytes))
     by o same = rw same (with_profile (arm_in input_arms (slice_index bytes 1) (drop 2 bytes)))
 
--- a first byte that is no profile's tag tells no input
+-- a first byte that is no profile's tag is no input
 pub unprofiled : (bytes : List ℕ) → 2 ≤ length bytes → profile_of (slice_index bytes 0) ≡ None → input_at bytes ≡ None
 unprofiled bytes long none = ap input_at (two_first bytes long) ∙ rw none refl
 
@@ -203,7 +203,7 @@ input_short (b ∷ []) short = by (profile_of b)
     by (Some p) = refl
 input_short (b ∷ c ∷ bytes) short = absurd (omega (arith, short))
 
--- what comes in is read behind its moment
+-- the event is read after its moment
 pub timed_here : (tag : ℕ) (bytes : List ℕ) (moment n : ℕ) (event : Event) (m : ℕ) → moment_at bytes ≡ Some (moment, drop n bytes)
     → event_at tag (take (length bytes - n) (drop n bytes)) ≡ Some (event, drop m (take (length bytes - n) (drop n bytes)))
     → timed_at tag bytes ≡ Some ((moment, event), drop (n + m) bytes)
@@ -212,7 +212,7 @@ timed_here tag bytes moment n event m first second =
     let there = rw rest at second in
     rw (first, there) (ap (λ l. Some ((moment, event), l)) (drop-drop m n bytes))
 
--- and there is none where it isn't there
+-- and there is none if that isn't there
 pub timed_none : (tag : ℕ) (bytes : List ℕ) (moment n : ℕ) → moment_at bytes ≡ Some (moment, drop n bytes) → event_at tag (take (length bytes - n) (drop n bytes)) ≡ None
     → timed_at tag bytes ≡ None
 timed_none tag bytes moment n first second =

@@ -25,11 +25,11 @@ pub last_first : (js : List JobShown) (j : JobShown) (pending : ByUnit UnitJobs)
 last_first [] j pending = refl
 last_first (k ∷ js) j pending = ap (with_one k) (last_first js j pending)
 
--- what a unit's jobs are set to has a job
+-- the jobs that a unit is set to include a job
 pub set_is : (j : JobShown) (pending : ByUnit UnitJobs) → with_jobs pending j.unit (with_job j.kind j.state (jobs_of_unit pending j.unit)) ≡ with_one j pending
 set_is j pending = rw (has_with_job j.kind j.state (jobs_of_unit pending j.unit)) refl
 
--- of no unit without a job anything is held
+-- nothing is held of a unit without a job
 pub tidy_list : (js : List JobShown) → IsTidy no_jobs (pending_of js)
 tidy_list [] = tidy_empty no_jobs
 tidy_list (j ∷ js) = subst (IsTidy no_jobs) (set_is j (pending_of js)) (tidy_jobs (pending_of js) j.unit (with_job j.kind j.state (jobs_of_unit (pending_of js) j.unit)) (tidy_list js))

@@ -1,4 +1,4 @@
--- A list of jobs that is read, where they ascend.
+-- A list of jobs that is read, if they ascend.
 use Rattle.std.proofs.Common.{◌≡◌, ℕ, true, false, List, Some, None, refl}
 use Rattle.um_model.specs.Bytes.{list_at}
 use Rattle.um_model.specs.Jobs.{JobShown}

@@ -1,4 +1,4 @@
--- What is told of live numbers in ascending order, once one is added or let go.
+-- The rows of live numbers in ascending order, once one is added or let go.
 use Rattle.std.proofs.Common.{ℕ, zero, suc, ◌≡◌, ◌≢◌, ◌∙◌, ◌<◌, ◌≤◌, ◌+◌, ◌-◌, ◌==◌, Bool, List, [], ◌∷◌, length, Some, None, refl, sym, ap, subst, arith, true, false, cond, inl, inr}
 use Rattle.std.proofs.lemmas.Bool.{cases_lt, eq-eqb, ne_eqb}
 use Rattle.std.proofs.lemmas.Option.{none-some}
@@ -7,7 +7,7 @@ use Rattle.std.specs.List.{insert, remove}
 use Rattle.um_state.specs.LiveRows.{IsRising, live_number, live_row, told}
 use Rattle.um_state.specs.declared.live.Live.{Live}
 
--- what is told where the first has the number, and where it has another one
+-- the row of the first number, and that of another one
 told_first : (live : Live) (more : List Live) (n : ℕ) → live.number ≡ n → told (live ∷ more) n ≡ Some live.row
 told_first live more n is = ap (λ b. cond b (Some live.row) (told more n)) (eq-eqb live.number n is)
 
@@ -19,7 +19,7 @@ pub none_told : (list : List Live) (n : ℕ) → ((i : ℕ) → i < length list 
 none_told [] n isnt = refl
 none_told (live ∷ more) n isnt = told_later live more n (isnt 0 (omega arith)) ∙ none_told more n (λ i l. isnt (suc i) (omega (arith, l)))
 
--- the one that stands there has it
+-- the number at that place
 pub one_told : (list : List Live) (i n : ℕ) → IsRising list → i < length list → live_number list i ≡ n → told list n ≡ Some (live_row list i)
 one_told [] i n rising l is = absurd (omega (arith, l))
 one_told (live ∷ more) zero n rising l is = told_first live more n is
@@ -27,7 +27,7 @@ one_told (live ∷ more) (suc i) n rising l is =
     told_later live more n (λ e. let lower = rising 0 (suc i) (omega arith) l in absurd (omega (arith, lower, e, is)))
     ∙ one_told more i n (λ a b lt within. rising (suc a) (suc b) (omega (arith, lt)) (omega (arith, within))) (omega (arith, l)) is
 
--- it stands nowhere where it doesn't stand behind the lower ones
+-- a number that isn't past the lower ones isn't in the list
 pub absent : (list : List Live) (place n : ℕ) → IsRising list → ((k : ℕ) → k < place → live_number list k < n) → ((k : ℕ) → place ≤ k → k < length list → n ≤ live_number list k)
     → (place < length list → live_number list place ≢ n) → told list n ≡ None
 absent list place n rising lower others isnt = none_told list n (λ k l e. elim (cases_lt k place) as (λ _. ⊥) [
@@ -46,7 +46,7 @@ told_others [] (suc i) live n other = told_later live [] n (λ e. other (sym e))
 told_others (first ∷ more) zero live n other = told_later live (first ∷ more) n (λ e. other (sym e))
 told_others (first ∷ more) (suc i) live n other = ap (λ o. cond (first.number == n) (Some first.row) o) (told_others more i live n other)
 
--- where one is told, none isn't
+-- a number that is not found stands nowhere in the list
 not_both : (list : List Live) (k n : ℕ) → IsRising list → k < length list → told list n ≡ None → live_number list k ≢ n
 not_both list k n rising l none is = none-some (live_row list k) (sym none ∙ one_told list k n rising l is)
 
@@ -96,7 +96,7 @@ rising_added list i live rising within none lower others a b lt l = elim (cases_
       | inr past ↦ absurd (not_both list k live.number rising l none (omega (arith, past, others k h l)))
     ]
 
--- the same as the call tells it of the list that it was lent
+-- the same, from the contract of a call on a borrowed list
 pub rising_lent : (lent list : List Live) (i : ℕ) (live : Live) → lent ≡ list → IsRising list → i ≤ length list → told list live.number ≡ None
     → ((k : ℕ) → k < i → live_number lent k < live.number) → ((k : ℕ) → i ≤ k → k < length lent → live.number ≤ live_number lent k) → IsRising (insert list i live)
 rising_lent lent list i live same rising within none lower others =
@@ -108,7 +108,7 @@ told_added list i live rising within =
     let at = get_or-insert_at list i live (record { number = 0; row = 0 }) within in
     one_told (insert list i live) i live.number rising (omega (arith, length-insert list i live within, within)) (ap (λ (x : Live). x.number) at) ∙ ap (λ (x : Live). Some x.row) at
 
--- as the call tells it that may have found no room
+-- from the contract of a call that may have found no room
 pub rising_if : (b : Bool) (list more : List Live) (i : ℕ) (live : Live) → more ≡ cond b (insert list i live) list → IsRising list → IsRising (insert list i live) → IsRising more
 rising_if true list more i live is rising added = subst IsRising (sym is) added
 rising_if false list more i live is rising added = subst IsRising (sym is) rising

@@ -9,7 +9,7 @@ use Rattle.um_state.specs.Finding.{row_at}
 use Rattle.um_state.specs.Working.{KeepUnmarked, differ_at, mark_at, pending_at}
 use Rattle.um_state.proofs.SameRows.{same_rows}
 
--- what is as it was is so under any marks
+-- what hasn't changed is unchanged under any marks
 pub all_kept : (marks : List Bool) (was units : List UnitState) (had jobs : List UnitJobs) → units ≡ was → jobs ≡ had → KeepUnmarked marks was had units jobs
 all_kept marks was units had jobs u j = record { same_unit = λ i e. ap (λ us. row_at us i) u; same_jobs = λ i e. ap (λ js. pending_at js i) j }
 
@@ -19,7 +19,7 @@ pub no_difference : (marks : List Bool) (was units : List UnitState) (had jobs :
 no_difference marks was units had jobs kept i e = ap not (same_rows _ _ _ _ (sym (kept.same_unit i e)) (sym (kept.same_jobs i e)))
 
 module _ (marks : List Bool) (i : ℕ) (here : i < length marks) where
-  -- what has no mark then isn't the one that got it
+  -- a number that has no mark then isn't the one that got it
   other : (k : ℕ) → mark_at (set marks i true) k ≡ false → k ≡ i → ⊥
   other k e same = true≢false (sym (get_or-set_same marks i true false here) ∙ (ap (mark_at (set marks i true)) (sym same) ∙ e))
 

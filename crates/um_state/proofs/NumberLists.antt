@@ -6,7 +6,7 @@ use Rattle.um_model.specs.Transitions.{live_numbers}
 use Rattle.um_model.specs.declared.service.UnitState.{UnitState}
 use Rattle.um_state.proofs.Fronts.{both_put}
 
--- the main and the control process of the next row are put behind
+-- the main and the control process of the next row are appended
 pub numbers_more : (rows : List UnitState) (i : ℕ) (u : UnitState) (told one both : List ℕ) → i < length rows → u ≡ get_or rows i u → told ≡ flat_map live_numbers (take i rows)
     → one ≡ told ++ option_to_list u.main → both ≡ one ++ option_to_list u.control → both ≡ flat_map live_numbers (take (i + 1) rows)
 numbers_more rows i u told one both h at so_far main control =

@@ -1,4 +1,4 @@
--- Rows over others: what each says, and one that is set.
+-- Rows over others: the value of each, and one that is set.
 use Rattle.std.proofs.Common.{◌≡◌, ◌⊎◌, ◌∙◌, ◌+◌, ◌<◌, ◌≤◌, ◌++◌, not, ℕ, zero, suc, false, List, [], ◌∷◌, length, set, replicate, refl, sym, ap, subst, inl, inr, arith}
 use Rattle.std.proofs.lemmas.Bool.{cases_eq}
 use Rattle.std.proofs.lemmas.List.{ext_get_or, get_or-set_same, get_or-set_other, get_or_append_left, get_or_at, length-map, length-replicate, length-set}
@@ -27,7 +27,7 @@ laid_at (row ∷ rows) [] changed l i = absurd (omega (arith, l))
 laid_at (row ∷ rows) (place ∷ places) changed l zero = refl
 laid_at (row ∷ rows) (place ∷ places) changed l (suc i) = laid_at rows places changed (omega (arith, l)) i
 
--- ---- no row is changed
+-- ---- no row has changed
 
 none_laid : (rows changed : List UnitState) (n : ℕ) → laid_over rows (replicate n 0) changed ≡ rows
 none_laid [] changed n = refl
@@ -58,7 +58,7 @@ are_first places n changed room e z h = record {
     none : (i : ℕ) → place_at places i ≡ 0
     none i = ap (λ ps. place_at ps i) e ∙ no_place n i
 
--- what is the same is laid the same
+-- the same rows are laid out the same way
 pub are_kept : (rows : ℕ) (ps qs : List ℕ) (c d m n : ℕ) → AreLaid rows ps c m → qs ≡ ps → d ≡ c → n ≡ m → AreLaid rows qs d n
 are_kept rows ps qs c d m n are p e q = subst (λ x. AreLaid rows qs d x) (sym q) (subst (λ x. AreLaid rows qs x m) (sym e) (subst (λ x. AreLaid rows x c m) (sym p) are))
 
@@ -186,7 +186,7 @@ module _ (rows : List UnitState) (places : List ℕ) (changed : List UnitState) 
         apart j l k p q (inr other) (inl same) = absurd (omega (arith, given l k q same, before j k p other))
         apart j l k p q (inr other) (inr another) = are.apart j l k (sym (old j other) ∙ p) (sym (old l another) ∙ q)
 
--- ---- what is read
+-- ---- reading a row
 
 pub row_changed : (rows : List UnitState) (places : List ℕ) (changed : List UnitState) → length places ≡ length rows → (i k : ℕ) → place_at places i ≡ k + 1
     → row_at changed k ≡ row_at (laid_over rows places changed) i
@@ -198,6 +198,6 @@ pub row_same : (rows : List UnitState) (places : List ℕ) (changed : List UnitS
     → row_at rows i ≡ row_at (laid_over rows places changed) i
 row_same rows places changed l i p = sym (laid_at rows places changed l i ∙ ap (row_placed (row_at rows i) changed) p)
 
--- what is as it was isn't another
+-- a unit that hasn't changed doesn't differ
 pub not_changed : (a b : UnitState) → a ≡ b → not (is_same_unit a b) ≡ false
 not_changed a b e = subst (λ x. not (is_same_unit a x) ≡ false) e (ap not (unit_itself a))

@@ -57,7 +57,7 @@ module _ {X : Type 0} (test : ℕ → Bool) (item : ℕ → X) where
   one_is k x true t (suc j, l, e) = absurd (omega (arith, l))
   one_is k x false t (j, l, e) = absurd (omega (arith, l))
 
-  -- and what is there is the item of a number that passes
+  -- and the item there is that of a number that passes
   pub picked_is : (k n : ℕ) (x : X) → Contains (picked test item k n) x → IsPickedAt k n x
   picked_is k zero x (j, l, e) = absurd (omega (arith, l))
   picked_is k (suc n) x c = elim (Contains-append_cases (one k) (picked test item (suc k) n) x c) as (λ _. IsPickedAt k (suc n) x) [

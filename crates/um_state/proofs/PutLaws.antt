@@ -1,4 +1,4 @@
--- A way to put a value under a name, of units and of pending jobs: what is told of each name then.
+-- A way to put a value under a name, for units and for pending jobs: the value of each name then.
 use Rattle.std.proofs.Common.{ℕ, ◌≡◌, ◌≢◌, ◌∙◌, true, false, true≢false, cond, List, unwrap_or, sym, ap, refl}
 use Rattle.std.proofs.lemmas.Map.Views.{tells_apart}
 use Rattle.std.proofs.lemmas.Map.Lookups.{exact_bytes}
@@ -16,7 +16,7 @@ module _ {A : Type 0} (nothing : A) where
   pub look_empty : (k : List ℕ) → look map.empty k ≡ nothing
   look_empty k = ap (λ o. unwrap_or o nothing) (map.get-empty (slice_cmp nat_cmp) k)
 
-  -- it is told there, what is told of others stays, and nothing is held that is empty
+  -- the name has the value, other names keep theirs, and no empty value is held
   pub record Puts (put : ByUnit A → List ℕ → A → ByUnit A) : Type 0 where
     pub after : (m : ByUnit A) (k : List ℕ) (x : A) (q : List ℕ) → look (put m k x) q ≡ cond (eq_by_cmp (slice_cmp nat_cmp) q k) x (look m q)
     pub tidy : (m : ByUnit A) (k : List ℕ) (x : A) → IsTidy nothing m → IsTidy nothing (put m k x)

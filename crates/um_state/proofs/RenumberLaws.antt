@@ -36,7 +36,7 @@ rows_set d rows x i f within before at k h = elim (cases_lt k i) as (λ _. get_o
 ]
 
 module _ {A : Type 0} (nothing : A) (put : ByUnit A → List ℕ → A → ByUnit A) (puts : Puts nothing put) where
-  -- rows that tell of each name what the map tells, where the map tells nothing of other names
+  -- rows with the map's value of each name, where the map has none of other names
   pub by_looks : (names : List (List ℕ)) (rows : List A) (m : ByUnit A) → AreAscending names → IsTidy nothing m
       → ((i : ℕ) → i < length names → get_or rows i nothing ≡ look nothing m (name_at names i)) → ((x : List ℕ) → IsApart names x → look nothing m x ≡ nothing)
       → by_names put names rows ≡ m

@@ -1,7 +1,7 @@
--- What a call told of its result, told on of the same result.
+-- A property of a call's result, passed on to the same result.
 use Rattle.std.proofs.Common.{Result, Ok, Err, IfOk, OnOk, OnErr}
 
--- what holds anyway holds where something is refused
+-- a property that holds anyway also holds after a refusal
 pub on_any_err : {T E P : Type 0} (r : Result T E) → P → OnErr r P
 on_any_err (Ok a) p = tt
 on_any_err (Err e) p = p

@@ -1,4 +1,4 @@
--- Two tables hold the same exactly where each says of the other's names what that says; and names that are none of a table's.
+-- Two tables hold the same exactly if each has the other's value for the other's names; and names that a table doesn't have.
 use Rattle.std.proofs.Common.{◌≡◌, ◌≢◌, ◌⊎◌, ◌∙◌, ◌↔◌, ◌<◌, ◌||◌, ◌++◌, ℕ, zero, suc, Bool, true, false, true≢false, List, [], ◌∷◌, length, get_or, Option, Some, None, unwrap_or, refl, sym, ap, subst, inl, inr, arith}
 use Rattle.std.specs.Prelude.{Contains, IsTrue}
 use Rattle.std.specs.FinMap as map
@@ -62,7 +62,7 @@ module _ {A : Type 0} (nothing : A) where
       by (Some v) e = absurd (apart_out keys names whole x apart (subst (λ ns. Contains ns x) (sym are) (there_key m x (λ none. none-some v (sym none ∙ e)))))
 
 module _ {A : Type 0} (nothing : A) (put : ByUnit A → List ℕ → A → ByUnit A) (puts : Puts nothing put) where
-  -- each says what the other says
+  -- each has the other's values
   pub told_same : (ns ms : List (List ℕ)) (rows others : List A) → AreAscending ns → AreAscending ms
       → ((i : ℕ) → i < length ns → get_or rows i nothing ≡ look nothing (by_names put ms others) (name_at ns i))
       → ((i : ℕ) → i < length ms → get_or others i nothing ≡ look nothing (by_names put ns rows) (name_at ms i)) → by_names put ns rows ≡ by_names put ms others
@@ -78,7 +78,7 @@ module _ {A : Type 0} (nothing : A) (put : ByUnit A → List ℕ → A → ByUni
   pub same_told : (ns : List (List ℕ)) (rows : List A) (m : ByUnit A) → AreAscending ns → by_names put ns rows ≡ m → (i : ℕ) → i < length ns → get_or rows i nothing ≡ look nothing m (name_at ns i)
   same_told ns rows m sorted e i h = sym (by_at nothing put puts ns rows (names_once ns sorted) i h) ∙ ap (λ n. look nothing n (name_at ns i)) e
 
-  -- ---- the same of two tables, by what a test says of the rows of each
+  -- ---- the same for two tables, by a test of the rows of each
 
   module _ (t u : Table A) (ns ms : List (List ℕ)) (rows others : List A) (seen : record { names = ns; held = by_names put ns rows } ≡ t) (also : record { names = ms; held = by_names put ms others } ≡ u)
       (sorted : AreAscending ns) (rising : AreAscending ms) (xs : List A) (are : xs ≡ rows) (a : Bool)
@@ -89,7 +89,7 @@ module _ {A : Type 0} (nothing : A) (put : ByUnit A → List ℕ → A → ByUni
     held_too : by_names put ms others ≡ u.held
     held_too = ap (λ (v : Table A). v.held) also
 
-    -- the first says no
+    -- the first test fails
     pub not_told : a ≡ false → IsTrue a ↔ (t.held ≡ u.held)
     not_told fails = (
       λ is. absurd (true≢false (sym is ∙ fails)),
@@ -103,7 +103,7 @@ module _ {A : Type 0} (nothing : A) (put : ByUnit A → List ℕ → A → ByUni
       told_other : IsTrue b → (i : ℕ) → i < length ms → get_or others i nothing ≡ look nothing (by_names put ns rows) (name_at ms i)
       told_other is i h = ap (λ zs. get_or zs i nothing) (sym were) ∙ (other.0 is i h ∙ ap (λ m. look nothing m (name_at ms i)) (sym held_so))
 
-      -- the first says yes, and the other tells
+      -- the first test passes, and the second decides
       pub both_told : IsTrue a → IsTrue b ↔ (t.held ≡ u.held)
       both_told is = (
         λ too. sym held_so ∙ (told_same ns ms rows others sorted rising (told_one is) (told_other too) ∙ held_too),

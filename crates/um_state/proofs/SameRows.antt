@@ -1,4 +1,4 @@
--- What `==` says of a row: of how a unit stands, and of its pending jobs.
+-- `==` of rows: of unit states, and of pending jobs.
 use Rattle.std.proofs.Common.{◌≡◌, ◌&&◌, Bool, true, false, Option, Some, None, refl, ap, subst}
 use Rattle.std.specs.Cmp.Derive.{bare_equiv}
 use Rattle.std.specs.Option.{option_eq}

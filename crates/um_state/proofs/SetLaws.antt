@@ -1,4 +1,4 @@
--- What is put under a number is put under its name; a name that has no number is given one; a process is found by the row of its number.
+-- A value put under a number is put under its name; an unnumbered name gets a number; a process is found by the row of its number.
 use Rattle.std.proofs.Common.{◌≡◌, ◌≢◌, ◌∙◌, ◌<◌, ℕ, List, length, Option, Some, None, MatchOption, get_or, sym, ap, subst}
 use Rattle.std.specs.FinMap as map
 use Rattle.um_model.specs.Machine.{IsOver, IsProcessOf}
@@ -19,7 +19,7 @@ module _ {A : Type 0} (nothing : A) (put : ByUnit A → List ℕ → A → ByUni
       let h = subst (λ ns. HasPlace ns unit i) e has in
       put_within nothing put puts t.names t.held i x h.0 ∙ ap (λ k. put t.held k x) h.1
 
-  -- where the table says nothing of other names, neither does it of names that are neither those nor the one that is put
+  -- if the table has no value for other names, it has none for names that are neither those nor the one that is put
   pub still_apart : (m more : ByUnit A) (names all : List (List ℕ)) (unit : List ℕ) (x : A) → more ≡ put m unit x → ((k : List ℕ) → IsApart names k → nothing ≡ look nothing m k)
       → ((k : List ℕ) → IsApart all k → IsApart names k × (k ≢ unit)) → (k : List ℕ) → IsApart all k → look nothing more k ≡ nothing
   still_apart m more names all unit x e none more_apart k a =

@@ -1,4 +1,4 @@
--- The fields of a state, put and read one behind the other.
+-- The fields of a state, put and read one after the other.
 use Rattle.std.proofs.Common.{◌≡◌, ℕ, Bool, true, false, cond, List, [], ◌∷◌, ◌++◌, drop, append_assoc, Some, None, refl, sym, ap, ◌∙◌}
 use Rattle.std.specs.Option.{option_map}
 use Rattle.um_model.specs.Bytes.{Decoder, pair_at}
@@ -7,7 +7,7 @@ use Rattle.um_model.specs.StateSpellings.{StateFields, boot_at, is_sound, pendin
 use Rattle.um_model.specs.InputSpellings.{happening_fields}
 use Rattle.um_model.specs.Machine.{ProcessExecuted, State}
 
--- what is put behind a mark, one behind the other
+-- the fields that follow a mark, one after the other
 pub behind_mark : (m : ℕ) (old a b c d e f g : List ℕ) → (((((((old ++ m ∷ []) ++ a) ++ b) ++ c) ++ d) ++ e) ++ f) ++ g ≡ old ++ m ∷ (a ++ (b ++ (c ++ (d ++ (e ++ (f ++ g))))))
 behind_mark m old a b c d e f g =
     let front = old ++ m ∷ [] in
@@ -28,7 +28,7 @@ abbrev pub fields_at : Decoder StateFields
 fields_at =
     pair_at profile_at (pair_at tree_at (pair_at tree_at (pair_at boot_at (pair_at moment_at (pair_at next_at (pair_at units_at pending_at))))))
 
--- they are a state where they fit together, and none where they don't; so what is found is the state if it is sound
+-- they are a state if they fit together, and none otherwise; so the result is the state if it is sound
 module _ (bytes : List ℕ) (f : StateFields) (n : ℕ) (read : fields_at bytes ≡ Some (f, drop n bytes)) where
   either : (b : Bool) → is_sound (state_of f) ≡ b → state_at bytes ≡ option_map (λ s. (s, drop n bytes)) (cond b (Some (state_of f)) None)
   either true sound = rw (read, sound) refl

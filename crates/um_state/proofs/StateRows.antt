@@ -1,4 +1,4 @@
--- A row that is exchanged in both tables of a state is put into the state, and what stood there put back is the state as it was.
+-- A row exchanged in both tables of a state is put into the state; the old row put back restores the state.
 use Rattle.std.proofs.Common.{◌≡◌, ◌∙◌, ◌≤◌, ℕ, Bool, true, List, [], length, sym, ap, subst, arith}
 use Rattle.std.specs.FinMap as map
 use Rattle.um_model.specs.Jobs.{no_jobs, with_jobs}
@@ -60,7 +60,7 @@ rows_are s is_common common u p same n named units units_len sorted jobs jobs_le
       ascending = subst AreAscending (sym all) sorted;
     })
 
--- where no name has a number nothing is put
+-- if no name has a number, nothing is put
 pub row_nowhere : (r : Row) (s : Standing) → s.names ≡ [] → put_row r s ≡ s
 row_nowhere r s none =
     let past : length s.names ≤ r.number = let empty : length s.names ≡ 0 = ap length none in omega (arith, empty) in

@@ -1,4 +1,4 @@
--- What a list of rows in the order of their names says of a name, and what it says after a row is set.
+-- The value of a name in a list of rows in the order of their names, and its value after a row is set.
 use Rattle.std.proofs.Common.{◌≡◌, ◌≢◌, ◌∙◌, ◌<◌, ◌≤◌, ℕ, zero, suc, Bool, true, false, cond, List, [], ◌∷◌, length, set, get_or, nat_lt, refl, sym, ap, subst, inl, inr, arith}
 use Rattle.std.specs.Cmp.Lexicographic.{slice_cmp}
 use Rattle.std.specs.Ordering.{nat_cmp, eq_by_cmp}
@@ -38,7 +38,7 @@ module _ {A : Type 0} (nothing : A) (put : ByUnit A → List ℕ → A → ByUni
       differ : true ≡ false → ⊥
       differ e = cc
 
-  -- what stood there, put back, undoes a put
+  -- the old value, put back, undoes a put
   pub put_back : (m : ByUnit A) (k : List ℕ) (x y : A) → IsTidy nothing m → y ≡ look nothing m k → put (put m k x) k y ≡ m
   put_back m k x y t e = same_tidy nothing (put (put m k x) k y) m (puts.tidy (put m k x) k y (puts.tidy m k x t)) t (λ q.
       puts.after (put m k x) k y q ∙ (ap (cond (eq_by_cmp (slice_cmp nat_cmp) q k) y) (puts.after m k x q)
@@ -80,7 +80,7 @@ module _ {A : Type 0} (nothing : A) (put : ByUnit A → List ℕ → A → ByUni
   by_tidy (n ∷ ns) [] = tidy_empty nothing
   by_tidy (n ∷ ns) (r ∷ rows) = puts.tidy (by_names put ns rows) n r (by_tidy ns rows)
 
-  -- what is told of the name with a number
+  -- the value of the name with a number
   pub by_at : (names : List (List ℕ)) (rows : List A) → AreOnce names → (i : ℕ) → i < length names → look nothing (by_names put names rows) (name_at names i) ≡ get_or rows i nothing
   by_at [] rows once i h = absurd (omega arith)
   by_at (n ∷ ns) [] once i h = look_empty nothing (name_at (n ∷ ns) i)
@@ -121,7 +121,7 @@ module _ {A : Type 0} (nothing : A) (put : ByUnit A → List ℕ → A → ByUni
       let within : i < length names = omega (arith, l, h) in
       by_set names rows (names_once names sorted) l i x within ∙ sym (put_within names (by_names put names rows) i x within)
 
-  -- and what stood there, put back
+  -- and the old value, put back
   pub row_back : (names : List (List ℕ)) (rows : List A) → AreAscending names → length rows ≡ length names → (i : ℕ) (x y : A) → i < length rows → y ≡ get_or rows i nothing
       → put_at put names (by_names put names (set rows i x)) i y ≡ by_names put names rows
   row_back names rows sorted l i x y h e =

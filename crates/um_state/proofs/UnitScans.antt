@@ -1,4 +1,4 @@
--- What a walk over the entries of a map by names finds of all of them.
+-- A walk over the entries of a map by names finds a property of all of them.
 use Rattle.std.proofs.Common.{◌≡◌, ℕ, Bool, true, false, ◌&&◌, List, [], ◌∷◌, sym, ap, ◌∙◌}
 use Rattle.std.specs.BTreeMap as tree
 use Rattle.std.specs.BTreeMap.{BTreeMap}

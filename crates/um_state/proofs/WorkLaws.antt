@@ -85,7 +85,7 @@ units_tidy v b us js n seen = subst (λ (w : WorkView). AreTidyUnits w.now.state
 pub jobs_tidy : (v : WorkView) (b : Standing) (us : List UnitState) (js : List UnitJobs) (n : ℕ) → record { base = b; now = with_rows b us js n } ≡ v → AreTidyJobs v.now.state.pending
 jobs_tidy v b us js n seen = subst (λ (w : WorkView). AreTidyJobs w.now.state.pending) seen (by_tidy no_jobs with_jobs jobs_put_well b.names js)
 
--- what a row tells
+-- the contents of a row
 pub unit_row : (v : WorkView) (b : Standing) (us : List UnitState) (js : List UnitJobs) (n : ℕ) → record { base = b; now = with_rows b us js n } ≡ v → AreAscending b.names
     → (i : ℕ) → i < length v.now.names → get_or us i dead_unit ≡ state_of_unit v.now.state.units (name_at v.now.names i)
 unit_row v b us js n seen sorted i h =
@@ -178,7 +178,7 @@ module _ (s : Standing) (sorted : AreAscending s.names) (was : List UnitState) (
   abbrev SameAt : ℕ → Type 0
   SameAt i = (get_or was i dead_unit ≡ get_or units i dead_unit) × (get_or had i no_jobs ≡ get_or jobs i no_jobs)
 
-  -- what stands in the rows is what is told of the name
+  -- the value in the rows is the value of the name
   told_here : (i : ℕ) → i < length s.names → SameAt i → Same (name_at s.names i)
   told_here i h e = (
     by_at dead_unit with_unit units_put s.names was once i h ∙ (e.0 ∙ sym (by_at dead_unit with_unit units_put s.names units once i h)),

@@ -1,4 +1,4 @@
--- What comes in, by its tag, as the code reads it: the fields behind the moment.
+-- An event by its tag, as the code reads it: the fields after the moment.
 -- No manual page has it: it is the order in which the code reads an input.
 -- The code that reads inputs stands on this file.
 use Rattle.std.specs.Prelude.{ℕ, ◌-◌, nat_lt, List, [], ◌∷◌, if◌then◌else◌}
@@ -17,7 +17,7 @@ use Rattle.um_model.specs.declared.install.InstallVerb.TheVariants as install
 abbrev pub for_unit : UnitVerb → Decoder Command
 for_unit verb = as_at (λ f. ForUnit verb f.0 f.1) (pair_at unit_name_at (table_at modes))
 
--- enabling or its kin: the name of the unit
+-- enabling, disabling or the like: the name of the unit
 abbrev pub installs : InstallVerb → Decoder Command
 installs verb = as_at (λ unit. Install verb unit) unit_name_at
 
@@ -41,7 +41,7 @@ command_arms =
     ∷ installs install.Unmask
     ∷ []
 
--- the fields of what happens, by their tags from 15
+-- the fields of happenings, by their tags from 15
 abbrev pub happening_arms : List (Decoder Happening)
 happening_arms =
     as_at (λ f. ProcessEnded f.0 f.1) (pair_at (number_at 8) end_at)
@@ -50,10 +50,10 @@ happening_arms =
     ∷ as_at Booted boot_at
     ∷ []
 
--- the fields of what comes in, by its tag
+-- the fields of an event, by its tag
 abbrev pub event_at : ℕ → Decoder Event
 event_at tag = if nat_lt tag 15 then as_at Commanded (arm_in command_arms tag) else as_at Happened (arm_in happening_arms (tag - 15))
 
--- a moment, and behind it the fields of what comes in
+-- a moment, followed by the fields of the event
 abbrev pub timed_at : ℕ → Decoder Timed
 timed_at tag = pair_at moment_at (event_at tag)

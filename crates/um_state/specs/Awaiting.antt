@@ -1,5 +1,5 @@
 -- For which reports units wait, and when numbers leave none of these out.
--- Follows no manual page: it is how a report that nobody waits for is known without a look at any unit.
+-- Follows no manual page: it is how a report that no unit waits for is known without a look at any unit.
 -- The contracts of Awaited and of Units, and the ghost field of Units, cite it.
 use Rattle.std.specs.Prelude.{◌≡◌, ◌≢◌, ◌||◌, ℕ, Bool, true, if◌then◌else◌, List, Option, Some, None, is_some}
 use Rattle.um_model.specs.Ends.{waits_for_report}
@@ -28,6 +28,6 @@ may_have awaited number = awaited.is_partial || is_some (told awaited.live.list.
 abbrev pub Has : Awaited → ℕ → Type 0
 Has awaited number = may_have awaited number ≡ true
 
--- none is left out for whose report the unit of a row may wait
+-- no number is left out for whose report the unit of a row may wait
 abbrev pub HasAll : List UnitState → Awaited → Type 0
 HasAll rows awaited = (i number : ℕ) → awaited_by (row_at rows i) ≡ Some number → Has awaited number

@@ -1,4 +1,4 @@
--- What a list of rows, a moment and a next number make of a standing, and what takes them back.
+-- How a list of rows, a moment and a next number change a standing, and how they are taken back.
 -- Follows no manual page: it is how a step is taken without a copy of the state.
 -- The steps of the engine and the ways back stand on this file.
 use Rattle.um_model.specs.Standing.{Standing}

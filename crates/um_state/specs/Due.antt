@@ -1,6 +1,6 @@
 -- That no deadline of any unit is due.
 -- Follows no manual page: deadlines are the machine's own.
--- What a tick finds out before it copies anything stands on this file.
+-- The test that a tick makes before it copies anything stands on this file.
 use Rattle.std.specs.Prelude.{◌≡◌, ◌<◌, ℕ, Bool, true, nat_lt, List, Option, Some, None}
 use Rattle.std.specs.FinMap as map
 use Rattle.std.specs.List.{list_all}

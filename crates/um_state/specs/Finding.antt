@@ -13,15 +13,15 @@ use Rattle.um_state.specs.declared.live.Live.{Live}
 abbrev pub row_at : List UnitState → ℕ → UnitState
 row_at rows i = slice_index_or rows i dead_unit
 
--- unless numbers are left out, this row is told of the number
+-- unless numbers are left out, this row is recorded for the number
 abbrev pub Tells : Finder → ℕ → ℕ → Type 0
 Tells finder i number = finder.is_partial ≡ false → told finder.live.list.items number ≡ Some i
 
--- each row is told of the numbers of its live processes
+-- each row is recorded for the numbers of its live processes
 abbrev pub Finds : List UnitState → Finder → Type 0
 Finds rows finder = (i number : ℕ) → HasNumber (row_at rows i) number → Tells finder i number
 
--- the row that is told of the number has it still
+-- the row that is recorded for the number still has it
 abbrev pub IsTold : List UnitState → Live → ℕ → Type 0
 IsTold rows live number = (live.number ≡ number) × HasNumber (row_at rows live.row) number
 
@@ -33,7 +33,7 @@ IsHad rows number = (i : ℕ) × HasNumber (row_at rows i) number
 abbrev pub NoneHas : List UnitState → ℕ → Type 0
 NoneHas rows number = (i : ℕ) → ¬ HasNumber (row_at rows i) number
 
--- of the rows that have the number it is the first
+-- it is the first of the rows that have the number
 pub record IsFirstWith (rows : List UnitState) (number i : ℕ) : Type 0 where
   pub within : i < length rows
   pub has : HasNumber (row_at rows i) number

@@ -1,5 +1,5 @@
--- Rows of units of which few are others by now: those in a list, and by number where each stands in it.
--- Follows no manual page: it is how the rows of a step are had without a copy of them.
+-- Rows of units, few of which have changed: the changed ones in a list, and for each number its place in the list.
+-- Follows no manual page: it is how the rows of a step are held without a copy of all of them.
 -- The rows of units in work stand on this file.
 use Rattle.std.specs.Prelude.{◌≡◌, ◌<◌, ◌≤◌, ℕ, zero, suc, List, [], ◌∷◌, length, map, slice_index_or}
 use Rattle.um_model.specs.declared.service.UnitState.{UnitState}
@@ -15,7 +15,7 @@ pub record OverlayView : Type 0 where
 abbrev pub units_in : List ChangedRow → List UnitState
 units_in changed = map (λ (r : ChangedRow). r.unit) changed
 
--- where the row with this number stands in the list, and one; 0 where it is as it was
+-- where the row with this number stands in the list, plus one; 0 if the row hasn't changed
 abbrev pub place_at : List ℕ → ℕ → ℕ
 place_at places i = slice_index_or places i 0
 
@@ -30,13 +30,13 @@ laid_over [] places changed = []
 laid_over (row ∷ rows) [] changed = row ∷ rows
 laid_over (row ∷ rows) (place ∷ places) changed = row_placed row changed place ∷ laid_over rows places changed
 
--- of how many rows there is another in the list
+-- the number of rows for which another one is in the list
 abbrev pub placed : List ℕ → ℕ
 placed [] = 0
 placed (zero ∷ places) = placed places
 placed (suc k ∷ places) = suc (placed places)
 
--- of so many rows each that has a place has it alone, and there is room for the others
+-- in this number of rows, each row with a place has it alone, and there is room for the others
 pub record AreLaid (rows : ℕ) (places : List ℕ) (changed most : ℕ) : Type 0 where
   pub len : length places ≡ rows
   pub within : (i k : ℕ) → place_at places i ≡ suc k → k < changed

@@ -1,4 +1,4 @@
--- What a state with names holds after rows are put into it under their numbers.
+-- The contents of a state with names after rows are put into it under their numbers.
 -- Follows no manual page: numbers of names are this project's own.
 -- The calls of State by number stand on this file.
 use Rattle.std.specs.Prelude.{◌≡◌, ℕ, Bool, List, [], ◌∷◌, if◌then◌else◌}

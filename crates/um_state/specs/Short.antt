@@ -17,7 +17,7 @@ AreShort (model.Cancel unit) = ⊤
 AreShort (model.ResetFailed unit) = ⊤
 AreShort (model.Install verb unit) = ⊤
 
--- what happens has no such text
+-- a happening has no such text
 abbrev pub HasShortTexts : model.Event → Type 0
 HasShortTexts (model.Commanded command) = AreShort command
 HasShortTexts (model.Happened happening) = ⊤

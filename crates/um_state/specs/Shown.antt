@@ -1,4 +1,4 @@
--- A pending job and a known unit as the code tells them, as those of the definitions.
+-- A pending job and a known unit as the code shows them, as those of the definitions.
 use Rattle.um_model.specs.Jobs as model
 use Rattle.um_model.specs.Machine as machine
 use Rattle.um_state.specs.declared.reply.JobShown.{JobShown}

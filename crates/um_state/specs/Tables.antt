@@ -1,6 +1,6 @@
--- What is held of each of a list of names, in the order of the names; and the finite map that it stands for.
+-- The values of a list of names, in the order of the names, and the finite map that they stand for.
 -- Follows no manual page: it is how the code holds units and pending jobs.
--- The views of Units and Pending, and all that is put by number, stand on this file.
+-- The views of Units and Pending, and all puts by number, stand on this file.
 use Rattle.std.specs.Prelude.{ℕ, List, [], ◌∷◌, length, nat_lt, if◌then◌else◌}
 use Rattle.std.specs.FinMap as map
 use Rattle.um_model.specs.Jobs.{with_jobs}

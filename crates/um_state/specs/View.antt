@@ -44,7 +44,7 @@ event_of (event.Happened happening) = model.Happened (happening_of happening)
 abbrev pub input_of : Input → model.Input
 input_of i = record { profile = i.profile; moment = i.moment; event = event_of i.event }
 
--- a moment and what comes in at it
+-- a moment and the event at it
 abbrev pub timed_of : ℕ × Event → Timed
 timed_of t = (t.0, event_of t.1)
 

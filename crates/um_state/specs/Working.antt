@@ -1,6 +1,6 @@
--- The rows of a state in work, beside the standing that they come from; which rows differ, and how many units that are.
+-- The rows of a state in work, beside the standing they come from; which rows differ, and how many.
 -- Follows no manual page: numbers of names are this project's own.
--- Work, what changes by a step, and the count of what a step changes stand on this file.
+-- Work, the changes of a step, and the count of these stand on this file.
 use Rattle.std.specs.Prelude.{◌≡◌, ◌↔◌, ℕ, zero, suc, Bool, true, false, not, ◌&&◌, List, [], ◌∷◌, ◌++◌, length, Contains, slice_index_or, if◌then◌else◌}
 use Rattle.um_model.specs.Jobs.{jobs_of_unit, no_jobs}
 use Rattle.um_model.specs.Machine.{State}
@@ -26,7 +26,7 @@ pub record AreRowsOf (s : Standing) (n : Numbered) : Type 0 where
   pub jobs_len : length n.jobs.now ≡ length s.names
   pub ascending : AreAscending s.names
 
--- the standing from which the work began, and that to which it has come
+-- the standing from which the work began, and the one that it has reached
 pub record WorkView : Type 0 where
   pub base : Standing
   pub now : Standing
@@ -51,7 +51,7 @@ jobs_set s i j = record s { state = record s.state { pending = jobs_put s.names 
 abbrev pub next_set : Standing → ℕ → Standing
 next_set s next = record s { state = record s.state { next = next } }
 
--- the items from a number on, as many, whose number passes
+-- of as many items from a number on, those whose number passes
 abbrev pub picked : {X : Type 0} → (ℕ → Bool) → (ℕ → X) → ℕ → ℕ → List X
 picked test item k zero = []
 picked test item k (suc n) = (if test k then item k ∷ [] else []) ++ picked test item (suc k) n
@@ -71,7 +71,7 @@ pending_at jobs i = slice_index_or jobs i no_jobs
 abbrev pub mark_at : List Bool → ℕ → Bool
 mark_at marks i = slice_index_or marks i false
 
--- each row without a mark is as it was
+-- each row without a mark is unchanged
 pub record KeepUnmarked (marks : List Bool) (was : List UnitState) (had : List UnitJobs) (units : List UnitState) (jobs : List UnitJobs) : Type 0 where
   pub same_unit : (i : ℕ) → mark_at marks i ≡ false → row_at units i ≡ row_at was i
   pub same_jobs : (i : ℕ) → mark_at marks i ≡ false → pending_at jobs i ≡ pending_at had i
@@ -88,11 +88,11 @@ rows_at units jobs i = record { number = i; unit = row_at units i; jobs = pendin
 abbrev pub changed : List UnitState → List UnitJobs → List UnitState → List UnitJobs → ℕ → List Row
 changed was had units jobs n = picked (differ_at was had units jobs) (rows_at units jobs) 0 n
 
--- of the unit with this name one state holds another thing than the other
+-- the two states hold different things of the unit with this name
 abbrev pub Differs : State → State → List ℕ → Type 0
 Differs s t x = ¬ ((state_of_unit s.units x ≡ state_of_unit t.units x) × (jobs_of_unit s.pending x ≡ jobs_of_unit t.pending x))
 
--- so many are the units of which one state holds another thing than the other
+-- the two states hold different things of exactly this number of units
 pub record CountsDiffering (s t : State) (n : ℕ) : Type 0 where
   pub differing : List (List ℕ)
   pub count : length differing ≡ n

@@ -20,16 +20,16 @@ pub(crate) fn awaited_by(state: &UnitState) -> Option<ProcessNumber>
     }
 }
 
-/// The numbers of processes whose reports units may wait for. Some may be among them that no unit waits for any more.
+/// The numbers of processes whose reports units may wait for. It may include some that no unit waits for any more.
 #[derive(Drop)]
 pub(crate) struct Awaited {
     pub(crate) live: LiveRows,
-    /// There was no room for one, as there is in a run: any number may be one.
+    /// There was no room for one, so any number may be one. In a run there always is room.
     pub(crate) is_partial: bool,
 }
 
 impl Awaited {
-    /// None. It takes no memory.
+    /// No number. It takes no memory.
     pub(crate) fn new(alloc: Global) -> Awaited {
         Awaited {
             live: LiveRows::new(alloc),
@@ -44,7 +44,7 @@ impl Awaited {
         self.is_partial || self.live.row(number).is_some()
     }
 
-    /// Adds the number that the unit of a row that is to stand so may wait for. It takes no memory.
+    /// Adds the number that the row's unit may wait for when it stands so. It takes no memory.
     pub(crate) fn note(&mut self, row: usize, state: &UnitState)
         ensures keeps { (n : ℕ) → Has self.old n → Has self.new n }
         ensures has { (n : ℕ) → awaited_by state.now ≡ Some n → Has self.new n }
@@ -60,7 +60,7 @@ impl Awaited {
         }
     }
 
-    /// Lets the number go that a unit waited for, unless one waits for it still. It takes no memory.
+    /// Lets go of the number that a unit waited for, unless one still waits for it. It takes no memory.
     pub(crate) fn leave(&mut self, finder: &Finder, rows: &[UnitState], before: &UnitState)
         requires finds { Finds rows.now finder.now }
         requires all { HasAll rows.now self.old }
@@ -75,8 +75,8 @@ impl Awaited {
         self.live.remove(number.get());
     }
 
-    /// Those that the units of these rows may wait for. There is room for one of each, and for one more: a row's new one is noted before its old one
-    /// is left.
+    /// The numbers that the units of these rows may wait for. There is room for one of each row, and for one more: a row's new number is
+    /// noted before its old one is let go.
     pub(crate) fn of(alloc: Global, rows: &[UnitState]) -> Result<Awaited, AllocError>
         ensures { IfOk result (HasAll rows.now) }
     {

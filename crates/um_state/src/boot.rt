@@ -1,3 +1,5 @@
+//! The id of a boot.
+
 ghost use Rattle.std.specs.Prelude.{◌≡◌, ◌≤◌, ◌<◌, [], ℕ, List, length, string_bytes, IfOk, MatchOption};
 ghost use Rattle.um_model.specs.Bytes.{text_spelling};
 ghost use Rattle.um_model.specs.Machine.{boot_limit};
@@ -8,7 +10,7 @@ use std::alloc::{AllocError, Global};
 use std::marker::Model;
 use um_wire::{Canon, put_text, text_in_front};
 
-/// A boot's id has at most so many bytes.
+/// The greatest length of a boot's id, in bytes.
 const LIMIT: usize = 64;
 
 /// The id of a boot: a text of at most 64 bytes. The empty one is that of no boot.
@@ -26,7 +28,7 @@ impl Model for BootId {
 }
 
 impl BootId {
-    /// That of no boot. It takes no memory.
+    /// The id of no boot. It takes no memory.
     pub fn none(alloc: Global) -> BootId
         ensures { result ≡ [] }
     {
@@ -35,7 +37,7 @@ impl BootId {
         }
     }
 
-    /// The id that the text is; none of more than 64 bytes.
+    /// The id with this text; None if that has more than 64 bytes.
     pub fn new(text: String) -> Option<BootId>
         ensures { MatchOption result (boot_limit < length (string_bytes text)) (λ b. b ≡ string_bytes text) }
     {
@@ -45,7 +47,7 @@ impl BootId {
         Some(BootId { text })
     }
 
-    /// Its text.
+    /// The id's text; empty for the id of no boot.
     pub fn as_str(&self) -> &str
         ensures text { result.now ≡ self.now }
         ensures short { length self.now ≤ boot_limit }
@@ -53,7 +55,7 @@ impl BootId {
         self.text.as_str()
     }
 
-    /// The same id again.
+    /// A copy of the id.
     pub fn copy(&self) -> Result<BootId, AllocError>
         ensures { IfOk result (λ b. b ≡ self.now) }
     {

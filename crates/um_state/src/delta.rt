@@ -1,4 +1,4 @@
-//! What changes by a step, row by row, and the way back.
+//! The changes of a step, row by row, and the way back.
 
 ghost use Rattle.std.specs.Prelude.{◌≡◌, IfOk, vec_len};
 ghost use Rattle.um_state.specs.Deltas.{delta_after, delta_before};
@@ -12,7 +12,7 @@ use crate::work::Work;
 use std::alloc::{AllocError, Global};
 use um_model::{Moment, NextNumber};
 
-/// What changes of a state: the rows that differ, the moment and the next process number.
+/// The changes of a state: the rows that differ, the moment and the next process number.
 #[derive(Drop)]
 pub struct Delta {
     rows: Vec<Row>,
@@ -31,7 +31,7 @@ fn swap_rows(state: &mut State, rows: &mut [Row])
 }
 
 impl Delta {
-    /// What leads from where the work began to where it has come, at that moment.
+    /// The delta from the beginning of the work to its present rows, at that moment.
     pub fn of(alloc: Global, work: &Work<'_>, clock: Moment) -> Result<Delta, AllocError>
         ensures after { IfOk result (λ d. delta_after d work.now.base ≡ timed clock (state_of work.now.now).next work.now.now) }
         ensures count { IfOk result (λ d. CountsDiffering (state_of work.now.base) (state_of (delta_after d work.now.base)) (vec_len d.rows)) }
@@ -41,21 +41,21 @@ impl Delta {
         Ok(Delta { rows, clock, next })
     }
 
-    /// In how many rows it differs.
+    /// The number of rows that differ.
     pub fn len(&self) -> usize
         ensures { result ≡ vec_len self.now.rows }
     {
         self.rows.len()
     }
 
-    /// The rows that differ.
+    /// The rows, one for each unit that differs.
     pub fn rows(&self) -> &[Row]
         ensures { result.now ≡ self.now.rows.items }
     {
         self.rows.as_slice()
     }
 
-    /// Exchanges the delta for what the state has in its place: that is the way back. It takes no memory, and always succeeds.
+    /// Exchanges its rows, moment and next number for those of the state, which are the way back. It takes no memory, and always succeeds.
     pub fn swap(&mut self, state: &mut State)
         ensures state { state.new ≡ delta_after self.old state.old }
         ensures back { delta_before self.new state.new ≡ state.old }

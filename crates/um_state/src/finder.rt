@@ -1,4 +1,4 @@
-//! Which row a number is of, found without a look at all rows.
+//! The row that has a process number, found without a look at all rows.
 
 ghost use Rattle.std.specs.Prelude.{◌≡◌, ◌⊎◌, ◌↔◌, ℕ, [], true, false, Some, None, Contains, IfOk, MatchOption, OnOk};
 ghost use Rattle.um_model.specs.Transitions.{HasNumber};
@@ -33,7 +33,7 @@ pub(crate) fn first_with(rows: &[UnitState], number: u64) -> Option<usize>
     None
 }
 
-/// The row, where it has the number.
+/// The row, if it has the number.
 fn row_with(rows: &[UnitState], row: usize, number: u64) -> Option<usize>
     ensures { MatchOption result (¬ HasNumber (row_at rows.now row) number) (λ i. (i ≡ row) × HasNumber (row_at rows.now row) number) }
 {
@@ -44,7 +44,7 @@ fn row_with(rows: &[UnitState], row: usize, number: u64) -> Option<usize>
     }
 }
 
-/// The process of a unit that stands so which has the number.
+/// The process with the number of a unit that stands so.
 fn process_with(state: UnitState, number: u64) -> Option<ProcessNumber>
     ensures { MatchOption result (¬ HasNumber state number) (λ n. (n ≡ number) × HasNumber state number) }
 {
@@ -61,7 +61,7 @@ fn process_with(state: UnitState, number: u64) -> Option<ProcessNumber>
     None
 }
 
-/// Adds the number behind the others, where its row has it still.
+/// Appends the number if its row still has it.
 fn push_live(
     numbers: &mut Vec<ProcessNumber>,
     rows: &[UnitState],
@@ -75,16 +75,17 @@ fn push_live(
     Ok(())
 }
 
-/// The row of each live number. What is told of a number that no row has any more may stay.
+/// The row of each live number. An entry for a number that no row has any more may stay.
 #[derive(Drop)]
 pub(crate) struct Finder {
     pub(crate) live: LiveRows,
-    /// Numbers are left out: two units had one, or there was no room for one; neither is so in a run. The rows are looked through.
+    /// Numbers are left out: two units had the same one, or there was no room for one. Neither happens in a run. All rows are looked
+    /// through then.
     pub(crate) is_partial: bool,
 }
 
 impl Finder {
-    /// That of no row. It takes no memory.
+    /// The finder of no row. It takes no memory.
     pub(crate) fn new(alloc: Global) -> Finder
         ensures { result.live.list.items ≡ [] }
     {
@@ -94,7 +95,8 @@ impl Finder {
         }
     }
 
-    /// Adds the row of a number. Where another one is told of it, or there is no room, all rows are looked through from now on. It takes no memory.
+    /// Adds the row of a number. If the number has another row, or there is no room, all rows are looked through from now on. It takes no
+    /// memory.
     fn add_number(&mut self, row: usize, number: Option<ProcessNumber>)
         ensures keeps { (other n : ℕ) → Tells self.old other n → Tells self.new other n }
         ensures told { (n : ℕ) → number ≡ Some n → Tells self.new row n }
@@ -125,7 +127,7 @@ impl Finder {
         self.add_number(row, state.control);
     }
 
-    /// Whether a row is told of the number that hasn't it.
+    /// Whether the number is recorded for a row that doesn't have it.
     fn is_over(&self, rows: &[UnitState], number: u64) -> bool
         ensures over { result ≡ true → (i : ℕ) → told self.now.live.list.items number ≡ Some i → ¬ HasNumber (row_at rows.now i) number }
         ensures held { result ≡ false → (i : ℕ) → told self.now.live.list.items number ≡ Some i → HasNumber (row_at rows.now i) number }
@@ -136,7 +138,7 @@ impl Finder {
         }
     }
 
-    /// Lets a number go that its row hasn't any more. It takes no memory.
+    /// Lets go of a number that its row no longer has. It takes no memory.
     fn let_go(&mut self, rows: &[UnitState], number: Option<ProcessNumber>)
         requires { Finds rows.now self.old }
         ensures finds { Finds rows.now self.new }
@@ -150,7 +152,7 @@ impl Finder {
         }
     }
 
-    /// Notes the numbers of a row that is to stand so, once those are let go that another one may have left. It takes no memory.
+    /// Notes the numbers of a row that is to stand so, after letting go of those that another row may have left. It takes no memory.
     pub(crate) fn note(&mut self, rows: &[UnitState], row: usize, state: &UnitState)
         requires { Finds rows.now self.old }
         ensures finds { Finds rows.now self.new }
@@ -161,7 +163,7 @@ impl Finder {
         self.add(row, state);
     }
 
-    /// Lets the numbers go that a row had, but those that it has still. It takes no memory.
+    /// Lets go of the numbers that a row had, other than those that it still has. It takes no memory.
     pub(crate) fn leave(&mut self, rows: &[UnitState], before: &UnitState)
         requires { Finds rows.now self.old }
         ensures finds { Finds rows.now self.new }
@@ -199,7 +201,7 @@ impl Finder {
         }
     }
 
-    /// The numbers that rows have, where none is left out. It looks at no row that is told of none.
+    /// The numbers that rows have, if none is left out. It looks only at recorded rows.
     pub(crate) fn numbers(
         &self,
         alloc: Global,
@@ -216,7 +218,8 @@ impl Finder {
         Ok(numbers)
     }
 
-    /// That of these rows. There is room for the two numbers of each, and for two more: a row's new ones are noted before its old ones are left.
+    /// The finder of these rows. There is room for the two numbers of each, and for two more: a row's new ones are noted before its old
+    /// ones are let go.
     pub(crate) fn of(alloc: Global, rows: &[UnitState]) -> Result<Finder, AllocError>
         ensures { IfOk result (Finds rows.now) }
     {

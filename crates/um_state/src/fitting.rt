@@ -1,4 +1,4 @@
-//! Each input that can be made has a spelling: its parts are of types that keep what a spelling asks for. These functions only look.
+//! Each input that can be made has a spelling: the types of its parts keep the bounds that a spelling needs. These functions only look.
 ghost use Rattle.std.specs.Prelude.{◌<◌, ◌^◌};
 ghost use Rattle.um_model.specs.Bytes.{FitText};
 ghost use Rattle.um_model.specs.InputSpellings.{FitCommand, FitEvent, FitHappening};
@@ -90,7 +90,7 @@ fn happening_fits(happening: &Happening)
     }
 }
 
-/// What comes in has a spelling, where its texts have fewer than 2^32 bytes.
+/// An event has a spelling if its texts have fewer than 2^32 bytes.
 pub(crate) fn event_fits(event: &Event)
     ensures { HasShortTexts (event_of event.now) → FitEvent (event_of event.now) }
 {

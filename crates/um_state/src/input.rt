@@ -1,3 +1,5 @@
+//! The inputs: commands and happenings; and the queries.
+
 ghost use Rattle.std.specs.Prelude.{◌≡◌};
 ghost use Rattle.um_model.specs.Machine as model;
 ghost use Rattle.um_model.specs.Profiles.{current};
@@ -6,7 +8,7 @@ use crate::boot::BootId;
 use um_model::{End, InstallVerb, JobMode, Moment, Profile, UnitVerb};
 use um_name::UnitName;
 
-/// What is asked of the manager, and may be refused.
+/// A command to the manager, which may be refused.
 #[derive(Debug, Drop)]
 pub enum Command {
     /// Put the text into the tree as the file at the path.
@@ -19,7 +21,7 @@ pub enum Command {
         path: String,
         target: String,
     },
-    /// Remove what stands in the tree at the path.
+    /// Remove the entry at the path in the tree.
     Remove {
         path: String,
     },
@@ -35,31 +37,31 @@ pub enum Command {
     Cancel {
         unit: UnitName,
     },
-    /// Forget that the unit failed, or of all units that they did (systemctl(1), `reset-failed`).
+    /// Forget that the unit failed, or that any unit did (systemctl(1), `reset-failed`).
     ResetFailed {
         unit: Option<UnitName>,
     },
-    /// Enable the unit, disable, mask or unmask it (systemctl(1)), and load the tree that comes of it.
+    /// Enable the unit, disable, mask or unmask it (systemctl(1)), and load the resulting tree.
     Install {
         verb: InstallVerb,
         unit: UnitName,
     },
 }
 
-/// What happens to the manager, and is never refused.
+/// An event that happens to the manager, and is never refused.
 #[derive(Debug, Drop)]
 pub enum Happening {
-    /// The process of this number ended. A number that no live process has is no fault: it has no effect.
+    /// The process of this number ended. If no live process has the number, this has no effect and is no error.
     ProcessEnded { number: u64, end: End },
-    /// The program of the process of this number runs. Where no unit waits for that it has no effect.
+    /// The program of the process of this number runs. If no unit waits for that, this has no effect.
     ProcessExecuted { number: u64 },
     /// Time has passed.
     Tick,
-    /// The machine was booted. The id of the boot that the state knows has no effect.
+    /// The machine was booted. If the state has this boot's id, this has no effect.
     Booted { boot: BootId },
 }
 
-/// What comes in.
+/// A command or a happening.
 #[derive(Debug, Drop)]
 pub enum Event {
     Commanded(Command),
@@ -88,21 +90,21 @@ impl Input {
         }
     }
 
-    /// Its profile.
+    /// The profile by which the tree in hand is read for the input.
     pub fn profile(&self) -> Profile
         ensures { result ≡ (input_of self.now).profile }
     {
         self.profile
     }
 
-    /// Its moment.
+    /// The moment of the input.
     pub fn moment(&self) -> Moment
         ensures { result ≡ (input_of self.now).moment }
     {
         self.moment
     }
 
-    /// What comes in.
+    /// The input's command or happening.
     pub fn event(&self) -> &Event
         ensures { event_of result.now ≡ (input_of self.now).event }
     {
@@ -110,14 +112,14 @@ impl Input {
     }
 }
 
-/// What is asked of the manager and changes nothing.
+/// A question to the manager, which changes nothing.
 #[derive(Drop)]
 pub enum Query {
     /// How a unit stands (systemctl(1), `show`).
     Show { unit: UnitName },
     /// Its active state (systemctl(1), `is-active`).
     IsActive { unit: UnitName },
-    /// The same, asked whether it failed (systemctl(1), `is-failed`).
+    /// Its active state, to see whether it failed (systemctl(1), `is-failed`).
     IsFailed { unit: UnitName },
     /// Its files in the tree in hand (systemctl(1), `cat`).
     Cat { unit: UnitName },

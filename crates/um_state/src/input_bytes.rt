@@ -1,4 +1,4 @@
-//! The canonical bytes of inputs: the profile, a tag, the moment, and the fields of what comes in.
+//! The canonical bytes of inputs: the profile, a tag, the moment, and the fields of the event.
 ghost use Rattle.std.specs.Prelude.{◌≡◌, ◌≤◌, ◌++◌, ℕ, length, drop, IfOk, IfSome, OnOk, OnErr};
 ghost use Rattle.std.specs.Option.{option_map};
 ghost use Rattle.um_model.specs.Bytes.{IsInFront, arm_in, as_at, pair_at, table_at};
@@ -29,7 +29,7 @@ fn verb_tag(verb: UnitVerb) -> u8
     }
 }
 
-/// The tag of enabling or its kin.
+/// The tag of enabling, disabling or the like.
 fn install_tag(verb: InstallVerb) -> u8
     ensures { result ≡ install_tag verb }
 {
@@ -57,7 +57,7 @@ impl Command {
         }
     }
 
-    /// Puts the fields behind what is there.
+    /// Appends the fields of the command, without its tag.
     fn put_fields(&self, out: &mut Vec<u8>) -> Result<(), AllocError>
         ensures put { OnOk result (out.new.items ≡ out.old.items ++ command_fields (command_of self.now)) }
         ensures fits { OnOk result (FitCommand (command_of self.now)) }
@@ -97,7 +97,7 @@ impl Happening {
         }
     }
 
-    /// Puts the fields behind what is there.
+    /// Appends the fields of the happening, without its tag.
     fn put_fields(&self, out: &mut Vec<u8>) -> Result<(), AllocError>
         ensures put { OnOk result (out.new.items ≡ out.old.items ++ happening_fields (happening_of self.now)) }
         ensures fits { OnOk result (FitHappening (happening_of self.now)) }
@@ -125,7 +125,7 @@ impl Event {
         }
     }
 
-    /// Puts the fields behind what is there.
+    /// Appends the fields of the event, without its tag.
     fn put_fields(&self, out: &mut Vec<u8>) -> Result<(), AllocError>
         ensures put { OnOk result (out.new.items ≡ out.old.items ++ event_fields (event_of self.now)) }
         ensures fits { OnOk result (FitEvent (event_of self.now)) }
@@ -236,7 +236,7 @@ fn happening_in(
     }
 }
 
-/// What comes in with this tag and has its fields in front of the bytes.
+/// The event with this tag that has its fields in front of the bytes.
 fn event_in(alloc: Global, tag: u8, bytes: &[u8]) -> Result<Option<(Event, usize)>, AllocError>
     ensures read { IfOk result (λ found. event_at tag bytes.now ≡ option_map (λ x. (event_of x.0, drop x.1 bytes.now)) found) }
     ensures within { IfOk result (λ found. IfSome found (λ x. x.1 ≤ length bytes.now)) }
@@ -254,7 +254,7 @@ fn event_in(alloc: Global, tag: u8, bytes: &[u8]) -> Result<Option<(Event, usize
     }
 }
 
-/// The moment and what comes in with this tag, where the moment and the fields stand in front of the bytes.
+/// The moment and the event with this tag, if the moment and the fields stand in front of the bytes.
 fn timed_in(
     alloc: Global,
     tag: u8,

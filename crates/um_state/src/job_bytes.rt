@@ -1,4 +1,4 @@
-//! The canonical bytes of pending jobs: a list, by ascending names of their units, of one unit the stop job first.
+//! The canonical bytes of pending jobs: a list, by ascending names of their units, with a unit's stop job first.
 ghost use Rattle.std.specs.Prelude.{◌≡◌, map, IfOk};
 ghost use Rattle.std.specs.Cmp.Lexicographic.{slice_cmp};
 ghost use Rattle.std.specs.FinMap as maps;
@@ -21,7 +21,7 @@ use um_model::{JobKind, JobState, UnitJobs};
 use um_name::UnitName;
 use um_wire::{Canon, Tagged};
 
-/// The name of its unit, what it does, and how far it is.
+/// The name of its unit, its kind, and how far it is.
 impl Canon for JobShown {
     ghost Value = { model.JobShown };
 

@@ -1,3 +1,5 @@
+//! Theorems about the spelling of states and inputs.
+
 ghost use Rattle.std.specs.Prelude.{◌≡◌, ◌≢◌, ◌≤◌, ◌++◌, ℕ, List, Some, None, length};
 ghost use Rattle.std.specs.List.{AllByRecursion};
 ghost use Rattle.um_model.specs.Bytes.{IsBytes};
@@ -20,13 +22,13 @@ ghost use Rattle.um_state.specs.View.{input_of};
 use crate::fitting::{event_fits, moment_fits};
 use crate::input::Input;
 
-/// Units that are tidy are the same where each stands the same.
+/// Units that are tidy are the same if each stands the same.
 pub fn units_are_told_apart_by_look_ups()
     ensures { (a b : ByUnit UnitState) → AreTidyUnits a → AreTidyUnits b
         → ((unit : List ℕ) → state_of_unit a unit ≡ state_of_unit b unit) → a ≡ b }
 {}
 
-/// Pending jobs that are tidy are the same where each unit has the same.
+/// Pending jobs that are tidy are the same if each unit has the same.
 pub fn pending_jobs_are_told_apart_by_look_ups()
     ensures { (a b : ByUnit UnitJobs) → AreTidyJobs a → AreTidyJobs b
         → ((unit : List ℕ) → jobs_of_unit a unit ≡ jobs_of_unit b unit) → a ≡ b }
@@ -43,7 +45,7 @@ pub fn a_state_that_is_read_is_spelled_so()
         → (bytes ≡ state_spelling s ++ rest) × FitState s }
 {}
 
-/// There is no reading only where no front of the bytes spells a state.
+/// If no state is read, then no front of the bytes spells one.
 pub fn no_state_is_read_only_where_none_is()
     ensures { (bytes : List ℕ) → state_at bytes ≡ None → (s : model.State) (rest : List ℕ) → FitState s
         → bytes ≡ state_spelling s ++ rest → ⊥ }
@@ -66,15 +68,15 @@ pub fn each_state_of_a_run_has_a_spelling()
         → AllByRecursion FitInput inputs → Run size s inputs t → FitState t }
 {}
 
-/// It has at most as many bytes as the state weighs.
+/// The spelling of such a state of a run has at most as many bytes as the state weighs.
 pub fn no_spelling_of_a_run_is_longer_than_the_weight()
     ensures { (size : ℕ) (s : model.State) (inputs : List model.Input) (t : model.State) (units : ℕ) → IsBlank s → FitState s
         → AllByRecursion FitInput inputs → Run size s inputs t → CountsFor t.loaded (IsHeld t) units
         → length (state_spelling t) ≤ weight_of t.tree t.loaded.entries units }
 {}
 
-/// Each input that can be made has a spelling, where its texts have fewer than 2^32 bytes. It only looks at the input, since its types
-/// keep what the spelling asks for.
+/// Each input that can be made has a spelling, if its texts have fewer than 2^32 bytes. The function only looks at the input: its types
+/// keep the bounds that the spelling needs.
 pub fn each_input_has_a_spelling(input: &Input)
     ensures { HasShortTexts (input_of input.now).event → FitInput (input_of input.now) }
 {
@@ -82,7 +84,7 @@ pub fn each_input_has_a_spelling(input: &Input)
     event_fits(&input.event);
 }
 
-/// An input that is accepted after such a run has at most 66,078 bytes.
+/// An input that is accepted after a run from a state that has a spelling and in which nothing is held has at most 66,078 bytes.
 pub fn an_accepted_input_is_short()
     ensures { (size : ℕ) (s : model.State) (inputs : List model.Input) (t u : model.State) (input : model.Input) (reply : model.Reply)
         (actions : List Action) → IsBlank s → FitState s → AllByRecursion FitInput inputs → FitInput input → Run size s inputs t

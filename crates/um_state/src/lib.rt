@@ -1,4 +1,4 @@
-//! What comes into the manager, what it answers and asks for, and its state, each seen as the value of the definitions.
+//! The manager's inputs, replies, actions and state, each with its view as a value of the definitions.
 #![tactic(auto)]
 
 mod awaited;

@@ -12,7 +12,7 @@ pub(crate) struct Live {
     pub(crate) row: usize,
 }
 
-/// How many of them have a lower number. It halves the list, so it takes no longer than that.
+/// The number of entries with a lower number. It halves the list at each step, so its time is logarithmic in the length.
 fn lower_than(list: &[Live], number: u64) -> usize
     requires { IsRising list.now }
     ensures within { result ≤ length list.now }
@@ -32,7 +32,7 @@ fn lower_than(list: &[Live], number: u64) -> usize
     low
 }
 
-/// Where the number stands.
+/// The place of the number.
 fn place_of(list: &[Live], number: u64) -> Option<usize>
     requires { IsRising list.now }
     ensures { MatchOption result (told list.now number ≡ None) (StandsAt list.now number) }
@@ -45,7 +45,7 @@ fn place_of(list: &[Live], number: u64) -> Option<usize>
     }
 }
 
-/// The rows of live numbers, of each number one.
+/// The rows of live numbers, each number once.
 #[derive(Drop)]
 pub(crate) struct LiveRows {
     pub(crate) list: Vec<Live>,
@@ -53,7 +53,7 @@ pub(crate) struct LiveRows {
 }
 
 impl LiveRows {
-    /// None, and room for none. It takes no memory.
+    /// No entry, and room for none. It takes no memory.
     pub(crate) fn new(alloc: Global) -> LiveRows
         ensures { result.list.items ≡ [] }
     {
@@ -62,7 +62,7 @@ impl LiveRows {
         }
     }
 
-    /// None, with room for so many.
+    /// No entry, with room for `room` of them.
     pub(crate) fn with_room(alloc: Global, room: usize) -> Result<LiveRows, AllocError>
         ensures none { IfOk result (λ live. live.list.items ≡ []) }
         ensures room { IfOk result (λ live. vec_capacity live.list ≡ room) }
@@ -81,7 +81,7 @@ impl LiveRows {
         }
     }
 
-    /// Adds the row of a number that has none, where there is room, and tells whether there was. It takes no memory.
+    /// Adds the row of a number that has none, if there is room, and returns whether there was. It takes no memory.
     pub(crate) fn add(&mut self, number: u64, row: usize) -> bool
         requires { told self.old.list.items number ≡ None }
         ensures others { (n : ℕ) → n ≢ number → told self.new.list.items n ≡ told self.old.list.items n }
@@ -99,7 +99,7 @@ impl LiveRows {
         }
     }
 
-    /// Lets the number go. It takes no memory.
+    /// Lets go of the number. It takes no memory.
     pub(crate) fn remove(&mut self, number: u64)
         ensures others { (n : ℕ) → n ≢ number → told self.new.list.items n ≡ told self.old.list.items n }
         ensures gone { told self.new.list.items number ≡ None }

@@ -12,7 +12,7 @@ use std::collections::BTreeMap;
 use um_model::{UnitJobs, UnitState};
 use um_name::UnitName;
 
-/// Adds the names behind the others, ascending.
+/// Appends the names, ascending.
 pub(crate) fn push_keys<V>(
     names: &mut Vec<UnitName>,
     entries: &BTreeMap<UnitName, V>,
@@ -45,7 +45,7 @@ pub(crate) fn jobs_in(entries: &BTreeMap<UnitName, UnitJobs>, unit: &UnitName) -
     }
 }
 
-/// Puts in how the unit stands; a dead one of which nothing is known isn't held. Where memory is refused, all is as before.
+/// Puts in how the unit stands; a dead unit of which nothing is known isn't held. If memory is refused, all is as before.
 pub(crate) fn hold(
     entries: &mut BTreeMap<UnitName, UnitState>,
     unit: &UnitName,
@@ -62,7 +62,7 @@ pub(crate) fn hold(
     Ok(())
 }
 
-/// Puts in the pending jobs of the unit; one without a job isn't held. Where memory is refused, all is as before.
+/// Puts in the pending jobs of the unit; a unit without a job isn't held. If memory is refused, all is as before.
 pub(crate) fn hold_jobs(
     entries: &mut BTreeMap<UnitName, UnitJobs>,
     unit: &UnitName,

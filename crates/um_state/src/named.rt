@@ -1,4 +1,4 @@
-//! Names with one more.
+//! Lists of names, and one with a name more.
 
 ghost use Rattle.std.specs.Prelude.{◌≡◌, ◌≢◌, ℕ, List, IfOk};
 ghost use Rattle.um_name.specs.Names.{IsApart};
@@ -20,7 +20,7 @@ fn listed(alloc: Global, names: &Names) -> Result<Vec<UnitName>, AllocError>
     Ok(listed)
 }
 
-/// The names, and the unit's.
+/// The names, with the unit's added.
 pub(crate) fn names_with(alloc: Global, names: &Names, unit: &UnitName) -> Result<Names, AllocError>
     ensures { IfOk result (λ more. (x : List ℕ) → IsApart more x → IsApart names.now x × (x ≢ unit.now)) }
 {

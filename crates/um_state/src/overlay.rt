@@ -1,4 +1,4 @@
-//! Rows of units of which few are changed, and the others not copied.
+//! Rows of units, few of which are changed; the others aren't copied.
 
 ghost use Rattle.std.specs.Prelude.{◌≡◌, ◌+◌, ◌<◌, ◌++◌, ◌∷◌, [], not, length, vec_len, vec_capacity, set as with_item, IfOk, MatchOption};
 ghost use Rattle.std.specs.Coded.{codes};
@@ -11,13 +11,13 @@ use std::alloc::{AllocError, Global};
 use std::marker::Model;
 use um_model::UnitState;
 
-/// A row in the place of one that was. It is a type of its own because the prover can't follow a list of bare states that grows.
+/// A row in the place of an old one. It is a type of its own because the prover can't follow a growing list of bare states.
 #[derive(Clone, Copy)]
 struct ChangedRow {
     unit: UnitState,
 }
 
-/// Where the row with this number stands among the changed ones; None where it is as it was.
+/// The place of the row with this number among the changed ones; None if the row hasn't changed.
 fn place_in(places: &[usize], i: usize) -> Option<usize>
     ensures { MatchOption result (place_at places.now i ≡ 0) (λ k. place_at places.now i ≡ k + 1) }
 {
@@ -27,7 +27,7 @@ fn place_in(places: &[usize], i: usize) -> Option<usize>
     }
 }
 
-/// How the unit stands of which the row stands there; past the last one it is dead.
+/// How the unit of the row at this place stands; past the last one it is dead.
 fn unit_in(changed: &[ChangedRow], place: usize) -> UnitState
     ensures { result ≡ row_at (units_in changed.now) place }
 {
@@ -37,7 +37,7 @@ fn unit_in(changed: &[ChangedRow], place: usize) -> UnitState
     }
 }
 
-/// Sets the row that stands there.
+/// Sets the row at this place.
 fn set_again(changed: &mut Vec<ChangedRow>, place: usize, unit: UnitState)
     requires { place < vec_len changed.old }
     ensures items { units_in changed.new.items ≡ with_item (units_in changed.old.items) place unit }
@@ -47,7 +47,7 @@ fn set_again(changed: &mut Vec<ChangedRow>, place: usize, unit: UnitState)
     changed[place] = ChangedRow { unit };
 }
 
-/// Adds a row behind the others, for which there is room.
+/// Appends a row, for which there is room.
 fn add_last(changed: &mut Vec<ChangedRow>, unit: UnitState)
     requires { vec_len changed.old < vec_capacity changed.old }
     ensures items { units_in changed.new.items ≡ units_in changed.old.items ++ unit ∷ [] }
@@ -57,7 +57,7 @@ fn add_last(changed: &mut Vec<ChangedRow>, unit: UnitState)
     changed.push_reserved(ChangedRow { unit });
 }
 
-/// Gives the row with this number a place behind the changed ones.
+/// Gives the row with this number a place after the changed ones.
 fn set_first(places: &mut Vec<usize>, changed: &mut Vec<ChangedRow>, i: usize, unit: UnitState)
     requires within { i < vec_len places.old }
     requires room { vec_len changed.old < vec_capacity changed.old }
@@ -70,13 +70,13 @@ fn set_first(places: &mut Vec<usize>, changed: &mut Vec<ChangedRow>, i: usize, u
     places[i] = changed.len();
 }
 
-/// Rows of units, some of them changed by now.
+/// Rows of units, some of them changed.
 #[derive(Drop)]
 pub(crate) struct Overlay<'s> {
     rows: &'s [UnitState],
-    /// By number: where the row stands among the changed ones, and one; 0 where it is as it was.
+    /// By number: the place of the row among the changed ones, plus one; 0 if it hasn't changed.
     places: Vec<usize>,
-    /// It has room for all rows. Of memory that isn't used yet no page is touched.
+    /// It has room for all rows. No page of unused memory is touched.
     changed: Vec<ChangedRow>,
 }
 
@@ -105,7 +105,7 @@ impl<'s> Overlay<'s> {
         })
     }
 
-    /// How many rows there are.
+    /// The number of rows.
     pub(crate) fn len(&self) -> usize
         ensures { result ≡ length self.now.now }
     {
@@ -122,7 +122,7 @@ impl<'s> Overlay<'s> {
         }
     }
 
-    /// Whether the row with this number differs from what it was.
+    /// Whether the row with this number differs from the old one.
     pub(crate) fn is_changed(&self, i: usize) -> bool
         ensures { result ≡ not (is_same_unit (row_at self.now.was i) (row_at self.now.now i)) }
     {

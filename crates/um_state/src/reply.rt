@@ -1,3 +1,5 @@
+//! The replies to commands and queries.
+
 use std::rc::Rc;
 use um_model::{ActiveState, Enabling, JobKind, JobState, LoadState, SubState, UnitState};
 use um_name::UnitName;
@@ -6,27 +8,27 @@ use um_service::Action;
 use um_unit::FileWarnings;
 use um_wire::Refusal;
 
-/// A unit as `show` tells it.
+/// A unit as `show` reports it.
 #[derive(Debug, Drop)]
 pub struct UnitShown {
-    /// The name that counts for the one that was asked for, or that one itself where it leads nowhere.
+    /// The name that counts for the requested one, or the requested one itself if it leads nowhere.
     pub id: String,
     pub load: LoadState,
-    /// Empty where the unit isn't loaded.
+    /// Empty if the unit isn't loaded.
     pub description: String,
-    /// None where the unit isn't loaded. They are the loaded unit's own.
+    /// None if the unit isn't loaded. They are the loaded unit's own.
     pub warnings: Rc<Vec<FileWarnings>>,
     pub state: UnitState,
 }
 
-/// A known unit as `list-units` tells it.
+/// A known unit as `list-units` reports it.
 #[derive(Debug, Drop)]
 pub struct UnitListed {
     pub unit: UnitName,
     pub sub: SubState,
 }
 
-/// A pending job as `list-jobs` tells it.
+/// A pending job as `list-jobs` reports it.
 #[derive(Debug, Drop)]
 pub struct JobShown {
     pub unit: UnitName,
@@ -34,7 +36,7 @@ pub struct JobShown {
     pub state: JobState,
 }
 
-/// What is answered.
+/// The reply to a command or a query.
 #[derive(Debug, Drop)]
 pub enum Reply {
     Done,
@@ -44,7 +46,7 @@ pub enum Reply {
     Activity(ActiveState),
     /// The files of a unit, its own and then its drop-ins.
     Files(Vec<UnitFile>),
-    /// The paths at which links were made, and those at which they were removed, each ascending.
+    /// The paths at which links were made, and those at which links were removed, each list ascending.
     Relinked {
         made: Vec<String>,
         removed: Vec<String>,
@@ -53,9 +55,9 @@ pub enum Reply {
     EnabledAs(Enabling),
     /// The known units in the order of their names.
     Listed(Vec<UnitListed>),
-    /// The pending jobs in the order of the names of their units, of one unit the stop job first.
+    /// The pending jobs in the order of the names of their units, a unit's stop job first.
     Jobs(Vec<JobShown>),
-    /// The actions since they were last asked for.
+    /// The actions since the last such reply.
     Told(Vec<Action>),
     Refused(Refusal),
 }

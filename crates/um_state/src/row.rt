@@ -1,3 +1,5 @@
+//! A row of a state: one unit and its pending jobs.
+
 use um_model::{UnitJobs, UnitState};
 use um_name::Names;
 

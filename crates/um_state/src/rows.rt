@@ -1,4 +1,4 @@
-//! Rows of units and of pending jobs in the order of their names, and what they say by name.
+//! Rows of units and of pending jobs in the order of their names, and their values by name.
 
 ghost use Rattle.std.specs.Prelude.{◌≡◌, ◌↔◌, ◌++◌, ◌∷◌, ◌<◌, [], ℕ, List, length, map, IsTrue, IfOk, OnOk, if◌then◌else◌, slice_index_or};
 ghost use Rattle.std.specs.Cmp.Lexicographic.{slice_cmp};
@@ -22,7 +22,7 @@ use um_model::{JobKind, JobState, UnitJobs, UnitState};
 use um_name::{Names, UnitName};
 use um_timer::Timers;
 
-/// Adds the name with this number behind the others, where something is held of its unit.
+/// Appends the name with this number if something is held of its unit.
 fn push_if(
     noted: &mut Vec<UnitName>,
     names: &Names,
@@ -42,7 +42,7 @@ fn push_if(
     Ok(())
 }
 
-/// Adds the names of the units of which something is held behind the others.
+/// Appends the names of the units of which something is held.
 pub(crate) fn push_held_units(
     noted: &mut Vec<UnitName>,
     names: &Names,
@@ -58,7 +58,7 @@ pub(crate) fn push_held_units(
     Ok(())
 }
 
-/// Adds the names of the units of which a job is pending behind the others.
+/// Appends the names of the units of which a job is pending.
 pub(crate) fn push_held_jobs(
     noted: &mut Vec<UnitName>,
     names: &Names,
@@ -149,7 +149,7 @@ fn hold_row(
     }
 }
 
-/// The units of these rows by name, of which something is held.
+/// These rows as a map by name, without those of which nothing is held.
 pub(crate) fn unit_map_of(
     alloc: Global,
     names: &Names,
@@ -184,7 +184,7 @@ fn hold_job_row(
     }
 }
 
-/// The jobs of these rows by name, of the units of which one is pending.
+/// These rows as a map by name, without those that have no pending job.
 pub(crate) fn job_map_of(
     alloc: Global,
     names: &Names,
@@ -288,7 +288,7 @@ pub(crate) fn jobs_told_by(names: &Names, rows: &[UnitJobs], held: &Pending) -> 
     true
 }
 
-/// Tells a job of this kind, if it is pending, behind the others.
+/// Appends a job of this kind, if it is pending.
 fn push_job(
     shown: &mut Vec<JobShown>,
     unit: &UnitName,
@@ -305,7 +305,7 @@ fn push_job(
     Ok(())
 }
 
-/// Tells the pending jobs of a unit behind the others, its stop job first.
+/// Appends the pending jobs of a unit, its stop job first.
 fn push_jobs(shown: &mut Vec<JobShown>, unit: &UnitName, jobs: UnitJobs) -> Result<(), AllocError>
     ensures { OnOk result (map job_of shown.new.items ≡ map job_of shown.old.items ++ jobs_shown_of unit.now jobs) }
 {
@@ -313,7 +313,7 @@ fn push_jobs(shown: &mut Vec<JobShown>, unit: &UnitName, jobs: UnitJobs) -> Resu
     push_job(shown, unit, JobKind::Start, jobs.start)
 }
 
-/// Tells the pending jobs of the unit with this number behind the others.
+/// Appends the pending jobs of the unit with this number.
 fn push_row(
     shown: &mut Vec<JobShown>,
     names: &Names,
@@ -329,7 +329,7 @@ fn push_row(
     }
 }
 
-/// The pending jobs of these rows as they are told.
+/// The pending jobs of these rows, as replies show them.
 pub(crate) fn shown_of(
     alloc: Global,
     names: &Names,

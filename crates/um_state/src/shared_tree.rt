@@ -13,12 +13,12 @@ use std::rc::Rc;
 use um_tree::Tree;
 use um_wire::Refusal;
 
-/// A tree whose copies have its paths in common, unless entries stand under `run/`: a boot takes those out without memory, so such a tree is held
-/// by itself.
+/// A tree whose copies share its paths, unless entries stand under `run/`. A boot takes those out without memory, so a tree with such
+/// entries is held by itself.
 pub(crate) struct SharedTree {
     alloc: Global,
     shared: Option<Rc<Tree>>,
-    /// The tree where none is shared.
+    /// The tree, if it isn't shared.
     own: Tree,
 }
 
@@ -32,7 +32,7 @@ impl Model for SharedTree {
     ghost invariant = { λ t. IfSome t.shared (λ rc. model.has_run rc.value ≡ false) };
 }
 
-// One call, as of a `State`.
+// One call for the prover, as for a `State`.
 impl Drop for SharedTree {
     fn drop(self) {
         let SharedTree {
@@ -44,7 +44,7 @@ impl Drop for SharedTree {
 }
 
 impl SharedTree {
-    /// The tree with no entry. It takes no memory.
+    /// The empty tree. It takes no memory.
     pub(crate) fn empty(alloc: Global) -> SharedTree
         ensures { result ≡ maps.empty }
     {
@@ -74,7 +74,7 @@ impl SharedTree {
         })
     }
 
-    /// The tree itself.
+    /// The tree, shared or not.
     pub(crate) fn tree(&self) -> &Tree
         ensures { result.now ≡ self.now }
     {
@@ -84,7 +84,7 @@ impl SharedTree {
         }
     }
 
-    /// The same tree again. One that is shared takes no memory.
+    /// A copy of the tree. A copy of a shared tree takes no memory.
     pub(crate) fn copy(&self) -> Result<SharedTree, AllocError>
         ensures { IfOk result (λ t. t ≡ self.now) }
     {
@@ -107,7 +107,7 @@ impl SharedTree {
         }
     }
 
-    /// Puts a file, with the refusals of `Tree::put`; all is as before then.
+    /// Puts a file, with the refusals of `Tree::put`; after one, all is as before.
     pub(crate) fn put(&mut self, path: &str, text: &str) -> Result<(), Refusal>
         ensures ok { OnOk result (model.put_file self.old path.now text.now ≡ Ok self.new) }
         ensures err { OnErr result (self.new ≡ self.old) }
@@ -122,7 +122,7 @@ impl SharedTree {
         Ok(())
     }
 
-    /// Puts a link, with the refusals of `Tree::link`; all is as before then.
+    /// Puts a link, with the refusals of `Tree::link`; after one, all is as before.
     pub(crate) fn link(&mut self, path: &str, target: &str) -> Result<(), Refusal>
         ensures ok { OnOk result (model.put_link self.old path.now target.now ≡ Ok self.new) }
         ensures err { OnErr result (self.new ≡ self.old) }
@@ -137,7 +137,7 @@ impl SharedTree {
         Ok(())
     }
 
-    /// Removes what stands at the path, with the refusals of `Tree::remove`; all is as before then.
+    /// Removes the entry at the path, with the refusals of `Tree::remove`; after one, all is as before.
     pub(crate) fn remove(&mut self, path: &str) -> Result<(), Refusal>
         ensures ok { OnOk result (model.remove_at self.old path.now ≡ Ok self.new) }
         ensures err { OnErr result (self.new ≡ self.old) }

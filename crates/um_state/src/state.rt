@@ -1,3 +1,5 @@
+//! The manager's state: its trees, its units and pending jobs, the boot's id, the clock and the next process number.
+
 ghost use Rattle.std.specs.Prelude.{◌≡◌, ◌↔◌, ℕ, List, true, is_some, Contains, string_bytes, IsTrue, IfOk, IfSome, OnOk, OnErr, IfErr, Ok, Err};
 ghost use Rattle.std.specs.Coded.{codes};
 ghost use Rattle.std.specs.FinMap as maps;
@@ -31,14 +33,14 @@ use um_wire::Refusal;
 pub struct State {
     pub(crate) tree: SharedTree,
     pub(crate) loaded: SharedTree,
-    /// By which the loaded tree is read.
+    /// The profile by which the loaded tree is read.
     pub(crate) profile: Profile,
     pub(crate) boot: BootId,
     pub(crate) clock: Moment,
     pub(crate) next: NextNumber,
     pub(crate) units: Units,
     pub(crate) pending: Pending,
-    /// Whether units and pending jobs stand under the same names, and so have common numbers.
+    /// Whether units and pending jobs stand under the same names, and so share their numbers.
     pub(crate) is_common: bool,
 }
 
@@ -64,7 +66,7 @@ impl Model for State {
     ghost invariant = { λ s. s.is_common ≡ true → s.pending.names ≡ s.units.names };
 }
 
-// A derived `Drop` takes a state apart wherever one is let go, down to its last list; this is one call.
+// The prover would take a derived `Drop` apart wherever a state is dropped, down to its last list; this is one call.
 impl Drop for State {
     fn drop(self) {
         let State {
@@ -122,7 +124,7 @@ impl State {
         }
     }
 
-    /// The boot's id.
+    /// The id of the boot that the state knows.
     pub fn boot(&self) -> &BootId
         ensures { result.now ≡ (state_of self.now).boot }
     {
@@ -136,7 +138,7 @@ impl State {
         self.clock
     }
 
-    /// The next process number.
+    /// The number of the next process that starts.
     pub fn next(&self) -> NextNumber
         ensures { result ≡ (state_of self.now).next }
     {
@@ -164,7 +166,7 @@ impl State {
         self.units.holds(unit) || self.pending.holds(unit)
     }
 
-    /// The units of which the state holds anything; one may stand twice.
+    /// The units of which the state holds anything; one may occur twice.
     pub fn held(&self, alloc: Global) -> Result<Vec<UnitName>, AllocError>
         ensures { IfOk result (λ names. (unit : List ℕ) → Contains names.items unit ↔ IsHeld (state_of self.now) unit) }
     {
@@ -174,7 +176,7 @@ impl State {
         Ok(names)
     }
 
-    /// Puts a file into the tree in hand, with the refusals of `Tree::put`; all is as before then.
+    /// Puts a file into the tree in hand, with the refusals of `Tree::put`; after one, all is as before.
     pub fn put_file(&mut self, path: &str, text: &str) -> Result<(), Refusal>
         ensures ok { OnOk result (put_file (state_of self.old).tree path.now text.now ≡ Ok (state_of self.new).tree) }
         ensures rest { OnOk result (state_of self.new ≡ record (state_of self.old) { tree = (state_of self.new).tree }) }
@@ -185,7 +187,7 @@ impl State {
         self.tree.put(path, text)
     }
 
-    /// Puts a link into the tree in hand, with the refusals of `Tree::link`; all is as before then.
+    /// Puts a link into the tree in hand, with the refusals of `Tree::link`; after one, all is as before.
     pub fn put_link(&mut self, path: &str, target: &str) -> Result<(), Refusal>
         ensures ok { OnOk result (put_link (state_of self.old).tree path.now target.now ≡ Ok (state_of self.new).tree) }
         ensures rest { OnOk result (state_of self.new ≡ record (state_of self.old) { tree = (state_of self.new).tree }) }
@@ -196,7 +198,7 @@ impl State {
         self.tree.link(path, target)
     }
 
-    /// Removes what stands in the tree in hand at the path, with the refusals of `Tree::remove`; all is as before then.
+    /// Removes the entry at the path in the tree in hand, with the refusals of `Tree::remove`; after one, all is as before.
     pub fn remove(&mut self, path: &str) -> Result<(), Refusal>
         ensures ok { OnOk result (remove_at (state_of self.old).tree path.now ≡ Ok (state_of self.new).tree) }
         ensures rest { OnOk result (state_of self.new ≡ record (state_of self.old) { tree = (state_of self.new).tree }) }
@@ -207,8 +209,8 @@ impl State {
         self.tree.remove(path)
     }
 
-    /// Loads the tree in hand for an input of this profile, by which it is read from now on, or by the loaded profile where that is later. Where memory
-    /// is refused, all is as before.
+    /// Loads the tree in hand for an input of this profile. It is read by this profile from now on, or by the loaded one if that is later.
+    /// If memory is refused, all is as before.
     pub fn reload(&mut self, profile: Profile) -> Result<(), AllocError>
         ensures ok { OnOk result (state_of self.new ≡ record (state_of self.old) { loaded = as_loaded profile (state_of self.old) (state_of self.old).tree }) }
         ensures err { OnErr result (state_of self.new ≡ state_of self.old) }
@@ -219,7 +221,7 @@ impl State {
         Ok(())
     }
 
-    /// Takes the tree in hand and loads it for an input of this profile. Where memory is refused, all is as before.
+    /// Takes this tree as the tree in hand and loads it for an input of this profile. If memory is refused, all is as before.
     pub fn load_tree(&mut self, tree: Tree, profile: Profile) -> Result<(), AllocError>
         ensures ok { OnOk result (state_of self.new ≡ record (state_of self.old) { tree = tree; loaded = as_loaded profile (state_of self.old) tree }) }
         ensures err { OnErr result (state_of self.new ≡ state_of self.old) }
@@ -232,7 +234,7 @@ impl State {
         Ok(())
     }
 
-    /// Sets how a unit stands. The numbers stay where the unit has one. Where memory is refused, all is as before.
+    /// Sets how a unit stands. The numbers stay if the unit has one. If memory is refused, all is as before.
     pub fn set_unit(&mut self, unit: &UnitName, state: UnitState) -> Result<(), AllocError>
         ensures ok { OnOk result (state_of self.new ≡ record (state_of self.old) { units = with_unit (state_of self.old).units unit.now state }) }
         ensures numbers { OnOk result (Contains self.old.names unit.now → HasSameNumbers self.old self.new) }
@@ -251,7 +253,7 @@ impl State {
         Ok(())
     }
 
-    /// Sets the pending jobs of a unit. The numbers stay where the unit has one. Where memory is refused, all is as before.
+    /// Sets the pending jobs of a unit. The numbers stay if the unit has one. If memory is refused, all is as before.
     pub fn set_jobs(&mut self, unit: &UnitName, jobs: UnitJobs) -> Result<(), AllocError>
         ensures ok { OnOk result (state_of self.new ≡ record (state_of self.old) { pending = with_jobs (state_of self.old).pending unit.now jobs }) }
         ensures numbers { OnOk result (Contains self.old.names unit.now → HasSameNumbers self.old self.new) }
@@ -292,8 +294,8 @@ impl State {
         self.set_next(next);
     }
 
-    /// Another boot begins: nothing is held of any unit, and what stood under `run/` is gone from both trees. The loaded profile stays. It takes no
-    /// memory.
+    /// Another boot begins: nothing is held of any unit, and the entries under `run/` are gone from both trees. The loaded profile stays.
+    /// It takes no memory.
     pub fn begin_boot(&mut self, alloc: Global, boot: BootId)
         ensures { state_of self.new ≡ booted boot (state_of self.old) }
     {
@@ -305,7 +307,7 @@ impl State {
         self.is_common = false;
     }
 
-    /// The same state again. The two share their trees, but those with an entry under `run/`.
+    /// A copy of the state. The two share their trees, except a tree with an entry under `run/`.
     pub fn copy(&self) -> Result<State, AllocError>
         ensures { IfOk result (λ s. state_of s ≡ state_of self.now) }
     {
@@ -322,7 +324,8 @@ impl State {
         })
     }
 
-    /// Numbers units and pending jobs by these names, of which each unit has one of which anything is held. Where memory is refused, all is as before.
+    /// Numbers units and pending jobs by these names, which include each unit of which anything is held. If memory is refused, all is as
+    /// before.
     pub fn number(&mut self, names: &Names) -> Result<(), AllocError>
         ensures common { OnOk result (self.new.common ≡ true) }
         ensures names { OnOk result (self.new.names ≡ names.now) }
@@ -336,7 +339,7 @@ impl State {
         Ok(())
     }
 
-    /// The rows of units and pending jobs, with the names that they have. None exactly where these have no common numbers.
+    /// The rows of units and pending jobs, with their names. None exactly if units and jobs don't share their numbers.
     pub fn numbered(&self) -> Option<Numbered<'_>>
         ensures common { is_some result ≡ self.now.common }
         ensures rows { IfSome result (AreRowsOf self.now) }
@@ -351,7 +354,7 @@ impl State {
         })
     }
 
-    /// Exchanges what is held of the unit with the row's number for what the row tells; past the last one, and where units and jobs have no common
+    /// Exchanges the row for the one that the state has under its number. Past the last one, and if units and jobs don't share their
     /// numbers, nothing changes. It takes no memory.
     pub fn swap_row(&mut self, row: &mut Row)
         ensures state { self.new ≡ put_row row.old self.old }
@@ -363,7 +366,7 @@ impl State {
         }
     }
 
-    /// Puts what the row tells of the unit with its number, as `swap_row` does. It takes no memory.
+    /// Puts the row under its number, as `swap_row` does. It takes no memory.
     pub fn put_row(&mut self, row: Row)
         ensures { self.new ≡ put_row row self.old }
     {

@@ -35,8 +35,8 @@ fn are_below(numbers: &[u64], next: NextNumber) -> bool
     numbers.iter().all(|number| *number < next)
 }
 
-/// Whether the loaded profile has the sub states of all units, the clock is past the begin of each window, and the live numbers are distinct and below
-/// the next one.
+/// Whether the loaded profile has the sub states of all units, each window began at or before the clock, and the live numbers are distinct
+/// and below the next one.
 fn is_sound(alloc: Global, state: &State) -> Result<bool, AllocError>
     ensures { IfOk result (λ sound. sound ≡ is_sound (state_of state.now)) }
 {
@@ -84,7 +84,7 @@ fn state_with(alloc: Global, fields: Fields) -> Result<State, AllocError>
     })
 }
 
-/// The state, where it is sound.
+/// The state, if it is sound.
 fn if_sound(alloc: Global, state: State) -> Result<Option<State>, AllocError>
     ensures { IfOk result (λ found. option_map state_of found ≡ (if is_sound (state_of state) then Some (state_of state) else None)) }
 {
@@ -130,8 +130,8 @@ impl Canon for State {
 
     ghost reading = { state_at };
 
-    // A state that isn't sound has no spelling. None of a run is like that (`each_state_of_a_run_has_a_spelling`), and that it isn't costs
-    // less to see than its bytes do to write.
+    // A state that isn't sound has no spelling. No state of a run is unsound (`each_state_of_a_run_has_a_spelling`), and the test costs
+    // less than writing the bytes.
     fn put(&self, out: &mut Vec<u8>) -> Result<(), AllocError> {
         if !is_sound(self.alloc(), self)? {
             return Err(AllocError);

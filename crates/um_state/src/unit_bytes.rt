@@ -59,7 +59,7 @@ impl Canon for Units {
     ghost canonical = { canonical_units };
 }
 
-/// Whether a unit may be in the sub state by the profile: in start-pre, where that serves `ExecStartPre=`.
+/// Whether a unit may be in the sub state by the profile: in start-pre only if the profile serves `ExecStartPre=`.
 fn is_sub_state_in(profile: Profile, sub: SubState) -> bool
     ensures { result ≡ is_sub_state_in profile sub }
 {
@@ -76,7 +76,7 @@ fn have_all_sub_states(rows: &[UnitState], profile: Profile) -> bool
     rows.iter().all(|unit| is_sub_state_in(profile, unit.sub))
 }
 
-/// Whether a window began, up to the clock, or none is there.
+/// Whether a window, if there is one, began at or before the clock.
 fn has_begun(clock: Moment, window: Option<Counted>) -> bool
     ensures { result ≡ option_map_or (λ c. nat_le c.began clock) window true }
 {
@@ -86,7 +86,7 @@ fn has_begun(clock: Moment, window: Option<Counted>) -> bool
     }
 }
 
-/// Adds the number of a process, if it is there, behind the others.
+/// Appends the number of a process, if there is one.
 fn push_number(told: &mut Vec<u64>, process: Option<ProcessNumber>) -> Result<(), AllocError>
     ensures { OnOk result (told.new.items ≡ told.old.items ++ option_to_list process) }
 {
@@ -96,7 +96,7 @@ fn push_number(told: &mut Vec<u64>, process: Option<ProcessNumber>) -> Result<()
     Ok(())
 }
 
-/// Adds the process, if it is there, behind the others.
+/// Appends the process, if there is one.
 fn push_process(
     told: &mut Vec<ProcessNumber>,
     process: Option<ProcessNumber>,
@@ -109,7 +109,7 @@ fn push_process(
     Ok(())
 }
 
-/// Whether no number stands twice.
+/// Whether no number occurs twice.
 pub(crate) fn are_distinct(alloc: Global, numbers: &[u64]) -> Result<bool, AllocError>
     ensures { IfOk result (λ distinct. distinct ≡ are_distinct numbers.now) }
 {

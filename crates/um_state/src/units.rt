@@ -1,3 +1,5 @@
+//! Units and pending jobs, in rows by number.
+
 ghost use Rattle.std.specs.Prelude.{◌≡◌, ◌↔◌, ◌++◌, ◌<◌, false, ℕ, List, length, map, vec_len, is_some, Contains, IsTrue, MatchOption, IfOk, OnOk, OnErr, set as with_item};
 ghost use Rattle.std.specs.Coded.{codes};
 ghost use Rattle.std.specs.Cmp.Lexicographic.{slice_cmp};
@@ -33,7 +35,7 @@ use um_model::{ProcessNumber, UnitJobs, UnitState};
 use um_name::{Names, UnitName};
 use um_timer::Timers;
 
-/// Puts a row in the place of another, so that it is found by the numbers of its processes, and known by the report that it waits for. It takes no
+/// Puts a row in the place of another, so that it is found by its processes' numbers and by the report that it waits for. It takes no
 /// memory.
 fn put(
     states: &mut Vec<UnitState>,
@@ -57,7 +59,7 @@ fn put(
     awaited.leave(finder, states.as_slice(), &before);
 }
 
-/// What the state holds of units, by the numbers of their names: also those of which it holds nothing may have one.
+/// The units of a state, by the numbers of their names. A name of which nothing is held may have a number too.
 pub struct Units {
     pub(crate) alloc: Global,
     names: Names,
@@ -78,7 +80,7 @@ impl Model for Units {
     ghost invariant = { λ u. (vec_len u.states ≡ length u.names) × AreAscending u.names };
 }
 
-// One call, as of a `State`.
+// One call for the prover, as for a `State`.
 impl Drop for Units {
     fn drop(self) {
         let Units {
@@ -105,7 +107,7 @@ impl Units {
         }
     }
 
-    /// These rows.
+    /// The units of these names, with these rows.
     fn made(alloc: Global, names: Names, states: Vec<UnitState>) -> Result<Units, AllocError>
         requires len { vec_len states ≡ length names }
         requires ascending { AreAscending names }
@@ -121,7 +123,7 @@ impl Units {
         })
     }
 
-    /// What the map holds of units, by these names.
+    /// The units of the map, numbered by these names.
     fn over(
         alloc: Global,
         names: Names,
@@ -136,7 +138,7 @@ impl Units {
         Units::made(alloc, names, states)
     }
 
-    /// What the map holds of units, by the names that it has.
+    /// The units of the map, numbered by its own names.
     pub(crate) fn of_map(
         alloc: Global,
         entries: &BTreeMap<UnitName, UnitState>,
@@ -150,7 +152,7 @@ impl Units {
         Units::over(alloc, names, entries)
     }
 
-    /// The units by name, of which it holds anything.
+    /// The units of which anything is held, as a map by name.
     pub(crate) fn to_map(&self) -> Result<BTreeMap<UnitName, UnitState>, AllocError>
         ensures map { IfOk result (λ m. maps.from_entries {R = slice_cmp nat_cmp} m.entries ≡ self.now.held) }
         ensures tidy { AreTidyUnits self.now.held }
@@ -158,7 +160,7 @@ impl Units {
         unit_map_of(self.alloc, &self.names, &self.states)
     }
 
-    /// The same by other names, where each unit has one of which it holds anything.
+    /// The same units, numbered by other names, which include each of which anything is held.
     pub fn renumbered(&self, names: &Names) -> Result<Units, AllocError>
         ensures names { IfOk result (λ u. u.names ≡ names.now) }
         ensures held { IfOk result (λ u. ((x : List ℕ) → IsApart names.now x → state_of_unit self.now.held x ≡ dead_unit) → u.held ≡ self.now.held) }
@@ -185,7 +187,7 @@ impl Units {
         self.states.as_slice()
     }
 
-    /// Exchanges how the unit with this number stands with what is given; past the last one nothing changes. It takes no memory.
+    /// Exchanges the state of the unit with this number for the given one; past the last one nothing changes. It takes no memory.
     pub fn swap(&mut self, i: usize, state: &mut UnitState)
         ensures names { self.new.names ≡ self.old.names }
         ensures held { self.new.held ≡ unit_put self.old.names self.old.held i state.old }
@@ -222,14 +224,14 @@ impl Units {
         !self.get(unit).holds_nothing()
     }
 
-    /// Adds the names of the units of which it holds anything behind the others.
+    /// Appends the names of the units of which anything is held.
     pub(crate) fn push_names(&self, names: &mut Vec<UnitName>) -> Result<(), AllocError>
         ensures { OnOk result (names.new.items ≡ names.old.items ++ maps.keys self.now.held) }
     {
         push_held_units(names, &self.names, &self.states)
     }
 
-    /// The units of which it holds anything, by name.
+    /// The names of the units of which anything is held.
     pub fn names(&self) -> Result<Vec<UnitName>, AllocError>
         ensures { IfOk result (λ names. names.items ≡ maps.keys self.now.held) }
     {
@@ -238,7 +240,7 @@ impl Units {
         Ok(names)
     }
 
-    /// The same with how a unit stands that has no number, with all numbers anew.
+    /// The units with one that had no number; all are numbered again.
     fn with(&self, unit: &UnitName, state: &UnitState) -> Result<Units, AllocError>
         ensures { IfOk result (λ u. u.held ≡ with_unit self.now.held unit.now state.now) }
     {
@@ -248,7 +250,7 @@ impl Units {
         Units::over(self.alloc, names, &entries)
     }
 
-    /// Sets how the unit stands; a dead one of which nothing is known isn't held. Where memory is refused, all is as before.
+    /// Sets how the unit stands; a dead unit of which nothing is known isn't held. If memory is refused, all is as before.
     pub fn set(&mut self, unit: &UnitName, state: UnitState) -> Result<(), AllocError>
         ensures ok { OnOk result (self.new.held ≡ with_unit self.old.held unit.now state) }
         ensures err { OnErr result (self.new ≡ self.old) }
@@ -281,8 +283,8 @@ impl Units {
         }
     }
 
-    /// The numbers of the live processes, in any order. It looks at the units that have one, and at all only where two had the same number, or there was
-    /// no room to note one: neither is so in a run.
+    /// The numbers of the live processes, in any order. It looks at the units that have one. It looks at all units only if two had the same
+    /// number or there was no room to note one; neither happens in a run.
     pub fn live(&self) -> Result<Vec<ProcessNumber>, AllocError>
         ensures { IfOk result (λ numbers. (n : ℕ) → Contains numbers.items n ↔ Contains (numbers_in self.now.held) n) }
     {
@@ -314,7 +316,7 @@ impl Units {
             && units_told_by(&other.names, &other.states, self)
     }
 
-    /// The same again.
+    /// A copy, with the same numbers.
     pub fn copy(&self) -> Result<Units, AllocError>
         ensures { IfOk result (λ u. u ≡ self.now) }
     {
@@ -323,7 +325,7 @@ impl Units {
     }
 }
 
-/// The pending jobs of units, by the numbers of their names: also those of which no job is pending may have one.
+/// The pending jobs of units, by the numbers of their names. A name without a pending job may have a number too.
 pub struct Pending {
     alloc: Global,
     names: Names,
@@ -340,7 +342,7 @@ impl Model for Pending {
     ghost invariant = { λ p. (vec_len p.jobs ≡ length p.names) × AreAscending p.names };
 }
 
-// One call, as of a `State`.
+// One call for the prover, as for a `State`.
 impl Drop for Pending {
     fn drop(self) {
         let Pending {
@@ -392,7 +394,7 @@ impl Pending {
         Pending::over(alloc, names, entries)
     }
 
-    /// The jobs by name, of the units of which one is pending.
+    /// The jobs of the units of which one is pending, as a map by name.
     fn to_map(&self) -> Result<BTreeMap<UnitName, UnitJobs>, AllocError>
         ensures map { IfOk result (λ m. maps.from_entries {R = slice_cmp nat_cmp} m.entries ≡ self.now.held) }
         ensures tidy { AreTidyJobs self.now.held }
@@ -400,7 +402,7 @@ impl Pending {
         job_map_of(self.alloc, &self.names, &self.jobs)
     }
 
-    /// The same by other names, where each unit has one of which a job is pending.
+    /// The same jobs, numbered by other names, which include each unit of which a job is pending.
     pub fn renumbered(&self, names: &Names) -> Result<Pending, AllocError>
         ensures names { IfOk result (λ p. p.names ≡ names.now) }
         ensures held { IfOk result (λ p. ((x : List ℕ) → IsApart names.now x → jobs_of_unit self.now.held x ≡ no_jobs) → p.held ≡ self.now.held) }
@@ -428,7 +430,7 @@ impl Pending {
         self.jobs.as_slice()
     }
 
-    /// Exchanges the pending jobs of the unit with this number with those that are given; past the last one nothing changes. It takes no memory.
+    /// Exchanges the pending jobs of the unit with this number for the given ones; past the last one nothing changes. It takes no memory.
     pub fn swap(&mut self, i: usize, jobs: &mut UnitJobs)
         ensures names { self.new.names ≡ self.old.names }
         ensures held { self.new.held ≡ jobs_put self.old.names self.old.held i jobs.old }
@@ -457,14 +459,14 @@ impl Pending {
         self.get(unit).has_job()
     }
 
-    /// Adds the names of the units of which a job is pending behind the others.
+    /// Appends the names of the units of which a job is pending.
     pub(crate) fn push_names(&self, names: &mut Vec<UnitName>) -> Result<(), AllocError>
         ensures { OnOk result (names.new.items ≡ names.old.items ++ maps.keys self.now.held) }
     {
         push_held_jobs(names, &self.names, &self.jobs)
     }
 
-    /// The same with the jobs of a unit that has no number, with all numbers anew.
+    /// The jobs with those of a unit that had no number; all are numbered again.
     fn with(&self, unit: &UnitName, jobs: UnitJobs) -> Result<Pending, AllocError>
         ensures { IfOk result (λ p. p.held ≡ with_jobs self.now.held unit.now jobs) }
     {
@@ -474,7 +476,7 @@ impl Pending {
         Pending::over(self.alloc, names, &entries)
     }
 
-    /// Sets the pending jobs of the unit. Where memory is refused, all is as before.
+    /// Sets the pending jobs of the unit. If memory is refused, all is as before.
     pub fn set(&mut self, unit: &UnitName, jobs: UnitJobs) -> Result<(), AllocError>
         ensures ok { OnOk result (self.new.held ≡ with_jobs self.old.held unit.now jobs) }
         ensures err { OnErr result (self.new ≡ self.old) }
@@ -487,7 +489,7 @@ impl Pending {
         Ok(())
     }
 
-    /// The pending jobs as they are told: in the order of the names of their units, of one unit the stop job first.
+    /// The pending jobs as replies show them: in the order of the names of their units, a unit's stop job first.
     pub fn shown(&self) -> Result<Vec<JobShown>, AllocError>
         ensures { IfOk result (λ shown. map job_of shown.items ≡ jobs_shown self.now.held) }
     {
@@ -502,7 +504,7 @@ impl Pending {
             && jobs_told_by(&other.names, &other.jobs, self)
     }
 
-    /// The same again.
+    /// A copy, with the same numbers.
     pub fn copy(&self) -> Result<Pending, AllocError>
         ensures { IfOk result (λ p. p ≡ self.now) }
     {

@@ -1,4 +1,4 @@
-//! Rows in work, from those of a state, and which of them differ by now.
+//! The rows of a state in work, and which of them differ by now.
 
 ghost use Rattle.std.specs.Prelude.{◌≡◌, ◌<◌, ◌≤◌, ◌++◌, ◌∷◌, ◌&&◌, [], ℕ, List, length, vec_len, not, is_some, IfOk, IfSome, MatchOption, OnOk, if◌then◌else◌};
 ghost use Rattle.std.specs.Coded.{codes};
@@ -28,7 +28,7 @@ pub struct Work<'s> {
     was: Numbered<'s>,
     units: Overlay<'s>,
     jobs: Vec<UnitJobs>,
-    /// By number: whether the row was set. The others are as they were.
+    /// By number: whether the row was set. The others are unchanged.
     marked: Vec<bool>,
     next: NextNumber,
 }
@@ -54,14 +54,14 @@ fn jobs_in_row(rows: &[UnitJobs], i: usize) -> UnitJobs
     }
 }
 
-/// Whether the row with this number differs from what it was.
+/// Whether the row with this number differs from the old one.
 fn differs(units: &Overlay<'_>, number: usize, had: UnitJobs, jobs: UnitJobs) -> bool
     ensures { result ≡ not (is_same_unit (row_at units.now.was number) (row_at units.now.now number) && is_same_jobs had jobs) }
 {
     units.is_changed(number) || had != jobs
 }
 
-/// Notes the row with this number where it differs from what it was.
+/// Notes the row with this number if it differs from the old one.
 fn note_change(
     rows: &mut Vec<Row>,
     units: &Overlay<'_>,
@@ -107,7 +107,7 @@ fn changed_rows(
 }
 
 impl<'s> Work<'s> {
-    /// The rows of the state. None exactly where its units and pending jobs have no common numbers.
+    /// The rows of the state. None exactly if its units and pending jobs don't share their numbers.
     pub fn of(alloc: Global, base: &'s State) -> Result<Option<Work<'s>>, AllocError>
         ensures common { IfOk result (λ made. is_some made ≡ base.now.common) }
         ensures base { IfOk result (λ made. IfSome made (λ w. w.base ≡ base.now)) }
@@ -160,7 +160,7 @@ impl<'s> Work<'s> {
         self.jobs.as_slice()
     }
 
-    /// The next process number.
+    /// The number of the next process that starts.
     pub fn next(&self) -> NextNumber
         ensures { result ≡ (state_of self.now.now).next }
     {

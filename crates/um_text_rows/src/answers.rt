@@ -1,11 +1,11 @@
-//! What texts and units are read as, and the trees that rows stand on.
+//! The readings of texts and units, and the trees that rows stand on.
 use std::process::Abort;
 use um_asserts::text;
 use um_tree::{Entry, Tree};
 use um_wire::Refusal;
 use um_words::{Command, Variable};
 
-/// The text so many times.
+/// The text, repeated this number of times.
 pub fn repeated(rt: &(impl AllocGlobal + Abort), text: &str, count: usize) -> String {
     text.repeat(rt.alloc(), count).expect(rt, "no memory")
 }

@@ -1,4 +1,4 @@
-//! What each verb that changes the links of a unit makes and removes.
+//! The links that each verb makes and removes.
 use crate::answers::{list, tree_of};
 use std::process::Abort;
 use um_asserts::{same_at, unit};
@@ -50,7 +50,7 @@ const ROWS: &[Row] = &[
     },
 ];
 
-/// What the verb makes of the tree.
+/// The tree that the verb makes from this one.
 fn install(
     rt: &impl AllocGlobal,
     verb: &str,
@@ -75,7 +75,7 @@ fn made_and_removed(rt: &(impl AllocGlobal + Abort), installed: &Installed, row:
     same_at!(rt, &installed.removed, &list(rt, row.removed), row.verb);
 }
 
-/// The tree behind the verb of the row, which makes and removes those links.
+/// The tree after the verb of the row, which makes and removes those links.
 fn installed(rt: &(impl AllocGlobal + Abort), tree: &Tree, row: &Row) -> Box<Tree> {
     let installed = install(rt, row.verb, tree, &unit!(rt, "a.service"));
     let installed = installed.expect(rt, "refused");

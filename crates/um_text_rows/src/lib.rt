@@ -1,4 +1,4 @@
-//! Worked rows of texts and units: what the layers from trimming to a loaded unit read and answer, by their public calls alone.
+//! Worked rows of texts and units: the results of the layers from trimming to a loaded unit, by their public functions alone.
 #![tactic(auto)]
 
 #[cfg(test)]

@@ -160,7 +160,7 @@ fn the_parts_of_a_name_are_told(rt: HostRuntime) {
     }
 }
 
-/// A name, an instance, and the name with that instance; None where it has none.
+/// A name, an instance, and the name with that instance; None if it has none.
 struct Instance {
     name: &'static str,
     instance: &'static str,
@@ -200,7 +200,7 @@ const INSTANCES: &[Instance] = &[
     },
 ];
 
-/// The name with the instance; None where it has none.
+/// The name with the instance; None if it has none.
 fn with_instance(
     rt: &(impl AllocGlobal + Abort),
     name: &UnitName,
@@ -315,7 +315,7 @@ fn bytes_are_escaped(rt: HostRuntime) {
     }
 }
 
-/// Escaped texts, and the bytes that each stands for, where it can be read.
+/// Escaped texts, and the bytes of each; None if it can't be read.
 const ESCAPES: &[(&str, Option<&str>)] = &[
     ("", Some("")),
     ("-", Some("/")),
@@ -337,7 +337,7 @@ const ESCAPES: &[(&str, Option<&str>)] = &[
     ("\\x:0", None),
 ];
 
-/// The bytes that the escaped text stands for, where it can be read.
+/// The bytes of the escaped text; None if it can't be read.
 fn read_back(rt: &(impl AllocGlobal + Abort), text: &str) -> Option<Vec<u8>> {
     unescape(rt.alloc(), text).expect(rt, "no memory")
 }

@@ -1,4 +1,4 @@
-//! Where a unit's name leads, and the files that it is read from.
+//! Where a unit's name leads, and the files that the unit is read from.
 use crate::answers::{list, tree_of};
 use std::process::Abort;
 use um_asserts::{same_at, text, unit};
@@ -18,7 +18,7 @@ const TEMPLATES: &[(&str, Entry<'static>)] = &[
     ("etc/kind.service", Entry::Link("shutdown.target")),
 ];
 
-/// A file, and nine links to it, one behind the other.
+/// A file, and nine links to it in a chain.
 const HOPS: &[(&str, Entry<'static>)] = &[
     ("etc/h0.service", Entry::File("[Service]")),
     ("etc/h9.service", Entry::Link("h8.service")),

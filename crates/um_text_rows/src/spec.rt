@@ -2,7 +2,7 @@
 use um_asserts::{same_at, unit};
 use um_spec::expand;
 
-/// A text, and what it is expanded to under the name, where it has an expansion.
+/// A text, and its expansion under the name; None if it has none.
 struct Row {
     name: &'static str,
     text: &'static str,

@@ -1,10 +1,10 @@
-//! What the lines of a unit file say.
+//! The items in the lines of a unit file.
 use crate::answers::repeated;
 use std::process::Abort;
 use um_asserts::{same, same_at};
 use um_syntax::{Item, WarningKind, parse};
 
-/// What a line says, with its number first.
+/// An item of a line, with the line's number first.
 #[derive(Clone, Copy, Debug, PartialEq, Eq)]
 enum Said<'t> {
     /// The head of the section of this name.
@@ -17,7 +17,7 @@ enum Said<'t> {
 }
 
 impl<'t> Said<'t> {
-    /// What the item says.
+    /// The item in this form.
     fn of(item: &'t Item<'_>) -> Said<'t> {
         match item {
             Item::Section { name, line } => Said::Head(*line, name.as_str()),
@@ -40,7 +40,7 @@ fn items_of<'t>(rt: &(impl AllocGlobal + Abort), text: &'t str) -> Vec<Item<'t>>
     parse(rt.alloc(), text).expect(rt, "no memory")
 }
 
-/// Asserts that the items of the text say this.
+/// Asserts that the text has these items.
 fn says(rt: &(impl AllocGlobal + Abort), text: &str, wanted: &[Said<'_>]) {
     let items = items_of(rt, text);
     same_at!(rt, items.len(), wanted.len(), text);
@@ -53,7 +53,7 @@ const NO_SECTION: WarningKind = WarningKind::BeforeAnySection;
 
 const NO_SIGN: WarningKind = WarningKind::NoEqualsSign;
 
-/// A text, and what its lines say.
+/// A text, and the items of its lines.
 struct Row {
     text: &'static str,
     says: &'static [Said<'static>],
@@ -200,7 +200,7 @@ const WITHOUT_EFFECT: &[Row] = &[
     },
 ];
 
-/// Asserts that the texts of the rows say this.
+/// Asserts that the texts of the rows have these items.
 fn all_say(rt: &(impl AllocGlobal + Abort), rows: &[Row]) {
     for row in rows {
         says(rt, row.text, row.says);

@@ -2,7 +2,7 @@
 use um_asserts::{same, same_at};
 use um_text::{Class, is_blank, split_run, trim, trim_end, trim_start};
 
-/// A text, what is left of it where its start, its end and both are trimmed, and whether it is blank.
+/// A text, the rest of it after its start, its end and both are trimmed, and whether it is blank.
 struct Trimmed {
     text: &'static str,
     start: &'static str,
@@ -72,7 +72,7 @@ fn trimming_takes_spaces_and_tabs_alone(rt: HostRuntime) {
     }
 }
 
-/// A text, a class, and the text cut behind the run of that class at its start.
+/// A text, a class, and the text cut after the run of that class at its start.
 struct Run {
     text: &'static str,
     class: Class,

@@ -104,7 +104,7 @@ const FILLED: &[(&str, Entry<'static>)] = &[
     ("etc/n.target.wants/b.service", Entry::File("")),
 ];
 
-/// Paths, and what stands at each then.
+/// Paths, and the entry at each then.
 const STANDING: &[(&str, Option<Entry<'static>>)] = &[
     ("lib/b.service", Some(Entry::File("three"))),
     (
@@ -156,7 +156,7 @@ fn a_removal_leaves_a_copy_as_it_was(rt: HostRuntime) {
     same!(&rt, paths(&rt, copy).as_slice(), ASCENDING);
 }
 
-/// What is put one after another: a file or a link at a path, with a text or a target of so many bytes, and what it is refused by.
+/// Entries put one after another: a file or a link at a path, with a text or a target of this number of bytes, and its refusal.
 struct Sized {
     path: &'static str,
     is_link: bool,
@@ -218,7 +218,7 @@ const SIZED: &[Sized] = &[
     },
 ];
 
-/// Puts what the row tells.
+/// Puts the entry of the row.
 fn put_sized(rt: &(impl AllocGlobal + Abort), tree: &mut Tree, row: &Sized) -> Result<(), Refusal> {
     let text = repeated(rt, "x", row.size);
     let entry = if row.is_link {
@@ -239,7 +239,7 @@ fn texts_and_targets_have_limits(rt: HostRuntime) {
     same!(&rt, tree.len(), 4);
 }
 
-/// Links that are set one after another, and what each is refused by.
+/// Links that are set one after another, and the refusal of each.
 const LINKS: &[(&str, &str, Option<&str>)] = &[
     ("etc/a", "/dev/null", Some("E12 BadPath etc/a")),
     (
@@ -299,7 +299,7 @@ fn link_is_refused_in_order(rt: HostRuntime) {
     same!(&rt, tree.len(), 4);
 }
 
-/// Paths, and what a removal there is refused by.
+/// Paths, and the refusal of a removal there.
 const REMOVALS: &[(&str, Option<&str>)] = &[
     ("lib/b.service", Some("E12 BadPath lib/b.service")),
     ("nowhere", Some("E12 BadPath nowhere")),
@@ -315,7 +315,7 @@ fn remove_is_refused_where_nothing_stands(rt: HostRuntime) {
     same!(&rt, tree.len(), 0);
 }
 
-/// Asserts that a removal at this path in an empty tree is refused, and tells the path.
+/// Asserts that a removal at this path in an empty tree is refused, and that the refusal names the path.
 fn is_no_path(rt: &(impl AllocGlobal + Abort), path: &str, size: usize) {
     let wanted = format!(in rt.alloc(); "E12 BadPath {path}").expect(rt, "no memory");
     let removed = Tree::new(rt.alloc()).remove(path);
@@ -358,7 +358,7 @@ fn full(rt: &(impl AllocGlobal + Abort)) -> Tree {
     tree
 }
 
-/// What is put into a tree of 4,096 files, and what it is refused by.
+/// An entry put into a tree of 4,096 files, and its refusal.
 const PAST_THE_LIMIT: &[(&str, Entry<'static>, Option<&str>)] = &[
     (
         "lib/b.service",

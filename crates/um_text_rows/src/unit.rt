@@ -19,8 +19,8 @@ fn tree_with(rt: &(impl AllocGlobal + Abort), files: &[(&str, &str)]) -> Tree {
     tree
 }
 
-/// What becomes of a unit in a tree of these files that is read by the profile. Boxed, as it is large: the prover takes it apart, field by
-/// field, wherever it is let go.
+/// The loading of a unit in a tree of these files that is read by the profile. It is boxed because it is large: the prover takes it apart,
+/// field by field, wherever it is dropped.
 fn loaded_by(
     rt: &(impl AllocGlobal + Abort),
     profile: Profile,
@@ -36,12 +36,12 @@ fn loaded_by(
     Box::new(rt.alloc(), loading).expect(rt, "no memory")
 }
 
-/// What becomes of a unit in a tree of these files, as they are read now.
+/// The loading of a unit in a tree of these files, as they are read now.
 fn loaded(rt: &(impl AllocGlobal + Abort), name: &str, files: &[(&str, &str)]) -> Box<Loading> {
     loaded_by(rt, Profile::current(), name, files)
 }
 
-/// What becomes of `a.service` with this text.
+/// The loading of `a.service` with this text.
 fn service_of(rt: &(impl AllocGlobal + Abort), text: &str) -> Box<Loading> {
     loaded(rt, "a.service", &[("etc/a.service", text)])
 }
@@ -68,7 +68,7 @@ struct Warned {
 const ECHO: &str =
     "[Service]\nEnvironment=\"X=p  q\"\nExecStart=-/bin/echo \"a b\" $X ${X}c $$ \\x41\n";
 
-/// A target with a line of each kind that is warned of.
+/// A target with a line of each kind that gives a warning.
 const ILL_TARGET: &str =
     "Description=x\n[Unit]\nfoo\nFrob=1\nDefaultDependencies=maybe\nDescription=%z\n[Zed]\na=b\n";
 
@@ -100,7 +100,7 @@ const WARNED: &[Warned] = &[
             &[(1, 1), (2, 3), (4, 4), (5, 5), (6, 6), (3, 7)],
         )],
     },
-    // what is foreign is not warned of
+    // a foreign section or key gives no warning
     Warned {
         name: "w.target",
         files: &[(
@@ -119,7 +119,7 @@ const WARNED: &[Warned] = &[
         files: &[("etc/a.service", RESTARTS)],
         warnings: &[("etc/a.service", &[(5, 6), (5, 10)])],
     },
-    // drop-ins by their names; one that gives no warning isn't told
+    // drop-ins by their names; one without a warning isn't listed
     Warned {
         name: "w.target",
         files: &[
@@ -344,7 +344,7 @@ const KEPT: &[Kept] = &[
     },
 ];
 
-/// A span of so many microseconds.
+/// A span of this number of microseconds.
 fn micros(count: Option<u32>) -> Option<Span> {
     Some(Span::from_micros(count?))
 }
@@ -370,7 +370,7 @@ fn the_plain_settings_of_a_service_are_kept(rt: HostRuntime) {
     }
 }
 
-/// A unit, its files, and what they tell beside its service.
+/// A unit, its files, and their settings beside those of its service.
 struct Told {
     name: &'static str,
     files: &'static [(&'static str, &'static str)],
@@ -443,7 +443,7 @@ fn names(rt: &(impl AllocGlobal + Abort), texts: &[String], wanted: &[&str], row
     same_at!(rt, texts, list.as_slice(), row);
 }
 
-/// Asserts that enabling makes what the row says.
+/// Asserts that enabling makes the links of the row.
 fn installs(rt: &(impl AllocGlobal + Abort), install: &InstallSettings, row: &Told) {
     names(rt, &install.alias, row.alias, row.name);
     names(rt, &install.wanted_by, row.wanted_by, row.name);
@@ -451,7 +451,7 @@ fn installs(rt: &(impl AllocGlobal + Abort), install: &InstallSettings, row: &To
     same_at!(rt, instance, row.default_instance, row.name);
 }
 
-/// Asserts that the unit tells what the row says.
+/// Asserts that the unit has the settings of the row.
 fn tells(rt: &(impl AllocGlobal + Abort), unit: &LoadedUnit, row: &Told) {
     let settings = &unit.settings;
     let got = (unit.path.as_deref(), settings.description.as_str());
@@ -477,7 +477,7 @@ fn a_target_that_tells_no_truth_value_has_default_dependencies(rt: HostRuntime) 
     same_at!(&rt, got, (true, UnitKind::Target), "w.target");
 }
 
-/// Why the service can't be loaded; None where it can.
+/// Why the service can't be loaded; None if it can.
 fn reason<'l>(rt: &impl Abort, loading: &'l Loading) -> Option<&'l str> {
     match loading {
         Loading::BadSetting { reason, .. } => Some(reason.as_str()),
@@ -516,7 +516,7 @@ fn commands_before_the_start_are_read_by_profile_2_alone(rt: HostRuntime) {
     are_commands(&rt, commands, &[("/bin/a", false), ("/bin/b", true)]);
 }
 
-/// Services, and why each cannot be loaded, where it cannot.
+/// Services, and why each can't be loaded; None if it can.
 const REASONS: &[(&str, Option<&str>)] = &[
     (
         "[Service]\nExecStart=a\nUser=x\nUser=\nExecStartPre=b\n",
@@ -585,7 +585,7 @@ fn exits_are_read(rt: HostRuntime) {
     takes_ends(&rt, &service.success, &service.forces_restart);
 }
 
-/// The name of the unit that is masked; None where none is.
+/// The name of the unit that is masked; None if it isn't.
 fn masked(loading: &Loading) -> Option<&str> {
     match loading {
         Loading::Masked { unit } => Some(unit.as_str()),

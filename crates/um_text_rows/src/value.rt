@@ -4,7 +4,7 @@ use um_asserts::{same, same_at};
 use um_model::{End, Span};
 use um_value::{ExitSet, RestartPolicy, TimeSpan, boolean, exit_set, number, restart, span};
 
-/// Texts, and the truth value of each; None where it has none.
+/// Texts, and the truth value of each; None if it has none.
 const TRUTHS: &[(&str, Option<bool>)] = &[
     ("1", Some(true)),
     ("yes", Some(true)),
@@ -33,7 +33,7 @@ fn a_truth_value_is_one_of_twelve_words(rt: HostRuntime) {
     }
 }
 
-/// Texts, and the number of each; None where it is none.
+/// Texts, and the number of each; None if it is none.
 const NUMBERS: &[(&str, Option<u32>)] = &[
     ("5", Some(5)),
     ("0010", Some(10)),
@@ -60,7 +60,7 @@ const DAY: Option<u64> = Some(86_400_000_000);
 /// A week, in microseconds.
 const WEEK: Option<u64> = Some(604_800_000_000);
 
-/// Texts, and the span of each in microseconds; None where it is none.
+/// Texts, and the span of each in microseconds; None if it is none.
 const SPANS: &[(&str, Option<u64>)] = &[
     // parts are added up
     ("1min 200ms", Some(60_200_000)),
@@ -111,7 +111,7 @@ const SPANS: &[(&str, Option<u64>)] = &[
     ("99999999999999w", None),
 ];
 
-/// The span of so many microseconds.
+/// The span of this number of microseconds.
 fn micros(count: Option<u64>) -> Option<TimeSpan> {
     Some(TimeSpan::Micros(Span::new(count?)?))
 }
@@ -124,7 +124,7 @@ fn parts_of_a_span_are_added_up(rt: HostRuntime) {
     same!(&rt, span("infinity"), Some(TimeSpan::Infinite));
 }
 
-/// Which of some ends the set of the text holds; None where it can't be read.
+/// Which of some ends the set of the text holds; None if it can't be read.
 fn held(text: &str) -> Option<[bool; 5]> {
     let set: ExitSet = exit_set(text)?;
     Some([
@@ -136,7 +136,7 @@ fn held(text: &str) -> Option<[bool; 5]> {
     ])
 }
 
-/// Texts, and which of those ends the set of each holds; None where it is no set of exits.
+/// Texts, and which of those ends the set of each holds; None if it is no set of exits.
 const SETS: &[(&str, Option<[bool; 5]>)] = &[
     ("0 1 SIGTERM", Some([true, false, false, false, true])),
     ("007\t255  SIGHUP ", Some([false, true, true, true, false])),
@@ -223,7 +223,7 @@ fn each_signal_has_its_number(rt: HostRuntime) {
     }
 }
 
-/// Words, and the restart policy of each; None where it has none.
+/// Words, and the restart policy of each; None if it has none.
 const POLICIES: &[(&str, Option<RestartPolicy>)] = &[
     ("no", Some(RestartPolicy::No)),
     ("always", Some(RestartPolicy::Always)),

@@ -6,7 +6,7 @@ use um_words::{
     Command, Room, Variable, commands, is_executable_word, names, room_after, substitute, words,
 };
 
-/// A text, and the words or names in it; None where it can't be read.
+/// A text, and the words or names in it; None if it can't be read.
 struct Parted {
     text: &'static str,
     wanted: Option<&'static [&'static str]>,
@@ -185,7 +185,7 @@ const VARIABLES: &[(&str, &str)] = &[
     ("_1", "one"),
 ];
 
-/// Texts, and what their words become in that environment.
+/// Texts, and their words after substitution in that environment.
 const SUBSTITUTED: &[Parted] = &[
     Parted {
         text: "/bin/echo \"a b\" $X ${X}c $$ \\x41",
@@ -227,7 +227,7 @@ fn words_of(rt: &(impl AllocGlobal + Abort), text: &str) -> Vec<String> {
     read.expect(rt, "no memory").expect(rt, "no words")
 }
 
-/// Asserts that the words of the row become in this environment what is wanted.
+/// Asserts that the words of the row are substituted as wanted in this environment.
 fn is_substituted(rt: &(impl AllocGlobal + Abort), environment: &[Variable], row: &Parted) {
     let words = words_of(rt, row.text);
     let got: Result<_, _> = substitute(rt.alloc(), &words, environment);
@@ -242,8 +242,8 @@ fn variables_stand_for_their_values(rt: HostRuntime) {
     }
 }
 
-/// A text whose words are put into a room for so many bytes together and in each, one byte behind each, with the variables of that
-/// environment; and how many bytes of the room are left then.
+/// A text whose words are put into a room for this number of bytes in all and in each word, with one byte more for each, with the variables
+/// of that environment; and the number of bytes left then.
 struct Counted {
     text: &'static str,
     total: u32,
@@ -284,7 +284,7 @@ const COUNTED: &[Counted] = &[
         longest: 7,
         wanted: None,
     },
-    // an empty word takes the byte behind it, and a value without words none
+    // an empty word takes its one byte, and a value without words none
     Counted {
         text: "echo $UNSET ${UNSET}",
         total: 100,
@@ -299,7 +299,7 @@ const COUNTED: &[Counted] = &[
     },
 ];
 
-/// How many bytes of the row's room are left, with the variables of this environment; None where it is too small.
+/// The number of bytes left of the row's room, with the variables of this environment; None if it is too small.
 fn left(rt: &(impl AllocGlobal + Abort), environment: &[Variable], row: &Counted) -> Option<u32> {
     let room = Room {
         total: row.total,
@@ -320,7 +320,7 @@ fn the_room_of_words_is_counted_with_their_variables(rt: HostRuntime) {
     }
 }
 
-/// A text, and the commands in it; None where it can't be read.
+/// A text, and the commands in it; None if it can't be read.
 struct Commanded {
     text: &'static str,
     wanted: Option<&'static [Wanted]>,
@@ -388,7 +388,7 @@ const COMMANDS: &[Commanded] = &[
     },
 ];
 
-/// The wanted commands; None where the text can't be read.
+/// The wanted commands; None if the text can't be read.
 fn wanted(rt: &(impl AllocGlobal + Abort), row: &Commanded) -> Option<Vec<Command>> {
     match row.wanted {
         Some(wanted) => Some(commands_of(rt, wanted)),

@@ -28,7 +28,7 @@ abbrev AllDue : ℕ → List ℕ → List (List ℕ × ℕ) → Type 0
 AllDue d n [] = Unit {0}
 AllDue d n (e ∷ es) = IsDue d n e × AllDue d n es
 
--- no later than a timer so far, and that one itself where the deadline is the same
+-- no later than a timer so far, and that one itself if the deadline is the same
 abbrev IsKept : ℕ → List ℕ → ℕ × List ℕ → Type 0
 IsKept d n b = (d < b.0) ⊎ ((d ≡ b.0) × (n ≡ b.1))
 
@@ -112,7 +112,7 @@ apart : (d : ℕ) (n : List ℕ) (e : List ℕ × ℕ) → e.0 ≢ n → IsDue d
 apart d n e ne (inl same) = absurd (ne same)
 apart d n e ne (inr due) = due
 
--- what the scan finds is due first
+-- the timer that the scan finds is due first
 pub due_first : (m : BTreeMap (List ℕ) ℕ) → tree.IsOrdered (slice_cmp nat_cmp) m → (d : ℕ) (n : List ℕ) → soonest None m.entries ≡ Some (d, n) → IsDueFirst (seen m) d n
 due_first m o d n e =
     let f = found None m.entries tt (rising m.entries o) d n e in
@@ -125,7 +125,7 @@ due_first m o d n e =
     held (inl q) = absurd (none-some (d, n) q)
     held (inr c) = c
 
--- where it finds none, no timer is set
+-- if it finds none, no timer is set
 pub none_set : (m : BTreeMap (List ℕ) ℕ) → soonest None m.entries ≡ None → seen m ≡ map.empty
 none_set m e = seen_nothing m (none_found m.entries e)
 

@@ -1,3 +1,4 @@
+//! Deadlines by unit.
 ghost use Rattle.std.specs.Prelude.{◌≡◌, ℕ, List, IfOk, MatchOption, OnOk, OnErr};
 ghost use Rattle.std.specs.FinMap as map;
 ghost use Rattle.std.specs.Coded.{coded_list, coded_ℕ};
@@ -43,7 +44,7 @@ impl Timers {
         self.deadlines.get(unit).copied()
     }
 
-    /// Sets the unit's timer to this deadline, in place of an earlier or a later one. Where memory is refused, all is as before.
+    /// Sets the unit's timer to this deadline, in place of an earlier or a later one. If memory is refused, all is as before.
     pub fn set(&mut self, unit: UnitName, deadline: Deadline) -> Result<(), AllocError>
         ensures ok { OnOk result (self.new ≡ map.insert self.old unit deadline) }
         ensures err { OnErr result (self.new ≡ self.old) }
@@ -59,8 +60,8 @@ impl Timers {
         self.deadlines.remove(unit);
     }
 
-    /// The timer that is due first: the one of the least deadline, and of several such the one whose unit's name is least by
-    /// bytes. None only where no timer is set. It takes no memory.
+    /// The timer that is due first: the one of the least deadline, and of several such the one whose unit's name is least by bytes. None
+    /// only if no timer is set. It takes no memory.
     pub fn next_due(&self) -> Option<(Deadline, &UnitName)>
         ensures { MatchOption result (self.now ≡ map.empty) (λ due. IsDueFirst self.now due.0 due.1.now) }
     {
@@ -74,7 +75,7 @@ impl Timers {
         next
     }
 
-    /// The same timers again.
+    /// A copy of the timers.
     pub fn copy(&self) -> Result<Timers, AllocError>
         ensures { IfOk result (λ timers. timers ≡ self.now) }
     {
@@ -85,7 +86,7 @@ impl Timers {
     }
 }
 
-/// Of any timers at most one is due first.
+/// At most one of the timers is due first.
 pub fn one_timer_is_due_first()
     ensures { (timers : model.Timers) (deadline later : ℕ) (unit other : List ℕ) → IsDueFirst timers deadline unit → IsDueFirst timers later other → (deadline ≡ later) × (unit ≡ other) }
 {}

@@ -1,4 +1,4 @@
--- What a demand brings, and the starts of what it wants along: found one neighbour after another.
+-- The demands that a demand brings, and the starts of wanted units along with it: found one neighbour after another.
 use Rattle.std.proofs.Common.{◌≡◌, ◌↔◌, ◌+◌, ◌<◌, ◌≤◌, ℕ, true, false, List, length, get_or, Contains, sym, ap, ◌∙◌, subst, inl, inr, arith}
 use Rattle.std.proofs.lemmas.Bool.{cases_lt}
 use Rattle.std.proofs.lemmas.List.{get_or_default}
@@ -26,7 +26,7 @@ is_no_start d h starts = cc
 is_no_start d h restarts = cc
 
 module _ (g : GraphView) (activity : List ActiveState) where
-  -- what is found along by the first neighbours
+  -- the demands found along with it by the first neighbours
   pub record FoundAlong (p : Demanded) (ns : List Neighbour) (i : ℕ) (found : List Demanded) : Type 0 where
     pub sound : (q : Demanded) → Contains found q → LeadsAlongBy g activity p q
     pub kept : (q : Demanded) → LeadsBy g activity p q → Contains found q
@@ -69,7 +69,7 @@ module _ (g : GraphView) (activity : List ActiveState) where
     ],
   )
 
-  -- what isn't started wants nothing
+  -- a unit that isn't started wants nothing
   pub along_stop : (p : Demanded) (found : List Demanded) → (IsStarting p.0 → ⊥) → found ≡ brought activity p.0 (row_of g.rows p.1) → (q : Demanded) → Contains found q ↔ LeadsAlongBy g activity p q
   along_stop p found s e q = (
     λ c. inl (subst (λ x. Contains x q) e c),

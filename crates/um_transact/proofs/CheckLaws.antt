@@ -46,18 +46,18 @@ behind_a_mask asked unit r is = subst (CannotStart asked (Masked unit)) (sym is)
 pub of_bad_setting : (asked unit reason : List ℕ) (r : Refused) → r ≡ bad_setting unit reason → CannotStart asked (BadSetting unit reason) r
 of_bad_setting asked unit reason r is = subst (CannotStart asked (BadSetting unit reason)) (sym is) machine.has_bad_setting
 
--- a unit that is started is barred where it can't be
+-- a unit that is started is barred if it can't be
 pub bars_by : {X : Type 0} (g : GraphView) (marks : List Marks) (u : ℕ) (result : Result X Refusal) → is_started (marks_at marks u) ≡ true
     → RefusesBy (CannotStartBy g u) result → RefusesBy (BarsBy g marks u) result
 bars_by g marks u (Ok done) s h = λ r b. h r b.cause
 bars_by g marks u (Err e) s h = λ differs. record { started = s; cause = h differs }
 
--- what is known of a refusal is known of the result that hands it on
+-- a property of a refusal is one of the result that passes it on
 pub err_is : {X : Type 0} (P : Refusal → Type 0) (result : Result X Refusal) (e : Refusal) → IsErrAnd result (λ f. f ≡ e) → P e → IfErr result P
 err_is P (Ok done) e h p = absurd h
 err_is P (Err f) e h p = subst P (sym h) p
 
--- a call that hands on the refusal of another is refused for its cause
+-- a call that passes on another's refusal is refused for its cause
 pub refuses_on : {X : Type 0} (Cause : Refused → Type 0) (result : Result X Refusal) (e : Refusal) → IsErrAnd result (λ f. f ≡ e) → (e ≢ NoMemory → Cause (refused_of e))
     → RefusesBy Cause result
 refuses_on Cause (Ok done) e h cause = absurd h

@@ -1,4 +1,4 @@
--- What is marked is what is demanded by name, and the plan by the marks is the plan of the definitions.
+-- The marks are the demands by name, and the plan by the marks is the plan of the definitions.
 use Rattle.std.proofs.Common.{◌≡◌, ◌↔◌, ◌∙◌, ◌<◌, ℕ, Bool, true, false, cond, List, length, Option, Some, None, refl, sym, ap, subst, inl, inr}
 use Rattle.um_model.specs.Jobs.{jobs_of_unit, jobs_for}
 use Rattle.um_model.specs.Machine as machine

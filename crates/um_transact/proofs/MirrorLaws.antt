@@ -1,4 +1,4 @@
--- As each dependency stands in both rows, what the rows say is what the definitions of demands say of them.
+-- Each dependency stands in both rows, so the rows agree with the definitions of demands.
 use Rattle.std.proofs.Common.{◌≡◌, ◌⊎◌, ◌||◌, ◌∙◌, ℕ, Bool, true, List, Contains, refl, sym, ap, subst, inl, inr}
 use Rattle.um_model.specs.Reached.{Reached, first, next}
 use Rattle.um_model.specs.Demands.{Brings, required, bound, conflicting, conflicted, stopped, restarted, LeansOn, requires, binds, is_part, starts, restarts, BringsAlong, needed, wanted, IsStartable, IsRequired, IsDemanded}
@@ -26,7 +26,7 @@ active_is Active h = refl
 active_is Deactivating h = cc
 active_is Failed h = cc
 
--- by rules that say the same the same is reached
+-- two rules that agree reach the same
 reached_same : (P Q : Demanded → Demanded → Type 0) → ((p q : Demanded) → P p q → Q p q) → (root q : Demanded) → Reached (λ p. p ≡ root) P q → Reached (λ p. p ≡ root) Q q
 reached_same P Q f root q r = reached_in (Reached (λ p. p ≡ root) Q) (λ a e. first e) (λ a b i h. next i (f a b h)) q r
 
@@ -115,7 +115,7 @@ module _ (g : GraphView) (is : IsGraph g) (activity : List ActiveState) where
       let t = by_one p.0 (active r.0) r.0 q r.2 in
       subst (Leads p) t.2 (led p.0 t.0 p.1 r.0 r.1 t.1)
 
-  -- ---- the required set, what can be started along, and the demanded set
+  -- ---- the required set, the units that can be started along, and the demanded set
   required_there : (root q : Demanded) → IsRequiredBy g activity root q → IsRequired Depends IsActive root q
   required_there root q r = reached_same (LeadsBy g activity) Leads brought_leads root q r
 

@@ -123,7 +123,7 @@ module _ (plan : List UnitJobs) where
           before_cases x f.0.unit e ⊥ b.1 (first_none Start (Start, f.0.unit) e) (second_none Stop (Stop, f.0.unit) e) (first_none Stop (Start, f.0.unit) e) (second_none Start (Stop, f.0.unit) e)
     ]
 
--- the row of a unit without a job tells nothing
+-- the row of a unit without a job gives no pair
 pub pairs_past : (rows : List (List Neighbour)) (plan : List UnitJobs) (n : ℕ) (pairs new : List (ℕ × ℕ)) → ArePairs rows plan n pairs → new ≡ pairs → has_job (jobs_at plan n) ≡ false → ArePairs rows plan (n + 1) new
 pairs_past rows plan n pairs new a e none p = (
   λ c. let r = (a p).0 (subst (λ x. Contains x p) e c) in (r.0, omega (arith, r.1), r.2),

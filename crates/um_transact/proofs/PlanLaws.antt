@@ -1,4 +1,4 @@
--- What the checks of a plan tell of the transaction, by the name of its unit.
+-- The transaction, by the name of its unit, from the results of the checks of its plan.
 use Rattle.std.proofs.Common.{◌≡◌, ◌↔◌, ◌∙◌, ◌<◌, ◌≤◌, ℕ, List, [], length, refl, ap, subst}
 use Rattle.um_model.specs.Jobs.{Job, ComesBefore, jobs_for}
 use Rattle.um_model.specs.Order.{IsCycle}
@@ -23,7 +23,7 @@ use Rattle.um_transact.specs.declared.walk.Marks.{Marks}
 use Rattle.um_transact.proofs.MarkedLaws.{is_plan}
 use Rattle.um_transact.proofs.OutcomeLaws.{accepted, refused_bars, refused_clashes, refused_drops, refused_cycle}
 
--- past the last unit nothing is demanded, and the jobs are as they were
+-- past the last unit nothing is demanded, and the jobs don't change
 unmarked_stay : (marks : List Marks) (activity : List ActiveState) (pending : List UnitJobs) (u : ℕ) → marks ≡ [] → planned_at marks activity pending u ≡ jobs_at pending u
 unmarked_stay marks activity pending u none = ap (λ ms. planned_at ms activity pending u) none ∙ jobs_unasked (activity_at activity u) (jobs_at pending u)
   where
@@ -34,7 +34,7 @@ pub past_stays : (t : TransactionView) (marks : List Marks) → IsMade marks t �
     → jobs_at t.plan u ≡ jobs_at t.pending u
 past_stays t marks made past u h = made.each u h ∙ unmarked_stay marks t.activity t.pending u (made.past past)
 
--- a transaction by what it was made from
+-- a transaction, by the inputs it was made from
 pub made_from : (t : TransactionView) (g : GraphView) (activity : List ActiveState) (pending : List UnitJobs) (root : Demand × ℕ) → t.graph ≡ g → t.activity ≡ activity
     → t.pending ≡ pending → t.root ≡ root → t ≡ transaction g activity pending root t.plan
 made_from t g activity pending root e f h k = λ i. record { graph = e i; activity = f i; pending = h i; root = k i; plan = t.plan }
@@ -49,7 +49,7 @@ accepted_for t mode planned free name number = record {
   free = free_of_causes (scene_in t) (t.root.0, name) mode (jobs_by t.graph.names t.plan) (free name number);
 }
 
--- and one that is, is refused for that cause
+-- and one that is refused, is refused for that cause
 pub refused_with : (t : TransactionView) (mode : JobMode) (r : Refused)
     → ((name : List ℕ) → IsNumberOf t.graph t.root.1 name → IsPlan (scene_in t) (t.root.0, name) (jobs_by t.graph.names t.plan))
     → ((name : List ℕ) → IsNumberOf t.graph t.root.1 name → CausesOfPlan (scene_in t) (t.root.0, name) mode (jobs_by t.graph.names t.plan) r)
@@ -64,7 +64,7 @@ module _ (g : GraphView) (activity : List ActiveState) (pending : List UnitJobs)
   marked : (q : Demanded) → IsMarked marks q ↔ IsDemandedBy g activity root q
   marked = made.marked known
 
-  -- the jobs are those after what is demanded
+  -- the jobs are those after the demand
   pub planned_for : IsPlan (scene_of g activity pending) (root.0, name) (jobs_by g.names plan)
   planned_for =
       subst (λ x. IsPlan (scene_of g activity pending) (root.0, x) (jobs_by g.names plan)) (name_is g.names root.1 name number)

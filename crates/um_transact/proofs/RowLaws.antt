@@ -1,4 +1,4 @@
--- What stands in the rows of a graph, and what is found in the row of a unit.
+-- The members of the rows of a graph, and the demands found in the row of a unit.
 use Rattle.std.proofs.Common.{◌≡◌, ◌<◌, zero, suc, Bool, true, false, List, ◌++◌, length, Contains, refl, subst, inl, inr, arith}
 use Rattle.std.proofs.lemmas.List.Elements.{Contains-append_left, Contains-append_right, Contains-append_cases}
 use Rattle.um_model.specs.Jobs.{is_active}
@@ -12,7 +12,7 @@ use Rattle.um_graph.proofs.StandLaws.{neighbour_within}
 use Rattle.um_transact.specs.Situation.{LeadsBy}
 use Rattle.um_transact.specs.Walk.{Demanded, activity_at, brings, brought_by, one_if}
 
--- ---- what is found by one neighbour
+-- ---- the demands found by one neighbour
 one_cases : (b : Bool) (p q : Demanded) → Contains (one_if b p) q → (b ≡ true) × (p ≡ q)
 one_cases true p q (zero, h, e) = (refl, e)
 one_cases true p q (suc k, h, e) = absurd (omega arith)

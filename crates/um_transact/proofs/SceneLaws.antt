@@ -1,4 +1,4 @@
--- The scene of a graph says of the names what the rows say of the numbers.
+-- The scene of a graph has by name what the rows have by number.
 use Rattle.std.proofs.Common.{◌≡◌, ◌↔◌, ◌∙◌, ◌<◌, ℕ, true, List, length, Option, Some, None, is_some, refl, sym, ap, arith}
 use Rattle.std.proofs.lemmas.Option.{get_or_from_slice_get, slice_get-get_or}
 use Rattle.um_model.specs.Dependencies.{loadable_of}

@@ -1,4 +1,4 @@
--- What was tested of units is so: nothing at first, and one answer more.
+-- The recorded tests of units are true: of no unit at first, and one answer more.
 use Rattle.std.proofs.Common.{◌≡◌, ℕ, zero, suc, Bool, List, [], Option, None, Some, length, replicate, refl, sym, ap, ◌∙◌}
 use Rattle.std.proofs.lemmas.List.{length-replicate}
 use Rattle.um_model.specs.declared.service.ActiveState.{ActiveState}

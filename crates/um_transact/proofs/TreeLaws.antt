@@ -62,7 +62,7 @@ module _ (tree : ReadTree) (Extra : List ℕ → Type 0) (g : GraphView) (is : I
         record { from = i.0; to = j.0; first = i.1; second = j.1; stands = (of.before i.0 j.0 x y i.1 j.1).1 d },
   )
 
-  -- what was found of a unit is what the tree gives
+  -- the loading found for a unit is the one by the tree
   found_load : (x : List ℕ) (loading : Loading) → IsFound g x loading → loading_of loading ≡ load tree x
   found_load x loading f = same_Some (loading_of loading) (load tree x) (ap (option_map loading_of) (sym f.held) ∙ of.loaded f.number x f.known)
 
@@ -84,7 +84,7 @@ module _ (tree : ReadTree) (Extra : List ℕ → Type 0) (g : GraphView) (is : I
     λ c. let f = found x k in record { loading = f.0; found = f.1; cause = subst (λ l. machine.CannotStart x l r) (sym (found_load x f.0 f.1)) c },
   )
 
-  -- with what is told of the units by their numbers, the scene of the graph is alike that of the tree
+  -- with activity and jobs of the units by number, the scene of the graph is alike that of the tree
   module _ (activity : List ActiveState) (pending : List UnitJobs) (activity_of : List ℕ → ActiveState) (held : ByUnit UnitJobs)
       (active : (i : ℕ) (x : List ℕ) → IsNumberOf g i x → activity_at activity i ≡ activity_of x)
       (pends : (i : ℕ) (x : List ℕ) → IsNumberOf g i x → jobs_at pending i ≡ jobs_of_unit held x)

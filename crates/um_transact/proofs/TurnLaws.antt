@@ -1,4 +1,4 @@
--- One turn of a walk: what is found can be marked, and the walk goes on.
+-- One turn of a walk: the demands found can be marked, and the walk goes on.
 use Rattle.std.proofs.Common.{◌≡◌, ◌<◌, ◌∙◌, ℕ, suc, List, [], ◌∷◌, ◌++◌, length, get_or, drop, drop-cons, set, All, Contains, sym, ap, subst, refl, Bool, true, false, cond}
 use Rattle.std.proofs.lemmas.List.{length-set}
 use Rattle.std.proofs.lemmas.List.Elements.{Contains-get_or}
@@ -10,7 +10,7 @@ use Rattle.um_transact.specs.declared.walk.Marks.{Marks}
 use Rattle.um_transact.proofs.WalkLaws.{IsUnderWay, left, way_goes_on}
 use Rattle.um_transact.proofs.RowLaws.{leads_within}
 
--- meeting a demand keeps the count of marks
+-- marking a demand keeps the count of marks
 pub met_long : (p : Demanded) (s : Met) → length (met p s).0 ≡ length s.0
 met_long p s = by (is_marked s.0 p)
   where
@@ -18,12 +18,12 @@ met_long p s = by (is_marked s.0 p)
     by true = refl
     by false = length-set s.0 p.1 (with_mark p.0 (marks_at s.0 p.1))
 
--- one more of a list is met
+-- one more of a list is marked
 pub met_more : (found : List Demanded) (i j : ℕ) (d : Demanded) (s t u : Met) → j ≡ suc i → i < length found → t ≡ met (get_or found i d) s → all_met (drop i found) s ≡ u → all_met (drop j found) t ≡ u
 met_more found i j d s t u n h e is =
     ap (λ k. all_met (drop k found) t) n ∙ (ap (all_met (drop (suc i) found)) e ∙ (sym (ap (λ ps. all_met ps s) (drop-cons found i d h)) ∙ is))
 
--- what is found can be marked
+-- each demand found can be marked
 pub found_fits : (n len : ℕ) (found : List Demanded) → len ≡ n → ((q : Demanded) → Contains found q → q.1 < n) → All (λ (p : Demanded). p.1 < len) found
 found_fits n len found long within k d h = let q = get_or found k d in subst (λ j. q.1 < j) (sym long) (within q (Contains-get_or found k d h))
 

@@ -1,4 +1,4 @@
--- What a walk keeps: it has met what it was led to, and each demand that it met is followed or is yet to be.
+-- The invariant of a walk: the demands that it was led to are marked, and each marked demand is followed or is yet to be.
 use Rattle.std.proofs.Common.{◌≡◌, ◌⊎◌, ◌↔◌, ◌+◌, ◌<◌, ◌≤◌, ℕ, zero, suc, Bool, true, false, cond, List, [], ◌∷◌, ◌++◌, length, set, replicate, sum_by, Contains, refl, sym, ap, ◌∙◌, subst, inl, inr, arith}
 use Rattle.std.proofs.lemmas.List.{length-set, length-replicate, length-append}
 use Rattle.std.proofs.lemmas.List.Sums.{sum_by-cons}
@@ -76,7 +76,7 @@ fewer [] n d h e = absurd (omega arith)
 fewer (x ∷ m) zero d h e = omega (arith, sum_by-cons unmarked x m, sum_by-cons unmarked (with_mark d x) m, fewer_here d x e)
 fewer (x ∷ m) (suc n) d h e = omega (arith, sum_by-cons unmarked x m, sum_by-cons unmarked x (marking d n m), fewer m n d (omega arith) e)
 
--- ---- what meeting demands makes of the marks and the list
+-- ---- marks and list after demands are marked
 abbrev pub left : Met → ℕ
 left s = sum_by unmarked s.0 + length s.1
 
@@ -212,7 +212,7 @@ module _ (Next : Demanded → Demanded → Type 0) (root : Demanded) where
         omega (arith, whole.falls),
       )
 
-  -- nothing is left to be followed: just what the rule leads to is marked
+  -- nothing is left to be followed: just the demands that the rule leads to are marked
   pub way_ends : (n : ℕ) (m : List Marks) (l : List Demanded) → IsUnderWay n m l → length l ≡ 0 → (q : Demanded) → IsMarked m q ↔ Reached (λ p. p ≡ root) Next q
   way_ends n m l u e q = (
     u.sound q,

@@ -1,5 +1,5 @@
--- The checks of a plan, one unit after another: which refusal a unit gives, and what a check over all of them answers.
--- Follows the definition of why a plan is refused: it says it by numbers.
+-- The checks of a plan, one unit after another: which refusal a unit gives, and the result of a check over all of them.
+-- Follows the definition of why a plan is refused: it states it by numbers.
 -- The order of refusals stands on this file.
 use Rattle.std.specs.Prelude.{◌≡◌, ◌≢◌, ℕ, ◌<◌, ◌||◌, if◌then◌else◌, Bool, true, List, Option, Some, None, Result, Ok, Err, slice_get}
 use Rattle.um_model.specs.Jobs.{Job, ComesBefore, jobs_for}
@@ -76,12 +76,12 @@ pub record RefusesFirst (Refuses : ℕ → Refused → Type 0) (n : ℕ) (r : Re
   pub cause : Refuses unit r
   pub first : (v : ℕ) → v < unit → (q : Refused) → ¬ Refuses v q
 
--- a check of the units below n passes where none gives a refusal, or refuses for the first that does; or it lacks memory
+-- a check of the units below n passes if none gives a refusal, or refuses for the first that does; or it lacks memory
 abbrev pub ChecksBy : {X : Type 0} → (ℕ → Refused → Type 0) → ℕ → Result X Refusal → Type 0
 ChecksBy Refuses n (Ok done) = (u : ℕ) → u < n → (r : Refused) → ¬ Refuses u r
 ChecksBy Refuses n (Err e) = (e ≢ NoMemory) → RefusesFirst Refuses n (refused_of e)
 
--- the jobs have no cycle, or E9 tells one; or memory lacks
+-- the jobs have no cycle, or E9 names one; or memory lacks
 abbrev pub OrdersBy : {X : Type 0} → (List ℕ → List ℕ → Type 0) → ByUnit UnitJobs → Result X Refusal → Type 0
 OrdersBy IsBefore after (Ok done) = (cycle : List Job) → ¬ IsCycle (ComesBefore IsBefore after) cycle
 OrdersBy IsBefore after (Err e) = (e ≢ NoMemory) → NamesCycle IsBefore after (refused_of e)

@@ -1,5 +1,5 @@
 -- The order of the pending jobs, over numbers: of each unit its stop job, and then its start job.
--- Follows the definition of which job comes before which: it says it by numbers.
+-- Follows the definition of which job comes before which: it states it by numbers.
 -- The check for cycles stands on this file.
 use Rattle.std.specs.Prelude.{ℕ, ◌+◌, ◌*◌, ◌/◌, ◌%◌, ◌==◌, ◌<◌, ◌&&◌, if◌then◌else◌, List, [], ◌∷◌, ◌++◌, Contains, is_some}
 use Rattle.std.specs.List.{flat_map}
@@ -24,7 +24,7 @@ number_of (Start, u) = u * 2 + 1
 abbrev pub node_at : ℕ → Node
 node_at k = if k % 2 == 0 then (Stop, k / 2) else (Start, k / 2)
 
--- the first is before the second, where it is pending and the second waits
+-- the first is before the second, if it is pending and the second waits
 abbrev pub pair_of : List UnitJobs → Node → Node → List (ℕ × ℕ)
 pair_of plan m n = if is_some (job_of m.0 (jobs_at plan m.1)) && is_waiting (job_of n.0 (jobs_at plan n.1)) then (number_of m, number_of n) ∷ [] else []
 

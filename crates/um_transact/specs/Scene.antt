@@ -1,4 +1,4 @@
--- What a transaction over a graph is: its scene by the names of units, the pending jobs that a plan stands for, and what the answer promises.
+-- A transaction over a graph: its scene by the names of units, the pending jobs that a plan stands for, and the promise of the answer.
 -- Follows the definitions of plans: it puts a graph in their place.
 -- The one public call stands on this file.
 use Rattle.std.specs.Prelude.{◌≡◌, ℕ, List, Some, slice_get}
@@ -22,7 +22,7 @@ use Rattle.um_graph.specs.Kinds.{bit_of, before_bit}
 use Rattle.um_graph.specs.Named.{Joins, item_for}
 use Rattle.um_jobs.specs.Named.{jobs_by}
 
--- this became of the look for the unit
+-- this is the outcome of the look-up for the unit
 pub record IsFound (g : GraphView) (x : List ℕ) (loading : Loading) : Type 0 where
   pub number : ℕ
   pub known : IsNumberOf g number x
@@ -41,7 +41,7 @@ pub record CannotStart (g : GraphView) (x : List ℕ) (r : Refused) : Type 0 whe
   pub found : IsFound g x loading
   pub cause : machine.CannotStart x (loading_of loading) r
 
--- what a transaction over this graph is made from, with how active each unit is and its pending jobs, by number
+-- the inputs of a transaction over this graph: how active each unit is and its pending jobs, by number
 abbrev pub scene_of : GraphView → List ActiveState → List UnitJobs → Scene
 scene_of g activity pending = record {
   Depends = λ kind x y. Joins g (bit_of kind) x y;

@@ -1,6 +1,6 @@
--- What is demanded as the rows of a graph say it, over the numbers of units.
--- Follows the definitions of demands: it says them by numbers.
--- The search for what is demanded stands on this file.
+-- Demands as the rows of a graph give them, over the numbers of units.
+-- Follows the definitions of demands: it states them by numbers.
+-- The search for demands stands on this file.
 use Rattle.std.specs.Bool.{Decides}
 use Rattle.std.specs.Prelude.{◌≡◌, ◌⊎◌, ℕ, ◌<◌, ◌||◌, ◌&&◌, Bool, true, false, not, List, Contains, Option, None, Some, is_some, length, slice_index_or}
 use Rattle.um_model.specs.Demands.{IsStarting}
@@ -41,11 +41,11 @@ pub record IsStartableBy (g : GraphView) (activity : List ActiveState) (w : ℕ)
   pub loadable : (y : ℕ) → IsRequiredBy g activity (Start, w) (Start, y) → is_loadable_at g y ≡ true
   pub apart : (y : ℕ) → IsRequiredBy g activity (Start, w) (Start, y) → ¬ IsRequiredBy g activity (Start, w) (Stop, y)
 
--- what was tested of a unit: whether it can be started along, or nothing yet
+-- the recorded test of a unit: whether it can be started along, or None if it wasn't tested
 abbrev pub tested_at : List (Option Bool) → ℕ → Option Bool
 tested_at tested u = slice_index_or tested u None
 
--- each unit has its place, and what was tested of it is so
+-- each unit has its place, and its recorded test is true
 pub record AreTested (g : GraphView) (activity : List ActiveState) (tested : List (Option Bool)) : Type 0 where
   pub long : length tested ≡ length g.names
   pub told : (u : ℕ) (b : Bool) → tested_at tested u ≡ Some b → Decides b (IsStartableBy g activity u)
@@ -59,14 +59,14 @@ pub record WantsBy (g : GraphView) (activity : List ActiveState) (p q : Demanded
   pub startable : IsStartableBy g activity neighbour.unit
   pub is : (Start, neighbour.unit) ≡ q
 
--- a demand brings another, or what is wanted along
+-- a demand brings another, or the start of a wanted unit
 abbrev pub LeadsAlongBy : GraphView → List ActiveState → Demanded → Demanded → Type 0
 LeadsAlongBy g activity p q = LeadsBy g activity p q ⊎ WantsBy g activity p q
 
 abbrev pub IsDemandedBy : GraphView → List ActiveState → Demanded → Demanded → Type 0
 IsDemandedBy g activity root = Reached (λ p. p ≡ root) (LeadsAlongBy g activity)
 
--- where the unit is started it can be loaded and isn't stopped
+-- if the unit is started, it can be loaded and isn't stopped
 abbrev pub is_fine : Marks → Bool → Bool
 is_fine m loadable = not m.start || (loadable && not m.stop)
 
@@ -76,7 +76,7 @@ is_fine_at g marks u = is_fine (marks_at marks u) (is_loadable_at g u)
 abbrev pub AreFine : GraphView → List Marks → ℕ → Type 0
 AreFine g marks n = (u : ℕ) → u < n → is_fine_at g marks u ≡ true
 
--- the start of the neighbour is added where the neighbour is wanted and can be started along
+-- the start of the neighbour is added if the neighbour is wanted and can be started along
 pub record AddsWanted (g : GraphView) (activity : List ActiveState) (n : Neighbour) (old new : List Demanded) : Type 0 where
   pub kept : (q : Demanded) → Contains old q → Contains new q
   pub added : has (bit_of Wants) n.kinds ≡ true → IsStartableBy g activity n.unit → Contains new (Start, n.unit)

@@ -1,5 +1,5 @@
--- A transaction before anything refuses it: what it is made from, and the pending jobs after it.
--- Follows the definitions of plans: it says them over a graph.
+-- A transaction before anything refuses it: its inputs, and the pending jobs after it.
+-- Follows the definitions of plans: it states them over a graph.
 -- The public calls stand on this file.
 use Rattle.std.specs.Prelude.{◌≡◌, ℕ, ◌<◌, ◌≤◌, ◌↔◌, List, [], length}
 use Rattle.um_model.specs.Plan.{Scene}
@@ -25,11 +25,11 @@ pub record TransactionView : Type 0 where
 abbrev pub transaction : GraphView → List ActiveState → List UnitJobs → Demand × ℕ → List UnitJobs → TransactionView
 transaction graph activity pending root plan = record { graph = graph; activity = activity; pending = pending; root = root; plan = plan }
 
--- what it is made from, by the names of units
+-- its inputs, by the names of units
 abbrev pub scene_in : TransactionView → Scene
 scene_in t = scene_of t.graph t.activity t.pending
 
--- its marks are just what the demand brings, none where its unit is past the last one; and its jobs are those after that
+-- its marks are just the demands that its demand brings, none if its unit is past the last one; and its jobs are those after that
 pub record IsMade (marks : List Marks) (t : TransactionView) : Type 0 where
   pub graph : IsGraph t.graph
   pub marked : t.root.1 < length t.graph.names → (q : Demanded) → IsMarked marks q ↔ IsDemandedBy t.graph t.activity t.root q

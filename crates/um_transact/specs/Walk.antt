@@ -1,5 +1,5 @@
--- A walk over demands: which of them were met of each unit, and those that are yet to be followed.
--- Follows no manual page: it is how the code finds what a demand brings with it.
+-- A walk over demands: which of them are marked for each unit, and those that are yet to be followed.
+-- Follows no manual page: it is how the code finds the demands that a demand brings.
 -- The demands by number stand on this file.
 use Rattle.std.specs.Prelude.{◌≡◌, ℕ, ◌+◌, ◌||◌, ◌&&◌, if◌then◌else◌, Bool, true, false, List, [], ◌∷◌, ◌++◌, slice_index_or, slice_set}
 use Rattle.std.specs.List.{flat_map}
@@ -41,11 +41,11 @@ is_marked marks p = has_mark p.0 (marks_at marks p.1)
 abbrev pub IsMarked : List Marks → Demanded → Type 0
 IsMarked marks p = is_marked marks p ≡ true
 
--- the marks, and what is yet to be followed
+-- the marks, and the demands that are yet to be followed
 abbrev pub Met : Type 0
 Met = List Marks × List Demanded
 
--- a demand is marked and put to those to be followed, unless it was marked
+-- a demand is marked and appended to those to be followed, unless it was marked
 abbrev pub met : Demanded → Met → Met
 met p s = if is_marked s.0 p then s else (slice_set s.0 p.1 (with_mark p.0 (marks_at s.0 p.1)), s.1 ++ p ∷ [])
 
@@ -62,7 +62,7 @@ count_if false = 1
 abbrev pub unmarked : Marks → ℕ
 unmarked m = count_if m.start + (count_if m.stop + count_if m.restart)
 
--- ---- what a demand brings, by one neighbour
+-- ---- the demands that a demand brings, by one neighbour
 
 -- the neighbour is required, or bound to
 abbrev pub needs : Neighbour → Bool

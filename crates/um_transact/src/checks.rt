@@ -23,7 +23,7 @@ fn is_started(marks: Marks) -> bool
     marks.start || marks.restart
 }
 
-/// Refuses to start the unit with this number where it can't be started.
+/// Refuses to start the unit with this number if it can't be started.
 fn check_unit(alloc: Global, graph: &Graph, unit: usize) -> Result<(), Refusal>
     ensures { RefusesBy (CannotStartBy graph.now unit) result }
 {
@@ -36,7 +36,7 @@ fn check_unit(alloc: Global, graph: &Graph, unit: usize) -> Result<(), Refusal>
     }
 }
 
-/// Refuses the unit with this number where it is started and can't be.
+/// Refuses the unit with this number if it is started and can't be.
 fn check_bar(alloc: Global, graph: &Graph, marks: &[Marks], unit: usize) -> Result<(), Refusal>
     ensures { RefusesBy (BarsBy graph.now marks.now unit) result }
 {
@@ -56,7 +56,7 @@ pub fn check_bars(alloc: Global, graph: &Graph, marks: &[Marks]) -> Result<(), R
     Ok(())
 }
 
-/// Refuses the unit with this number where it is started and stopped.
+/// Refuses the unit with this number if it is started and stopped.
 fn check_clash(alloc: Global, graph: &Graph, marks: &[Marks], unit: usize) -> Result<(), Refusal>
     ensures { RefusesBy (ClashesBy graph.now marks.now unit) result }
 {
@@ -86,7 +86,7 @@ fn is_fail(mode: JobMode) -> bool
     matches!(mode, JobMode::Fail)
 }
 
-/// Refuses in mode fail the unit with this number where one of its jobs is dropped.
+/// Refuses in mode fail the unit with this number if one of its jobs is dropped.
 fn check_drop(
     alloc: Global,
     graph: &Graph,

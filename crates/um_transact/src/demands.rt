@@ -1,4 +1,4 @@
-//! What a demand on a unit brings with it (systemd.unit(5), "Requires=", "BindsTo=", "PartOf=", "Conflicts=", "Wants=").
+//! The demands that a demand on a unit brings (systemd.unit(5), "Requires=", "BindsTo=", "PartOf=", "Conflicts=", "Wants=").
 
 ghost use Rattle.std.specs.Bool.{Decides};
 ghost use Rattle.std.specs.Prelude.{◌≡◌, ◌<◌, ◌++◌, ◌↔◌, true, Contains, None, IfOk, OnOk, length, replicate, vec_len, is_some};
@@ -68,7 +68,7 @@ fn push_if(
     Ok(())
 }
 
-/// Adds what a demand on a unit brings by one neighbour.
+/// Adds the demands that a demand on a unit brings by one neighbour.
 fn push_brought(
     found: &mut Vec<(Demand, usize)>,
     demand: Demand,
@@ -93,7 +93,7 @@ fn is_active(activity: &[ActiveState], unit: usize) -> bool
     matches!(activity.get(unit), Some(ActiveState::Active))
 }
 
-/// What a demand on a unit brings.
+/// The demands that a demand on a unit brings.
 fn brought(
     alloc: Global,
     graph: &Graph,
@@ -131,7 +131,7 @@ fn required(
     Ok(walk.marks)
 }
 
-/// Which demands on the unit with this number were met.
+/// The demands that are marked for the unit with this number.
 pub fn marks_of(marks: &[Marks], unit: usize) -> Marks
     ensures { result ≡ marks_at marks.now unit }
 {
@@ -188,7 +188,7 @@ fn is_startable(
     Ok(are_fine(graph, &marks))
 }
 
-/// What was tested of the unit with this number.
+/// The recorded test of the unit with this number; None if it wasn't tested.
 fn tested_at(tested: &[Option<bool>], unit: usize) -> Option<bool>
     ensures { result ≡ tested_at tested.now unit }
 {
@@ -217,7 +217,7 @@ fn can_start(
     Ok(startable)
 }
 
-/// Adds the start of the neighbour, where it is wanted and can be started along.
+/// Adds the start of the neighbour, if it is wanted and can be started along.
 fn push_wanted(
     alloc: Global,
     found: &mut Vec<(Demand, usize)>,
@@ -248,7 +248,7 @@ fn is_starting(demand: Demand) -> bool
     matches!(demand, Demand::Start | Demand::Restart)
 }
 
-/// What a demand on a unit brings, and the starts of what it wants along.
+/// The demands that a demand on a unit brings, and the starts of the units that it wants along.
 fn brought_along(
     alloc: Global,
     tested: &mut Vec<Option<bool>>,
@@ -271,14 +271,14 @@ fn brought_along(
     Ok(found)
 }
 
-/// Nothing was tested yet, of so many units.
+/// No unit was tested yet, of this number of units.
 fn untested(alloc: Global, units: usize) -> Result<Vec<Option<bool>>, AllocError>
     ensures { IfOk result (λ tested. tested.items ≡ replicate units None) }
 {
     vec![in alloc; None; units]
 }
 
-/// Marks each demand that the demand on the unit brings with it.
+/// Marks each demand that the demand on the unit brings.
 pub fn demanded(
     alloc: Global,
     graph: &Graph,

@@ -1,5 +1,5 @@
-//! What a transaction makes of the pending jobs, or the first cause for which it is refused: exactly what the definitions of
-//! demands and plans say of the units of a graph.
+//! The pending jobs after a transaction, or the first cause for which it is refused: exactly by the definitions of demands and plans, for
+//! the units of a graph.
 #![tactic(auto)]
 
 mod checks;

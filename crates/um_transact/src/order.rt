@@ -40,7 +40,7 @@ fn job_of(plan: &[UnitJobs], job: (JobKind, usize)) -> Option<JobState>
     }
 }
 
-/// Adds that the first job is before the second, where it is pending and the second waits.
+/// Adds that the first job is before the second, if it is pending and the second waits.
 fn push_pair(
     pairs: &mut Vec<(usize, usize)>,
     plan: &[UnitJobs],
@@ -56,7 +56,7 @@ fn push_pair(
     Ok(())
 }
 
-/// Adds the order of the jobs of two units, where x is before y.
+/// Adds the order of the jobs of two units, when x is before y.
 fn push_before(
     pairs: &mut Vec<(usize, usize)>,
     plan: &[UnitJobs],
@@ -88,7 +88,7 @@ fn push_by(
     Ok(())
 }
 
-/// Adds the order that stands in the row of a unit.
+/// Adds the order from the row of a unit.
 fn push_row(
     pairs: &mut Vec<(usize, usize)>,
     graph: &Graph,
@@ -105,7 +105,7 @@ fn push_row(
     Ok(())
 }
 
-/// The order of the jobs, over their numbers. The row of a unit without a job tells nothing.
+/// The order of the jobs, over their numbers. The row of a unit without a job gives none.
 fn pairs(alloc: Global, graph: &Graph, plan: &[UnitJobs]) -> Result<Vec<(usize, usize)>, AllocError>
     requires { length plan.now ≤ 2 ^ 62 }
     ensures { IfOk result (λ pairs. ArePairs graph.now.rows plan.now (length graph.now.names) pairs.items) }
@@ -119,7 +119,7 @@ fn pairs(alloc: Global, graph: &Graph, plan: &[UnitJobs]) -> Result<Vec<(usize, 
     Ok(pairs)
 }
 
-/// The name of the unit with this number; nothing past the last one.
+/// The name of the unit with this number; empty past the last one.
 fn name_of(alloc: Global, graph: &Graph, unit: usize) -> Result<String, AllocError>
     ensures { IfOk result (λ text. string_bytes text ≡ name_at graph.now.names unit) }
 {

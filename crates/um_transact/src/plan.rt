@@ -1,4 +1,4 @@
-//! The plan of a transaction, or the first refusal that holds.
+//! The plan of a transaction, or its first refusal.
 
 ghost use Rattle.std.specs.Prelude.{◌≡◌, ◌≢◌, ◌≤◌, ◌<◌, ◌↔◌, [], ℕ, List, IfOk, IfErr, length, vec_len};
 ghost use Rattle.um_graph.specs.Graph.{IsGraph, IsNumberOf};
@@ -63,7 +63,7 @@ fn activity_of(activity: &[ActiveState], unit: usize) -> ActiveState
     activity.get(unit).copied().unwrap_or(ActiveState::Inactive)
 }
 
-/// Which demand counts for a unit: where it is restarted and started too, it is restarted.
+/// The demand that counts for a unit: if it is both restarted and started, the restart.
 fn counted(met: Marks) -> Option<Demand>
     ensures { result ≡ checks.counted met }
 {
@@ -78,7 +78,7 @@ fn counted(met: Marks) -> Option<Demand>
     }
 }
 
-/// The jobs of the unit with this number after what is demanded of it.
+/// The jobs of the unit with this number after the demand on it.
 fn planned_jobs(
     marks: &[Marks],
     activity: &[ActiveState],
@@ -94,7 +94,7 @@ fn planned_jobs(
     )
 }
 
-/// The jobs of so many units after what is demanded of them.
+/// The jobs of the first `units` units after the demands on them.
 fn planned(
     alloc: Global,
     marks: &[Marks],
@@ -112,7 +112,7 @@ fn planned(
     Ok(plan)
 }
 
-/// What the demand on the unit with this number brings, marked unit by unit; nothing where that is past the last unit.
+/// The demands that the demand on the unit with this number brings, marked unit by unit; none if that is past the last unit.
 fn marks_for(
     alloc: Global,
     graph: &Graph,
@@ -130,7 +130,7 @@ fn marks_for(
     demanded(alloc, graph, activity, root)
 }
 
-/// Refuses the plan for the first cause that holds, by the marks of what is demanded.
+/// Refuses the plan for the first cause that applies, by the marks of the demands.
 fn check_plan(
     alloc: Global,
     graph: &Graph,
@@ -150,8 +150,7 @@ fn check_plan(
     Ok(())
 }
 
-/// What a demand on one unit of a graph makes of the pending jobs, before anything refuses it (systemctl(1), `start`, `stop`,
-/// `restart`).
+/// The pending jobs after a demand on one unit of a graph, before anything refuses it (systemctl(1), `start`, `stop`, `restart`).
 #[derive(Drop)]
 pub struct Transaction<'t> {
     graph: &'t Graph,
@@ -171,9 +170,9 @@ impl<'t> Model for Transaction<'t> {
 }
 
 impl<'t> Transaction<'t> {
-    /// The transaction for the demand on the unit with this number. How active each unit is and its pending jobs are told by
-    /// number; a unit past their ends is inactive, or has none. A demand on a unit past the last of the graph demands nothing: the
-    /// plan is the pending jobs.
+    /// The transaction for the demand on the unit with this number. `activity` and `pending` have each unit's activity and pending jobs by
+    /// number; a unit past their ends is inactive, or has none. A demand on a unit past the last of the graph demands nothing: the plan is
+    /// the pending jobs.
     pub fn of(
         alloc: Global,
         graph: &'t Graph,
@@ -211,7 +210,7 @@ impl<'t> Transaction<'t> {
         &self.plan
     }
 
-    /// The same by itself.
+    /// The plan, without the rest of the transaction.
     pub fn into_plan(self) -> Plan
         ensures plan { result ≡ self.entry.plan }
         ensures long { length self.entry.plan ≡ length self.entry.graph.names }
@@ -222,10 +221,13 @@ impl<'t> Transaction<'t> {
         self.plan
     }
 
-    /// Refuses the transaction in this mode (systemctl(1), `--job-mode=`) for the first cause that holds: E4 to E6 of the least unit
-    /// that would be started and can't be; E8 of the least unit that would be started and stopped; in mode fail E10 of the least
-    /// unit of which a pending job would be dropped; E9 with the units of a circle in which pending jobs would wait for one another,
-    /// the least first. Want of memory is E15.
+    /// Refuses the transaction in this mode (systemctl(1), `--job-mode=`) for the first cause that applies:
+    /// - E4 to E6 of the least unit that would be started and can't be;
+    /// - E8 of the least unit that would be started and stopped;
+    /// - in mode fail E10 of the least unit of which a pending job would be dropped;
+    /// - E9 with the units of a circle in which pending jobs would wait for one another, the least first.
+    ///
+    /// Want of memory is E15.
     pub fn check(&self, alloc: Global, mode: JobMode) -> Result<(), Refusal>
         ensures causes { (name : List ℕ) → IsNumberOf self.now.graph self.now.root.1 name
             → RefusesBy (CausesOfPlan (scene_in self.now) (self.now.root.0, name) mode (jobs_by self.now.graph.names self.now.plan)) result }
@@ -245,13 +247,15 @@ impl<'t> Transaction<'t> {
     }
 }
 
-/// What becomes of the pending jobs by the demand on the unit with this number, in this mode (systemctl(1), `start`, `stop`,
-/// `restart`, `--job-mode=`), or the first refusal that holds: E4 to E6 of the least unit that would be started and can't be; E8
-/// of the least unit that would be started and stopped; in mode fail E10 of the least unit of which a pending job would be
-/// dropped; E9 with the units of a circle in which pending jobs would wait for one another, the least first; and E15.
+/// The pending jobs after the demand on the unit with this number, in this mode (systemctl(1), `start`, `stop`, `restart`,
+/// `--job-mode=`). It is refused for the first cause that applies:
+/// - E4 to E6 of the least unit that would be started and can't be;
+/// - E8 of the least unit that would be started and stopped;
+/// - in mode fail E10 of the least unit of which a pending job would be dropped;
+/// - E9 with the units of a circle in which pending jobs would wait for one another, the least first.
 ///
-/// How active each unit is and its pending jobs are told by number; a unit past their ends is inactive, or has none. A demand on
-/// a unit past the last of the graph demands nothing: the plan is the pending jobs.
+/// Want of memory is E15. `activity` and `pending` have each unit's activity and pending jobs by number; a unit past their ends is inactive,
+/// or has none. A demand on a unit past the last of the graph demands nothing: the plan is the pending jobs.
 pub fn build(
     alloc: Global,
     graph: &Graph,

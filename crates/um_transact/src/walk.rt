@@ -1,4 +1,4 @@
-//! A walk over demands: each is met once, and then followed.
+//! A walk over demands: each is marked once, and then followed.
 
 ghost use Rattle.std.specs.Prelude.{◌≡◌, ◌<◌, [], All, IfOk, OnOk, List, vec_len, replicate};
 ghost use Rattle.um_transact.specs.Walk.{Demanded, all_met, has_mark, met, no_marks, with_mark};
@@ -6,7 +6,7 @@ ghost use Rattle.um_transact.specs.Walk.{Demanded, all_met, has_mark, met, no_ma
 use std::alloc::{AllocError, Global};
 use um_model::Demand;
 
-/// Which demands on a unit were met.
+/// Which demands on a unit are marked.
 #[derive(Clone, Copy, Debug, PartialEq, Eq)]
 pub struct Marks {
     pub start: bool,
@@ -15,14 +15,14 @@ pub struct Marks {
 }
 
 impl Marks {
-    /// No demand was met.
+    /// No demand is marked.
     pub const NONE: Marks = Marks {
         start: false,
         stop: false,
         restart: false,
     };
 
-    /// Whether the demand was met.
+    /// Whether the demand is marked.
     pub fn has(&self, demand: Demand) -> bool
         ensures { result ≡ has_mark demand self.now }
     {
@@ -33,7 +33,7 @@ impl Marks {
         }
     }
 
-    /// With the demand met.
+    /// These marks and the demand's.
     fn with(self, demand: Demand) -> Marks
         ensures { result ≡ with_mark demand self }
     {
@@ -51,7 +51,7 @@ impl Marks {
     }
 }
 
-/// Which demands were met, by the number of the unit, and those of them that are yet to be followed.
+/// The marked demands, by the number of the unit, and those of them that are yet to be followed.
 #[derive(Drop)]
 pub struct Walk {
     pub marks: Vec<Marks>,
@@ -59,7 +59,7 @@ pub struct Walk {
 }
 
 impl Walk {
-    /// A walk over so many units that has met nothing yet.
+    /// A walk over this number of units, with no mark yet.
     pub fn new(alloc: Global, units: usize) -> Result<Walk, AllocError>
         ensures marks { IfOk result (λ w. w.marks.items ≡ replicate units no_marks) }
         ensures list { IfOk result (λ w. w.list.items ≡ []) }
@@ -70,7 +70,7 @@ impl Walk {
         })
     }
 
-    /// Meets a demand on a unit.
+    /// Marks a demand on a unit, and lists it to be followed, unless it was marked.
     pub fn meet(&mut self, demand: (Demand, usize)) -> Result<(), AllocError>
         requires within { demand.1 < vec_len self.old.marks }
         ensures { OnOk result ((self.new.marks.items, self.new.list.items) ≡ met demand (self.old.marks.items, self.old.list.items)) }
@@ -83,7 +83,7 @@ impl Walk {
         Ok(())
     }
 
-    /// Meets all of these.
+    /// Does the same for all of these.
     pub fn meet_all(&mut self, found: &[(Demand, usize)]) -> Result<(), AllocError>
         requires within { All (λ (p : Demanded). p.1 < vec_len self.old.marks) found.now }
         ensures { OnOk result ((self.new.marks.items, self.new.list.items) ≡ all_met found.now (self.old.marks.items, self.old.list.items)) }

@@ -1,4 +1,4 @@
--- What stands in a section that isn't known says nothing: item by item, or sorted out of the file.
+-- The items of an unknown section have no effect: item by item, or sorted out of the file.
 use Rattle.std.proofs.Common.{◌≡◌, ℕ, Bool, true, false, cond, List, [], ◌∷◌, ◌++◌, filter, map, Option, Some, None, refl, sym, ap, ◌∙◌}
 use Rattle.std.specs.List.{flat_map}
 use Rattle.um_model.specs.FileForms.{in_sections, section_past, warnings_of}
@@ -20,7 +20,7 @@ module _ {A B : Type 0} (passes : A → Bool) (all some : A → List B) (same : 
   one x xs true = refl
   one x xs false = refl
 
-  -- what is told of each, or of those that pass alone
+  -- the results of all, or of those alone that pass
   sorted_out : (xs : List A) → flat_map all xs ≡ flat_map some (filter passes xs)
   sorted_out [] = refl
   sorted_out (x ∷ xs) = ap (λ ys. ys ++ flat_map all xs) (same x) ∙ ap (λ ys. cond (passes x) (some x) [] ++ ys) (sorted_out xs) ∙ one x xs (passes x)

@@ -1,4 +1,4 @@
--- What stands behind the last element of its kind, under a map.
+-- The rest after the last element of its kind, under a map.
 use Rattle.std.proofs.Common.{◌≡◌, ◌≤◌, ◌<◌, get_or, suc, ℕ, ◌+◌, ◌-◌, Bool, not, cond, List, [], ◌∷◌, ◌++◌, length, take, drop, map, reverse, refl, sym, ap, ◌∙◌, arith}
 use Rattle.std.specs.List.{after_last, prefix_len, suffix_len}
 use Rattle.std.proofs.lemmas.List.{drop-map, length-drop, length-map, map-append, map-id, take_all}
@@ -17,7 +17,7 @@ map-reverse f (x ∷ xs) =
 suffix_len-map : {A B : Type 0} (p : B → Bool) (f : A → B) (xs : List A) → suffix_len p (map f xs) ≡ suffix_len (λ x. p (f x)) xs
 suffix_len-map p f xs = ap (prefix_len p) (sym (map-reverse f xs)) ∙ prefix_len-map p f (reverse xs)
 
--- the rest behind so many at the end
+-- the rest after the last element, by the length of the rest
 pub behind_last : {A B : Type 0} (p : B → Bool) (f : A → B) (xs : List A) (n : ℕ) → n ≡ suffix_len (λ x. not (p (f x))) xs
     → map f (take (length xs - (length xs - n)) (drop (length xs - n) xs)) ≡ after_last p (map f xs)
 behind_last p f xs n e =
@@ -28,7 +28,7 @@ behind_last p f xs n e =
     ∙ ap (λ k. drop (length xs - k) (map f xs)) same
     ∙ ap (λ k. drop (k - suffix_len (λ y. not (p y)) (map f xs)) (map f xs)) (sym (length-map xs f))
 
--- where one goes through a list: what came, what comes now and what is left
+-- a place in a list: the items so far, the item now and the items left
 pub comes_now : {A : Type 0} (all came : List A) (now : A) → map (λ x. x) came ≡ take (length came) all → (length came < length all) × (now ≡ get_or all (length came) now)
     → all ≡ came ++ now ∷ drop (suc (length came)) all
 comes_now all came now e at =

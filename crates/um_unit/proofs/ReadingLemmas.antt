@@ -28,7 +28,7 @@ abbrev pub read_after : {A : Type 0} → List A → Meaning (List A) → Meaning
 read_after done (Ok others) = Ok (done ++ others)
 read_after done (Err warning) = Err warning
 
--- whatever readings follow, all is what was read so far and then what these read
+-- whatever readings follow, all readings give the results so far and then those of the rest
 abbrev pub AreRead : {A : Type 0} → List (Meaning A) → List A → Type 0
 AreRead {A} readings done = (more : List (Meaning A)) → all_read (readings ++ more) ≡ read_after done (all_read more)
 
@@ -39,7 +39,7 @@ read_stops readings done reading warning more so_far is = so_far (reading ∷ mo
 pub all_are_read : {A : Type 0} (readings : List (Meaning A)) (done : List A) → AreRead readings done → all_read readings ≡ Ok done
 all_are_read readings done so_far = ap all_read (sym (append-nil readings)) ∙ so_far [] ∙ ap Ok (append-nil done)
 
--- what is read doesn't hang on how it is seen
+-- a reading doesn't depend on the form of its result
 read_in_front : {A B : Type 0} (f : A → B) (a : A) (others : Meaning (List A)) → read_as (map f) (in_front (Ok a) others) ≡ in_front (Ok (f a)) (read_as (map f) others)
 read_in_front f a (Ok others) = refl
 read_in_front f a (Err warning) = refl
@@ -76,12 +76,12 @@ pub names_nothing : {A : Type 0} (reading : Meaning A) → ((a : A) → reading 
 names_nothing (Ok a) not = absurd (not a refl)
 names_nothing (Err warning) not = refl
 
--- all of several readings, what they read seen in another way
+-- all of several readings, with their results in another form
 pub read_all : {V A B : Type 0} (f : A → B) (items : V → List A) (r : Meaning V) (readings : List (Meaning A)) (others : List (Meaning B)) → read_as items r ≡ all_read readings → map (read_as f) readings ≡ others
     → read_as (λ v. map f (items v)) r ≡ all_read others
 read_all f items r readings others all seen = sym (seen_twice (map f) items r) ∙ ap (read_as (map f)) all ∙ all_seen f readings ∙ ap all_read seen
 
--- the names that readings say, seen in another way
+-- the names that readings give, in another form
 pub said_seen : {A B : Type 0} (f : A → B) (readings : List (Meaning A)) → map f (filter_map result_ok readings) ≡ filter_map result_ok (map (read_as f) readings)
 said_seen f [] = refl
 said_seen f (Ok a ∷ others) = ap (λ names. f a ∷ names) (said_seen f others)
@@ -95,7 +95,7 @@ pub environment_by : (unit value : List ℕ) (words : List (List ℕ)) → words
 unfolding environment_reading
 environment_by unit value words e = ap (λ o. ok_or o UnreadableValue and_then λ read. all_read (map (variable_reading unit) read)) e
 
--- one reading's warning, what it read seen in another way
+-- one reading's warning, with its result in another form
 pub seen_warning : {A B : Type 0} (f : A → B) (r : Meaning A) → first_warning (r ∷ []) ≡ first_warning (read_as f r ∷ [])
 seen_warning f (Ok a) = refl
 seen_warning f (Err warning) = refl
@@ -104,7 +104,7 @@ pub seen_unread : {A B : Type 0} (f : A → B) (o : Option A) → first_warning 
 seen_unread f None = refl
 seen_unread f (Some a) = refl
 
--- the warning of a value, where its kind is known
+-- the warning of a value, if its kind is known
 pub warned_as : (unit value : List ℕ) (k kind : ValueKind) (w : Option WarningKind) → k ≡ kind → w ≡ first_warning (value_readings unit kind value) → w ≡ value_warning unit k value
 unfolding value_warning
 warned_as unit value k kind w is e = subst (λ x. w ≡ first_warning (value_readings unit x value)) (sym is) e

@@ -1,4 +1,4 @@
--- What the values of settings say, one after the other.
+-- The results of the values of settings, one after the other.
 use Rattle.std.proofs.Common.{◌≡◌, ◌<◌, ℕ, ◌+◌, ◌||◌, Bor, List, [], ◌∷◌, ◌++◌, filter_map, get_or, length, map, take, Option, Some, None, Ok, Err, refl, sym, ap, ◌∙◌}
 use Rattle.std.proofs.lemmas.List.{map-append, take_more}
 use Rattle.std.proofs.lemmas.List.Elements.{filter_map-append}
@@ -12,7 +12,7 @@ use Rattle.um_unit.specs.Tests.{tells_any}
 use Rattle.um_model.specs.Values.{exits_of}
 use Rattle.um_model.specs.declared.service.End.{End}
 
--- an end that values tell, or further ones
+-- an end that values include, or further ones
 pub ends_more : (values others : List (List ℕ)) (end : End)
     → tells_any (filter_map exits_of (values ++ others)) end ≡ (tells_any (filter_map exits_of values) end || tells_any (filter_map exits_of others) end)
 ends_more values others end = ap (λ sets. tells_any sets end) (filter_map-append exits_of values others) ∙ list_any-append (λ set. set end) (filter_map exits_of values) (filter_map exits_of others)
@@ -22,7 +22,7 @@ pub value_more : (values : List (Bor (List ℕ))) (i : ℕ) (d : Bor (List ℕ))
     → map (λ v. v.now) (take (i + 1) values) ≡ map (λ v. v.now) (take i values) ++ (get_or values i d).now ∷ []
 value_more values i d within = ap (map (λ v. v.now)) (take_more values i d within) ∙ map-append (λ v. v.now) (take i values) (get_or values i d ∷ [])
 
--- what each value says as one thing, or the things that are said
+-- the result of one value, or the list of the results
 one_thing : {A : Type 0} (r : Meaning A) (others : List A) → filter_map result_ok (r ∷ []) ++ others ≡ cons_option (result_ok r) others
 one_thing (Ok a) others = refl
 one_thing (Err warning) others = refl
@@ -31,7 +31,7 @@ same_one : {A : Type 0} (o : Option A) → result_ok (ok_or o UnreadableValue) �
 same_one None = refl
 same_one (Some a) = refl
 
--- values that say one thing each
+-- values that give one result each
 pub ones_said : {A : Type 0} (read : List ℕ → Option A) (values : List (List ℕ))
     → flat_map (λ value. filter_map result_ok (ok_or (read value) UnreadableValue ∷ [])) values ≡ filter_map read values
 ones_said read [] = refl
@@ -45,7 +45,7 @@ joined_one : {A : Type 0} (r : Meaning (List A)) (others : List (List A))
 joined_one (Ok list) others = refl
 joined_one (Err warning) others = refl
 
--- values that say a list each
+-- values that give a list each
 pub lists_said : {A : Type 0} (read : List ℕ → Meaning (List A)) (values : List (List ℕ))
     → flat_map (λ value. result_unwrap_or (read value) []) values ≡ flat_map (λ said. said) (flat_map (λ value. filter_map result_ok (read value ∷ [])) values)
 lists_said read [] = refl

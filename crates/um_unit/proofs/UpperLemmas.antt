@@ -1,4 +1,4 @@
--- What a service's settings are, field by field, and when a unit is the one of its files.
+-- A service's settings, field by field, and when a unit is the one of its files.
 use Rattle.std.proofs.Common.{◌≡◌, ◌==◌, ℕ, Bool, true, false, not, cond, List, [], ◌∷◌, length, codes, Option, Some, None, refl, sym, ap, ◌∙◌}
 use Rattle.std.specs.List.{list_any}
 use Rattle.std.specs.Str.{bytes_eq}

@@ -14,7 +14,7 @@ use Rattle.um_unit.specs.declared.readings.NameUse.{NameUse}
 use Rattle.um_unit.specs.declared.readings.NameUse.TheVariants.{Units, Aliases}
 use Rattle.um_model.specs.FileForms.{Meaning}
 
--- a reading, what it read seen in another way
+-- a reading, with its result in another form
 abbrev pub read_as : {A B : Type 0} → (A → B) → Meaning A → Meaning B
 read_as view (Ok a) = Ok (view a)
 read_as view (Err warning) = Err warning
@@ -24,7 +24,7 @@ abbrev pub fits_use : NameUse → List ℕ → List ℕ → Bool
 fits_use Units unit text = is_unit_name text
 fits_use Aliases unit text = is_alias_for unit text
 
--- what was read, or the warning of a value that can't be read
+-- the result, or the warning of a value that can't be read
 abbrev pub value_reading : {A : Type 0} → Option A → Meaning A
 value_reading read = ok_or read UnreadableValue
 
@@ -32,7 +32,7 @@ value_reading read = ok_or read UnreadableValue
 abbrev pub variable_reading : List ℕ → List ℕ → Meaning Variable
 variable_reading unit word = text_reading unit word and_then λ text. ok_or (variable_in text) UnreadableValue
 
--- of several readings the first warning
+-- the first warning of several readings
 abbrev pub first_warning : {A : Type 0} → List (Meaning A) → Option WarningKind
 first_warning readings = result_err (all_read readings)
 

@@ -1,4 +1,4 @@
--- What the code holds of a unit's processes as the definitions have it.
+-- The code's settings for a unit's processes, as those of the definitions.
 use Rattle.um_model.specs.Settings as model
 use Rattle.um_unit.specs.declared.service_settings.ServiceSettings.{ServiceSettings}
 use Rattle.um_value.specs.ExitSet.{holds}

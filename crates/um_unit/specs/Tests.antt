@@ -1,4 +1,4 @@
--- What the tests of single settings and ends tell, and which warnings the parts of a file give.
+-- The results of the tests of single settings and ends, and which warnings the parts of a file give.
 use Rattle.std.specs.Prelude.{Bool, true, false, not, ◌&&◌, ◌==◌, length, codes, List, [], ◌∷◌, ℕ, ◌||◌, Option, Some, None, if◌then◌else◌, bytes_eq}
 use Rattle.std.specs.List.{flat_map, list_any}
 use Rattle.std.specs.Option.{option_map_or}
@@ -26,7 +26,7 @@ tells_any sets end = list_any (λ set. set end) sets
 abbrev pub is_refused : Profile → Assigned → Bool
 is_refused profile a = is_refused_key profile a.key && not (is_empty a.value)
 
--- neither a command of `ExecStart=`, nor does it remain with one of `ExecStop=`
+-- it has no command of `ExecStart=`, and doesn't remain with one of `ExecStop=`
 abbrev pub lacks_command : ServiceSettings → Bool
 lacks_command s = is_empty s.start && not (s.remains && not (is_empty s.stop))
 
@@ -40,18 +40,18 @@ warning_of_assignment profile unit None key value = None
 warning_of_assignment profile unit (Some section) key value =
     if is_known_section (suffix_of unit) section then assignment_warning profile unit section key value else None
 
--- a warning of the syntax stands, but for those in a section that isn't known
+-- a warning of the syntax stands, except in a section that isn't known
 abbrev pub warning_of_syntax : Option Suffix → Option (List ℕ) → WarningKind → Option WarningKind
 warning_of_syntax type None warning = Some warning
 warning_of_syntax type (Some section) warning = if is_known_section type section then Some warning else None
 
--- the warning that an item gives; of what stands in a section that isn't known nothing gives one but its head
+-- the warning that an item gives; in a section that isn't known nothing but its head gives one
 abbrev pub warning_of : Profile → List ℕ → Option (List ℕ) → Item → Option WarningKind
 warning_of profile unit section (Section name line) = head_warning (suffix_of unit) name
 warning_of profile unit section (Assignment key value line whole) = warning_of_assignment profile unit section key value
 warning_of profile unit section (Warned warning line) = warning_of_syntax (suffix_of unit) section warning
 
--- the warning of a line, where it gives one
+-- the warning of a line, if it gives one
 abbrev pub warnings_at : List ℕ → ℕ → Option WarningKind → List Warning
 warnings_at path line warning = option_map_or (λ kind. record { kind = kind; path = path; line = line } ∷ []) warning []
 
@@ -74,7 +74,7 @@ restarts_after_success Oneshot Always = true
 restarts_after_success Oneshot OnSuccess = true
 restarts_after_success kind policy = false
 
--- why a service can't be loaded, test by test; the laws in UpperLemmas say that the definition tells the same
+-- why a service can't be loaded, test by test; the laws in UpperLemmas show that the definition agrees
 abbrev pub refused_service : Option Suffix → TypeSaid → ServiceSettings → Option (List ℕ)
 refused_service (Some Service) Unserved s = Some (codes "type")
 refused_service (Some Service) said s =

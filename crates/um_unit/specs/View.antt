@@ -78,7 +78,7 @@ loading_of (loading.Masked unit) = model.Masked unit
 loading_of loading.NotFound = model.NotFound
 loading_of (loading.BadSetting unit reason) = model.BadSetting unit (string_bytes reason)
 
--- what becomes of a name that leads there, with these files
+-- the outcome for a name that leads there, with these files
 abbrev pub loading_with : Profile → Resolution → List model.Source → model.Loading
 loading_with profile (AtFile unit path text) sources = model.loading_by_file profile unit path sources
 loading_with profile (AtNoFile unit) sources = model.Found (without_install (model.unit_by profile unit None sources))

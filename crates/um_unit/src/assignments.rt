@@ -15,7 +15,7 @@ use std::alloc::{AllocError, Global};
 use um_model::Suffix;
 use um_syntax::Item;
 
-/// What was read of a unit's file.
+/// The items that were read of a unit's file.
 #[derive(Drop)]
 pub struct Source<'t> {
     /// Its path in the tree.
@@ -136,7 +136,7 @@ pub fn values_of<'a>(
     Ok(values)
 }
 
-/// How many values stand behind the last empty one.
+/// The number of values after the last empty one.
 fn said_len(values: &[&str]) -> usize
     ensures { result ≡ suffix_len (λ v. not (is_empty v.now)) values.now }
 {
@@ -144,7 +144,7 @@ fn said_len(values: &[&str]) -> usize
     last.take_while(|value| !value.is_empty()).count()
 }
 
-/// The values behind the last empty one, which takes back those before it.
+/// The values after the last empty one, which takes back those before it.
 pub fn since_empty<'v, 'a>(values: &'v [&'a str]) -> &'v [&'a str]
     ensures { map (λ v. v.now) result.now ≡ after_last is_empty (map (λ v. v.now) values.now) }
 {

@@ -1,4 +1,5 @@
-//! The files of a unit as they are read: what they set, and what they warn of. Of a line that is warned of by its spelling the warning alone is kept.
+//! The files of a unit as they are read: their settings and their warnings. Of a line with a warning about its spelling only the warning is
+//! kept.
 
 ghost use Rattle.std.specs.Prelude.{◌≡◌, ◌++◌, IfOk, OnOk, Option, map};
 ghost use Rattle.um_model.specs.FileForms.{warnings_of};
@@ -23,7 +24,7 @@ use um_syntax::{Item, parse};
 pub struct Contents<'t> {
     /// Their heads and assignments.
     pub sources: Vec<Source<'t>>,
-    /// What they warn of. A file that warns of nothing isn't among them.
+    /// Their warnings. A file without a warning isn't among them.
     pub warnings: Vec<FileWarnings>,
 }
 
@@ -55,7 +56,7 @@ fn said<'t>(source: Source<'t>) -> Source<'t>
     Source { path, items }
 }
 
-/// Adds what is read of a file.
+/// Adds the contents of a file.
 fn add_contents<'t>(
     alloc: Global,
     profile: Profile,
@@ -76,7 +77,7 @@ fn add_contents<'t>(
     Ok(())
 }
 
-/// What is read of a unit's files by the profile, in their order.
+/// The contents of a unit's files, read by the profile, in their order.
 pub fn contents_of<'t>(
     alloc: Global,
     profile: Profile,

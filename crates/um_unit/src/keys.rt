@@ -53,8 +53,8 @@ const INSTALL_KEYS: [(&str, ValueKind); 5] = [
     ("DefaultInstance", ValueKind::Instance),
 ];
 
-/// Keys that no unit may have, in any section, by whatever profile it is read: a start that ignored one would do what its author didn't
-/// write.
+/// Keys that no unit may have, in any section, by whatever profile it is read: a start that ignored one would do something other than its
+/// author wrote.
 const REFUSED_KEYS: [&str; 13] = [
     "User",
     "Group",
@@ -83,7 +83,7 @@ fn begins_with(front: &str, text: &str) -> bool
     text.as_bytes().starts_with(front.as_bytes())
 }
 
-/// Whether the key is served by no profile: it is one of those, or begins with `Condition` or `Assert`.
+/// Whether no profile serves the key: it is one of those, or begins with `Condition` or `Assert`.
 fn is_never_served(key: &str) -> bool
     ensures { result ≡ keys.is_never_served key.now }
 {
@@ -103,7 +103,7 @@ pub fn is_refused_key(profile: Profile, key: &str) -> bool
     is_never_served(key)
 }
 
-/// Whether a section or a key isn't ours: it begins with `X-` (systemd.unit(5)).
+/// Whether a section or a key is foreign: it begins with `X-` (systemd.unit(5)).
 pub fn is_foreign(text: &str) -> bool
     ensures { result ≡ keys.is_foreign text.now }
 {
@@ -145,7 +145,7 @@ fn kind_in(section: &str, key: &str) -> Option<ValueKind>
     kind_among(&SERVICE_KEYS, key)
 }
 
-/// The kind of a key's values in a known section, where the profile knows the key.
+/// The kind of a key's values in a known section, if the profile knows the key.
 #[tactic(auto, unfolding(um_model::specs::Keys::kind_of_key))]
 pub fn kind_of_key(profile: Profile, section: &str, key: &str) -> Option<ValueKind>
     ensures { result ≡ keys.kind_of_key profile section.now key.now }

@@ -1,4 +1,4 @@
-//! What the definitions of settings, of warnings and of names say together, as functions that do nothing.
+//! Theorems about the definitions of settings, of warnings and of names, as functions that do nothing.
 
 ghost use Rattle.std.specs.Prelude.{◌≡◌, ℕ, List, is_none};
 ghost use Rattle.um_model.specs.Profiles.{ReadTree};
@@ -6,7 +6,7 @@ ghost use Rattle.um_model.specs.Units.{load, name_in, unit_named, value_warning}
 ghost use Rattle.um_model.specs.declared.units.ValueKind as kinds;
 ghost use Rattle.um_model.specs.Units.{counts};
 
-/// Settings and warnings read values alike: a value counts, in all that it says, exactly where it gives no warning.
+/// Settings and warnings read values alike: a value counts as a whole exactly if it gives no warning.
 pub fn a_value_counts_or_warns()
     ensures { (unit : List ℕ) (kind : kinds.ValueKind) (value : List ℕ) → counts unit kind value ≡ is_none (value_warning unit kind value) }
 {}

@@ -1,4 +1,4 @@
-//! Settings of several values: each adds to what the earlier ones say.
+//! Settings of several values: each adds to those of the earlier ones.
 
 ghost use Rattle.std.specs.Prelude.{◌≡◌, ◌++◌, ◌∷◌, [], codes, IfOk, OnOk, map, string_bytes, filter_map};
 ghost use Rattle.std.specs.List.{flat_map};
@@ -42,7 +42,7 @@ fn add_names(names: &mut Vec<String>, readings: Vec<Meaning<String>>) -> Result<
     Ok(())
 }
 
-/// Everything that the values name.
+/// All names in the values.
 fn names_of(
     alloc: Global,
     uses: NameUse,
@@ -72,7 +72,7 @@ pub fn units_named(
     names_of(alloc, NameUse::Units, unit, values.as_slice())
 }
 
-/// What a setting of `[Install]` names, behind the last empty value.
+/// The names in a setting of `[Install]`, after the last empty value.
 pub fn install_names(
     alloc: Global,
     uses: NameUse,
@@ -87,7 +87,7 @@ pub fn install_names(
     names_of(alloc, uses, unit, since_empty(values.as_slice()))
 }
 
-/// The commands of a value that can be read, else none.
+/// The commands of a value, or none if it can't be read.
 fn commands_said(alloc: Global, unit: &UnitName, value: &str) -> Result<Vec<Command>, AllocError>
     ensures { IfOk result (λ all. commands_seen all.items ≡ result_unwrap_or (said.commands_reading unit.now value.now) []) }
 {
@@ -97,7 +97,7 @@ fn commands_said(alloc: Global, unit: &UnitName, value: &str) -> Result<Vec<Comm
     }
 }
 
-/// The commands of a setting of `[Service]`, behind the last empty value.
+/// The commands of a setting of `[Service]`, after the last empty value.
 pub fn commands_of(
     alloc: Global,
     unit: &UnitName,
@@ -115,7 +115,7 @@ pub fn commands_of(
     Ok(commands)
 }
 
-/// The variables of a value that can be read, else none.
+/// The variables of a value, or none if it can't be read.
 fn variables_said(alloc: Global, unit: &UnitName, value: &str) -> Result<Vec<Variable>, AllocError>
     ensures { IfOk result (λ all. variables_of all.items ≡ result_unwrap_or (said.environment_reading unit.now value.now) []) }
 {
@@ -125,7 +125,7 @@ fn variables_said(alloc: Global, unit: &UnitName, value: &str) -> Result<Vec<Var
     }
 }
 
-/// The variables of `Environment=`, behind the last empty value.
+/// The variables of `Environment=`, after the last empty value.
 pub fn environment_of(
     alloc: Global,
     unit: &UnitName,
@@ -142,14 +142,14 @@ pub fn environment_of(
     Ok(variables)
 }
 
-/// The ends that a value tells, none where it can't be read.
+/// The ends in a value, or none if it can't be read.
 fn exits_said(value: &str) -> ExitSet
     ensures { (end : ends.End) → holds result end ≡ tells_any (filter_map exits_of (value.now ∷ [])) end }
 {
     exit_set(value).unwrap_or(ExitSet::empty())
 }
 
-/// The ends that a setting of `[Service]` tells, behind the last empty value.
+/// The ends in a setting of `[Service]`, after the last empty value.
 pub fn exits_in(alloc: Global, assigned: &[Assigned<'_>], key: &str) -> Result<ExitSet, AllocError>
     ensures { IfOk result (λ set. holds set ≡ model.any_of (model.service_said [] kinds.Exits key.now (map assigned_of assigned.now))) }
 {

@@ -1,3 +1,5 @@
+//! A loaded unit, and the outcomes of looking for one.
+
 use crate::settings::Settings;
 use crate::warnings::FileWarnings;
 use std::rc::Rc;
@@ -5,16 +7,16 @@ use um_name::UnitName;
 
 /// A unit that was found.
 pub struct LoadedUnit {
-    /// Its own name, to which the name that was asked for leads.
+    /// Its own name, to which the requested name leads.
     pub name: UnitName,
-    /// The path of its file in the tree; none for the `shutdown.target` that nothing holds.
+    /// The path of its file in the tree; None for a `shutdown.target` without a file.
     pub path: Option<String>,
     pub settings: Settings,
-    /// By file in the order in which they are read, and by line. A file that warns of nothing isn't among them.
+    /// By file in the order in which they are read, and by line. A file without a warning isn't among them.
     pub warnings: Rc<Vec<FileWarnings>>,
 }
 
-// One call, where a derived one is taken apart at each exit.
+// One call for the prover, which takes a derived `Drop` apart at each exit.
 impl Drop for LoadedUnit {
     fn drop(self) {
         let LoadedUnit {
@@ -26,7 +28,7 @@ impl Drop for LoadedUnit {
     }
 }
 
-/// What became of the look for a unit.
+/// The outcome of looking up a unit.
 #[derive(Drop)]
 pub enum Loading {
     Found(LoadedUnit),

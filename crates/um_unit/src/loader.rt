@@ -75,7 +75,7 @@ fn unit_without_file(
     })
 }
 
-/// What becomes of a name that leads there.
+/// The outcome for a name that leads there.
 fn loading_at(
     alloc: Global,
     profile: Profile,
@@ -97,8 +97,8 @@ fn loading_at(
 }
 
 /// The unit of that name in the tree as it is read: found, masked, not found, or refused for a setting. Names lead on by links, templates
-/// and masks (systemd.unit(5), "Unit File Load Path"); drop-ins are read behind the unit's own file. Units of the types other
-/// than service and target are never found; `shutdown.target` is found even where nothing holds it.
+/// and masks (systemd.unit(5), "Unit File Load Path"); drop-ins are read after the unit's own file. Units of types other than service and
+/// target are never found; `shutdown.target` is found even without a file.
 #[tactic(auto, unfolding(um_model::specs::Units::load))]
 pub fn load(alloc: Global, reading: Reading<'_>, unit: &UnitName) -> Result<Loading, AllocError>
     ensures { IfOk result (λ l. loading_of l ≡ model.load (tree_read reading.entry) unit.now) }

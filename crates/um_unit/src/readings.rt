@@ -1,4 +1,4 @@
-//! What the value of a setting means under a unit's name: its words with their specifiers expanded, or why it can't be read.
+//! The meaning of a setting's value under a unit's name: its words with their specifiers expanded, or why it can't be read.
 
 ghost use Rattle.std.specs.Prelude.{◌≡◌, ◌∷◌, IfOk, map, option_copied, option_map, string_bytes};
 ghost use Rattle.um_model.specs.Names.{suffix_of, suffix_text_of};
@@ -17,17 +17,17 @@ use um_name::{UnitName, are_instance_bytes, is_unit_name, suffix_of};
 use um_spec::expand;
 use um_words::{Command, Variable, commands, is_executable_word, is_variable_name, names, words};
 
-/// What a value means, or the warning that it gives.
+/// The meaning of a value, or the warning that it gives.
 pub type Meaning<T> = Result<T, WarningKind>;
 
-/// What was read, or the warning of a value that can't be read.
+/// The result, or the warning of a value that can't be read.
 pub fn value_reading<T: Drop>(read: Option<T>) -> Meaning<T>
     ensures { result ≡ value_reading read }
 {
     read.ok_or(WarningKind::UnreadableValue)
 }
 
-/// Of several readings all, or the first warning.
+/// All results of several readings, or the first warning.
 pub fn all_read<T: Drop>(
     alloc: Global,
     readings: Vec<Meaning<T>>,
@@ -56,7 +56,7 @@ pub fn text_reading(
     Ok(expanded.ok_or(WarningKind::UnreadableSpecifier))
 }
 
-/// The first word of a command with its specifiers expanded, where that can be run.
+/// The first word of a command with its specifiers expanded, if that can be run.
 fn executable_reading(
     alloc: Global,
     unit: &UnitName,
@@ -232,8 +232,8 @@ fn name_reading(
     }
 }
 
-/// What each word of a value means, as a name that fits (systemd.unit(5)). A word that can't be read is alone without effect;
-/// a value that doesn't split into words counts as one such word.
+/// The meaning of each word of a value, as a name that fits (systemd.unit(5)). A word that can't be read is alone without effect; a value
+/// that doesn't split into words counts as one such word.
 #[tactic(auto, unfolding(um_model::specs::Readings::names_reading))]
 pub fn names_reading(
     alloc: Global,

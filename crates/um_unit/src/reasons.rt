@@ -29,7 +29,7 @@ fn is_refused(profile: Profile, assigned: &Assigned<'_>) -> bool
     is_refused_key(profile, assigned.key) && !assigned.value.is_empty()
 }
 
-/// `setting` and the first key that no unit may have, where it is given a value.
+/// `setting` and the first key that no unit may have, if it is given a value.
 fn refused_setting(
     alloc: Global,
     profile: Profile,
@@ -45,7 +45,7 @@ fn refused_setting(
     Ok(None)
 }
 
-/// Whether it has neither a command of `ExecStart=` nor remains with one of `ExecStop=`.
+/// Whether it has no command of `ExecStart=`, and doesn't remain with one of `ExecStop=`.
 fn lacks_command(settings: &ServiceSettings) -> bool
     ensures { result ≡ tests.lacks_command (service_settings_of settings.now) }
 {

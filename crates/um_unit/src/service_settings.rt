@@ -1,3 +1,5 @@
+//! The settings of a service.
+
 ghost use Rattle.std.specs.Prelude.{◌≡◌};
 ghost use Rattle.um_model.specs.Settings.{default_settings};
 ghost use Rattle.um_unit.specs.ServiceView.{service_settings_of};
@@ -8,8 +10,8 @@ use um_model::{RestartPolicy, Span, UnitKind};
 use um_value::ExitSet;
 use um_words::{Command, Variable};
 
-/// What a unit's file sets of its processes, its restarts and its start limit (systemd.service(5); for the limit
-/// systemd.unit(5)). A span of none never ends.
+/// The settings of a unit's processes, its restarts and its start limit (systemd.service(5); for the limit systemd.unit(5)). A span of None
+/// never ends.
 #[derive(Debug)]
 pub struct ServiceSettings {
     pub kind: UnitKind,
@@ -43,7 +45,7 @@ pub struct ServiceSettings {
     pub forces_restart: ExitSet,
 }
 
-// One call, where a derived one is taken apart at each exit.
+// One call for the prover, which takes a derived `Drop` apart at each exit.
 impl Drop for ServiceSettings {
     fn drop(self) {
         let ServiceSettings {
@@ -67,8 +69,8 @@ impl Drop for ServiceSettings {
 }
 
 impl ServiceSettings {
-    /// Those of a unit of this kind where nothing is set: no commands, no restart, time-outs of 90 seconds (a oneshot has all time to
-    /// start), and five starts in ten seconds. It takes no memory.
+    /// The settings of a unit of this kind that sets nothing: no commands, no restart, time-outs of 90 seconds (a oneshot may take any time
+    /// to start), and five starts in ten seconds. It takes no memory.
     pub fn new(alloc: Global, kind: UnitKind) -> ServiceSettings
         ensures { service_settings_of result ≡ default_settings kind }
     {

@@ -1,4 +1,4 @@
-//! What a unit's files set.
+//! The settings of a unit's files.
 
 ghost use Rattle.std.specs.Prelude.{◌≡◌, ◌∷◌, [], IfOk, map, string_bytes};
 ghost use Rattle.um_model.specs.Names.{suffix_of};
@@ -24,7 +24,7 @@ use um_name::UnitName;
 use um_value::ExitSet;
 use um_words::Command;
 
-/// What other units a unit names, each list in order (systemd.unit(5)).
+/// The other units that a unit names, each list in order (systemd.unit(5)).
 #[derive(Debug)]
 pub struct Dependencies {
     /// `After=`.
@@ -45,7 +45,7 @@ pub struct Dependencies {
     pub default_dependencies: bool,
 }
 
-// One call, where a derived one is taken apart at each exit.
+// One call for the prover, which takes a derived `Drop` apart at each exit.
 impl Drop for Dependencies {
     fn drop(self) {
         let Dependencies {
@@ -61,7 +61,7 @@ impl Drop for Dependencies {
     }
 }
 
-/// What enabling a unit makes (systemd.unit(5), "[Install] Section Options").
+/// The links that enabling a unit makes (systemd.unit(5), "[Install] Section Options").
 #[derive(Debug)]
 pub struct InstallSettings {
     /// `Alias=`.
@@ -76,7 +76,7 @@ pub struct InstallSettings {
     pub default_instance: Option<String>,
 }
 
-// One call, where a derived one is taken apart at each exit.
+// One call for the prover, which takes a derived `Drop` apart at each exit.
 impl Drop for InstallSettings {
     fn drop(self) {
         let InstallSettings {
@@ -89,21 +89,21 @@ impl Drop for InstallSettings {
     }
 }
 
-/// What a unit's files set.
+/// The settings of a unit's files.
 #[derive(Debug)]
 pub struct Settings {
-    /// The text for people, empty where none is given (systemd.unit(5), `Description=`).
+    /// The text for people, empty if none is given (systemd.unit(5), `Description=`).
     pub description: String,
-    /// What other units it names.
+    /// The other units that it names.
     pub dependencies: Dependencies,
-    /// What it says of its processes, its restarts and its start limit; of these a target has the limit alone. Orders to start its
-    /// commands share it.
+    /// The settings of its processes, its restarts and its start limit; a target has only the limit. The start actions of its commands
+    /// share it.
     pub service: Rc<ServiceSettings>,
-    /// What enabling it makes.
+    /// The links that enabling it makes.
     pub install: InstallSettings,
 }
 
-// One call, where a derived one is taken apart at each exit.
+// One call for the prover, which takes a derived `Drop` apart at each exit.
 impl Drop for Settings {
     fn drop(self) {
         let Settings {
@@ -116,7 +116,7 @@ impl Drop for Settings {
 }
 
 impl InstallSettings {
-    /// Those of a unit that enabling makes nothing for.
+    /// The settings of a unit for which enabling makes no link.
     pub fn nothing(alloc: Global) -> InstallSettings
         ensures { install_of result ≡ model.nothing_installed }
     {
@@ -130,7 +130,7 @@ impl InstallSettings {
     }
 }
 
-/// What the last truth value of the key says, or else the default.
+/// The last truth value of the key, or else the default.
 fn last_truth(
     alloc: Global,
     assigned: &[Assigned<'_>],
@@ -142,7 +142,7 @@ fn last_truth(
     last_read(alloc, &Truth, assigned, &[key], default)
 }
 
-/// What the last time span of the keys says, or else the default.
+/// The last time span of the keys, or else the default.
 fn last_span(
     alloc: Global,
     assigned: &[Assigned<'_>],
@@ -223,8 +223,7 @@ fn install_settings_of(
     })
 }
 
-/// The kind of a service by its type: where nothing is said, simple with a command and oneshot without (systemd.service(5),
-/// `Type=`).
+/// The kind of a service by its type: without a type, simple with a command and oneshot without (systemd.service(5), `Type=`).
 fn kind_by(said: TypeSaid, start: &[Command]) -> UnitKind
     ensures { result ≡ model.kind_by (said_of said) (commands_seen start.now) }
 {
@@ -332,7 +331,7 @@ fn times_of(alloc: Global, kind: UnitKind, assigned: &[Assigned<'_>]) -> Result<
     })
 }
 
-/// Which ends of the main process are told of.
+/// The sets of ends of the main process that the settings name.
 #[derive(Clone, Copy)]
 struct Exits {
     success: ExitSet,
@@ -387,7 +386,7 @@ fn service_settings_with(
     })
 }
 
-/// The commands of `ExecStartPre=`, where the profile serves that.
+/// The commands of `ExecStartPre=`, if the profile serves it.
 fn start_pre_of(
     alloc: Global,
     profile: Profile,
@@ -403,7 +402,7 @@ fn start_pre_of(
     }
 }
 
-/// What a unit's files say of its processes. A unit that isn't a service has none, and may set the start limit alone.
+/// The settings of a unit's processes by its files. A unit that isn't a service has none, and may set only the start limit.
 #[tactic(auto, unfolding(um_model::specs::Units::service_settings_of))]
 fn service_settings_of(
     alloc: Global,

@@ -18,7 +18,7 @@ use um_value::{boolean, number, restart, span};
 
 /// How the values of one kind of setting are read.
 pub trait Reader {
-    /// What a value says.
+    /// The result of a value.
     type Said: Drop;
 
     /// The kind of its values.
@@ -27,15 +27,15 @@ pub trait Reader {
     /// The unit under whose name a value is read.
     ghost unit: { Self → List ℕ };
 
-    /// What a value says, without where it lies in memory.
+    /// The result of a value, independent of its place in memory.
     ghost seen: { Self.Said → model.Said kind };
 
-    /// Reads a value; None where it can't be read.
+    /// Reads a value; None if it can't be read.
     fn read(&self, value: &str) -> Result<Option<Self::Said>, AllocError>
         ensures { IfOk result (λ said. option_to_list (option_map seen said) ≡ filter_map result_ok (model.value_readings (unit self.now) kind value.now)) };
 }
 
-/// What the last value of the keys says that can be read, or else the default.
+/// The result of the last value of the keys that can be read, or else the default.
 pub fn last_read<R: Reader>(
     alloc: Global,
     reader: &R,
@@ -55,7 +55,7 @@ pub fn last_read<R: Reader>(
     Ok(last)
 }
 
-/// A text with its specifiers expanded under a unit's name.
+/// Reads texts, with their specifiers expanded under a unit's name.
 #[derive(Clone, Copy)]
 pub struct Text<'u> {
     pub alloc: Global,
@@ -76,7 +76,7 @@ impl Reader for Text<'_> {
     }
 }
 
-/// A truth value.
+/// Reads truth values.
 #[derive(Clone, Copy)]
 pub struct Truth;
 
@@ -94,7 +94,7 @@ impl Reader for Truth {
     }
 }
 
-/// A number.
+/// Reads numbers.
 #[derive(Clone, Copy)]
 pub struct Count;
 
@@ -112,7 +112,7 @@ impl Reader for Count {
     }
 }
 
-/// When a service is started again.
+/// Reads restart policies.
 #[derive(Clone, Copy)]
 pub struct Policy;
 
@@ -130,7 +130,7 @@ impl Reader for Policy {
     }
 }
 
-/// The span, or none where it never ends.
+/// The span, or None if it never ends.
 fn micros_in(span: TimeSpan) -> Option<Span>
     ensures { result ≡ micros_in span }
 {
@@ -140,7 +140,7 @@ fn micros_in(span: TimeSpan) -> Option<Span>
     }
 }
 
-/// A time span, or none where it never ends.
+/// Reads time spans; None never ends.
 #[derive(Clone, Copy)]
 pub struct Delay;
 
@@ -158,7 +158,7 @@ impl Reader for Delay {
     }
 }
 
-/// What a value of `DefaultInstance=` says: an empty one gives the default back.
+/// The result of a value of `DefaultInstance=`: an empty one restores the default.
 pub(crate) fn default_instance_in(value: &str) -> Option<Option<&str>>
     ensures { option_map option_copied result ≡ model.default_instance_in value.now }
 {
@@ -169,7 +169,7 @@ pub(crate) fn default_instance_in(value: &str) -> Option<Option<&str>>
     }
 }
 
-/// The instance that stands for none in a template's links.
+/// Reads the default instance of a template's links.
 #[derive(Clone, Copy)]
 pub struct Instance {
     pub alloc: Global,
@@ -193,7 +193,7 @@ impl Reader for Instance {
     }
 }
 
-/// What `Type=` says.
+/// The result of `Type=`.
 #[derive(Clone, Copy, Debug, PartialEq, Eq)]
 pub enum TypeSaid {
     Unsaid,
@@ -202,7 +202,7 @@ pub enum TypeSaid {
     Unserved,
 }
 
-/// What a value of `Type=` says, where it can be read (systemd.service(5)).
+/// The result of a value of `Type=`, if it can be read (systemd.service(5)).
 #[tactic(auto, unfolding(um_model::specs::Units::type_said))]
 pub fn type_said(value: &str) -> Option<TypeSaid>
     ensures { option_map said_of result ≡ model.type_said value.now }
@@ -220,7 +220,7 @@ pub fn type_said(value: &str) -> Option<TypeSaid>
     }
 }
 
-/// The type of a service.
+/// Reads the types of services.
 #[derive(Clone, Copy)]
 pub struct Type;
 
@@ -238,7 +238,7 @@ impl Reader for Type {
     }
 }
 
-/// `Type=` of the unit.
+/// The last `Type=` of the unit that can be read.
 pub fn type_of(alloc: Global, assigned: &[Assigned<'_>]) -> Result<TypeSaid, AllocError>
     ensures { IfOk result (λ said. said_of said ≡ model.type_of (map assigned_of assigned.now)) }
 {

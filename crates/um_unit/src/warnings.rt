@@ -1,4 +1,4 @@
-//! What the lines of a unit's files warn of.
+//! The warnings about the lines of a unit's files.
 
 ghost use Rattle.std.specs.Prelude.{◌≡◌, [], ◌∷◌, ◌++◌, Some, OnOk, IfOk, map, option_map};
 ghost use Rattle.um_model.specs.Readings as said;
@@ -209,7 +209,7 @@ pub fn file_warnings(
     Ok(FileWarnings { path, warnings })
 }
 
-/// Adds a file, unless it warns of nothing.
+/// Adds a file, unless it has no warning.
 pub fn add_file(files: &mut Vec<FileWarnings>, file: FileWarnings) -> Result<(), AllocError>
     ensures { OnOk result (warnings_seen files.new.items ≡ warnings_seen files.old.items ++ warned_by file) }
 {

@@ -15,11 +15,11 @@ use Rattle.um_engine.proofs.PlannedLaws.{refuses_on}
 use Rattle.um_engine.proofs.Stepped.{does_so}
 use Rattle.um_engine.proofs.commands.done.Goals as goal
 
--- what holds of a command by the state in hand holds of it by what is served
+-- a property of the command in the engine's state is a property in the served value
 at_command : (P : State → Command → Type 0) (x s : State) (command q : Command) → x ≡ s → q ≡ command → P x command → P s q
 at_command P x s command q here is h = subst (λ (y : State). P y q) here (subst (P x) (sym is) h)
 
--- a call that gives on the refusal of the command
+-- a call that passes on the command's refusal
 gives_on : {X : Type 0} (profile : Profile) (x s : State) (command q : Command) (result : Result X Refusal) (e : Refusal) → x ≡ s → q ≡ command → IsErrAnd result (λ f. f ≡ e)
     → (e ≢ NoMemory → model.Refuses profile x command (refused_of e)) → RefusesBy (model.Refuses profile s q) result
 gives_on profile x s command q result e here is on cause =
@@ -39,7 +39,7 @@ links q path path' target target' is e f = cc
 removes : (q : Command) (path path' : List ℕ) → q ≡ model.Remove path → path' ≡ path → q ≡ model.Remove path'
 removes q path path' is e = cc
 
--- what is answered where nothing but Done is
+-- the answer, where it is nothing but Done
 answers : (q command : Command) (before after : Tree) → q ≡ command → model.reply_after (model.Commanded command) before after ≡ model.Done
     → model.Done ≡ model.reply_after (model.Commanded q) before after
 answers q command before after is done = sym (subst (λ (p : Command). model.reply_after (model.Commanded p) before after ≡ model.Done) (sym is) done)
@@ -146,7 +146,7 @@ returns-in_ok-without_failures-in-ResetFailed-clause-does c =
     subst (λ (q : Command). model.Does c.args.profile c.args.moment c.args.served.now.state q w.actions (state_of w.now)) (sym (ap command_of c.in-ResetFailed.is))
     (c.in_ok-without_failures-in-ResetFailed.ensures.does c.args.profile)
 
--- ---- what is answered, and on what the work goes
+-- ---- the answer, and the value that the work goes over
 
 pub returns-in_ok-reloaded-in-DaemonReload-clause-reply : goal.returns-in_ok-reloaded-in-DaemonReload-clause-reply
 returns-in_ok-reloaded-in-DaemonReload-clause-reply c =

@@ -14,7 +14,7 @@ use Rattle.um_engine.proofs.KnownLaws.{knows_loaded}
 use Rattle.um_engine.proofs.PlannedLaws.{refuses_on}
 use Rattle.um_engine.proofs.commands.reloaded.Goals as goal
 
--- what is loaded is the tree in hand
+-- the loaded tree is the tree in hand
 loads : (profile : Profile) (s : State) (tree : ReadTree) (hand : Tree) → tree ≡ model.as_loaded profile s hand → hand ≡ s.tree → tree ≡ model.as_loaded profile s s.tree
 loads profile s tree hand is same = is ∙ ap (model.as_loaded profile s) same
 

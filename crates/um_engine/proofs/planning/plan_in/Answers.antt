@@ -10,7 +10,7 @@ use Rattle.um_engine.proofs.NumberedLaws.{has_named}
 use Rattle.um_engine.proofs.PlannedLaws.{made_here, refuses_on}
 use Rattle.um_engine.proofs.planning.plan_in.Goals as goal
 
--- what holds after success, by what holds after it
+-- a property after success that follows from another one
 then_ok : {X E P Q : Type 0} (result : Result X E) → (P → Q) → OnOk result P → OnOk result Q
 then_ok (Ok x) f p = f p
 then_ok (Err e) f p = p

@@ -11,7 +11,7 @@ use Rattle.um_engine.specs.Known.{KnownView, KnowsFor}
 use Rattle.um_engine.proofs.PlannedLaws.{asked_so, refuses_on}
 use Rattle.um_engine.proofs.planning.planned.Goals as goal
 
--- whether what was asked for is found, by the state
+-- whether the requested name is found, by the state
 found_so : (k : KnownView) (s : State) (g : GraphView) (tree : ReadTree) (asked : List ℕ) (found : Bool) → KnowsFor k s → g ≡ k.graph → tree ≡ s.loaded
     → (Loads g tree → found ≡ is_found (load tree asked)) → found ≡ is_found (load s.loaded asked)
 found_so k s g tree asked found knows graph loaded finds =

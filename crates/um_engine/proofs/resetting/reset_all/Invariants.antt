@@ -4,7 +4,7 @@ use Rattle.um_state.specs.View.{state_of}
 use Rattle.um_falling.specs.Work.{Goes, Keeps}
 use Rattle.um_engine.proofs.resetting.reset_all.Given as goal
 
--- of the units so far it is forgotten
+-- the failures of the units so far are forgotten
 abbrev pub invariant-loop-unit : goal.invariant-loop-unit
 invariant-loop-unit l = record {
   keeps : Keeps l.initial.work l.work;

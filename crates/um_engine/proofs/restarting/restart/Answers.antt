@@ -6,7 +6,7 @@ use Rattle.um_falling.proofs.WorkLaws.{keeps_all}
 use Rattle.um_engine.proofs.RestartLaws.{restarts_not}
 use Rattle.um_engine.proofs.restarting.restart.Goals as goal
 
--- what holds after success, by what holds after it
+-- a property after success that follows from another one
 then_ok : {X E P Q : Type 0} (result : Result X E) → (P → Q) → OnOk result P → OnOk result Q
 then_ok (Ok x) f p = f p
 then_ok (Err e) f p = p

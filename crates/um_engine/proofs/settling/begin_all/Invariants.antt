@@ -3,7 +3,7 @@ use Rattle.um_engine.proofs.ReadyLaws.{waiting_in}
 use Rattle.um_engine.proofs.WorkedLaws.{Settling}
 use Rattle.um_engine.proofs.settling.begin_all.Given as goal
 
--- what is told by number is what the state tells, and what settles the rest settles the whole
+-- the job table agrees with the state, and a run that settles the rest settles the whole
 abbrev pub invariant-jobs : goal.invariant-jobs
 invariant-jobs l = Settling l.initial.work l.work l.jobs
 

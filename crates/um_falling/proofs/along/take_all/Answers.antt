@@ -5,7 +5,7 @@ use Rattle.um_falling.specs.Along.{Taking, taken_all}
 use Rattle.um_falling.proofs.WorkLaws.{keeps_then, next_taken}
 use Rattle.um_falling.proofs.along.take_all.Goals as goal
 
--- what an index past the end would read
+-- the value of an index past the end
 abbrev absent : Neighbour
 absent = record { unit = 0; kinds = record { 0 = 0 } }
 

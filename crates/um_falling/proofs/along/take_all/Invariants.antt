@@ -4,7 +4,7 @@ use Rattle.um_falling.specs.Work.{Keeps}
 use Rattle.um_state.specs.View.{state_of}
 use Rattle.um_falling.proofs.along.take_all.Given as goal
 
--- what is taken by the neighbours that are left is what is taken by all
+-- the starts taken so far and those by the neighbours that are left are those taken by all
 abbrev pub invariant-loop-neighbour : goal.invariant-loop-neighbour
 invariant-loop-neighbour l = record {
   taken : taken_all l.initial.work.graph (drop l.neighbour-index l.row) (state_of l.work.now, l.list.items)

@@ -7,7 +7,7 @@ use Rattle.um_falling.proofs.FallenLaws.{turns_left}
 use Rattle.um_falling.proofs.FallingLaws.{IsOnTheWay}
 use Rattle.um_falling.proofs.falling.fall_all.Given as goal
 
--- what falls with those that are left falls in all
+-- a run in which those that are left fall is one in which all fall
 abbrev pub invariant-units : goal.invariant-units
 invariant-units l = record {
   way : (names : List (List ℕ)) → AreNamed l.initial.work.graph l.initial.list.items names
@@ -17,6 +17,6 @@ invariant-units l = record {
   keeps : Keeps l.initial.work l.work;
 }
 
--- the units that are active or activating, and those that are yet to be told
+-- the units that are active or activating, and those that are yet to be stopped
 abbrev pub decreases-units : goal.decreases-units
 decreases-units l = turns_left l.initial.work.graph (state_of l.work.now) l.list.items

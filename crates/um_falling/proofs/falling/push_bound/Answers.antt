@@ -6,7 +6,7 @@ use Rattle.um_falling.proofs.BoundLaws.{all_fall, falling_in, has_name, name_of,
 use Rattle.um_falling.proofs.falling.push_bound.Goals as goal
 use Rattle.um_falling.proofs.falling.push_bound.Goals.{else-is_bound-via-then-is_bound+else-is_going, else-is_bound-via-else-is_bound}
 
--- what an index past the end would read
+-- the value of an index past the end
 abbrev absent : Neighbour
 absent = record { unit = 0; kinds = record { 0 = 0 } }
 

@@ -3,7 +3,7 @@ use Rattle.um_install.specs.Checks.{is_occupied, least_of}
 use Rattle.um_install.specs.View.{link_of, targets_of, text_of}
 use Rattle.um_install.proofs.occupied.least_occupied.Given as goal
 
--- the least of what was found and of those that are left is the least of all
+-- the least of the one found so far and of those left is the least of all
 abbrev pub invariant-loop-link : goal.invariant-loop-link
 invariant-loop-link l =
     least_of (is_occupied l.tree (targets_of l.targets.entries)) (option_map text_of l.least) (each link_of (drop l.link-index l.links))

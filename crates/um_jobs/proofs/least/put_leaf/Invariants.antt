@@ -1,7 +1,7 @@
 use Rattle.std.proofs.Common.{◌≡◌, ◌≢◌, ◌+◌, ◌<◌, ◌≤◌, ℕ, min, get_or}
 use Rattle.um_jobs.proofs.least.put_leaf.Given as goal
 
--- each place holds the lesser of its two but the one above the place at hand; the leaves stay
+-- each place holds the lesser of its two, except the one above the place at hand; the leaves stay
 abbrev pub invariant-loop-at : goal.invariant-loop-at
 invariant-loop-at l = record {
   first : 1 ≤ l.at;

@@ -10,7 +10,7 @@ use Rattle.um_jobs.proofs.KeptLaws.{free_by}
 use Rattle.um_jobs.proofs.SumLaws.{number_tells}
 use Rattle.um_jobs.proofs.marks.mark_all.Goals as goal
 
--- the first n are told, and one more
+-- the first n are marked, and one more
 one_more : (free : ℕ → Bool) (before after : List Bool) (n : ℕ) → ((u : ℕ) → u < n → get_or before u false ≡ free u)
     → ((u : ℕ) → get_or after u false ≡ cond (u == n) (free u) (get_or before u false)) → (u : ℕ) → u < n + 1 → get_or after u false ≡ free u
 one_more free before after n told marked u l = elim (number_tells u n) as (λ _. get_or after u false ≡ free u) [
@@ -18,7 +18,7 @@ one_more free before after n told marked u l = elim (number_tells u n) as (λ _.
   | inr h ↦ marked u ∙ (ap (λ b. cond b (free u) (get_or before u false)) h.0 ∙ told u (omega (arith, l, h.1)))
 ]
 
--- past the last one none is
+-- none is marked past the last one
 none_past : (units : List UnitJobs) (held : List Bool) (counts : List Blockers) (u : ℕ) → length units ≤ u → is_free units held counts u ≡ false
 none_past units held counts u l = ap (λ j. free_by j (held_at held u) (stop_at counts u) (start_at counts u)) (get_or_past units u no_jobs l)
 

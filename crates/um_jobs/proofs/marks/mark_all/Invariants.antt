@@ -2,7 +2,7 @@ use Rattle.std.proofs.Common.{◌≡◌, ◌<◌, ℕ, false, length, get_or}
 use Rattle.um_jobs.specs.Counts.{is_free}
 use Rattle.um_jobs.proofs.marks.mark_all.Given as goal
 
--- of the first units it is told anew
+-- the first units are marked again
 abbrev pub invariant-loop-unit : goal.invariant-loop-unit
 invariant-loop-unit l = record {
   len : length l.ready ≡ length l.initial.ready;

@@ -2,7 +2,7 @@ use Rattle.std.proofs.Common.{◌≡◌, ℕ, false, cond, length, get_or, take}
 use Rattle.um_jobs.specs.Counts.{is_free, is_listed}
 use Rattle.um_jobs.proofs.marks.mark_row.Given as goal
 
--- of the neighbours so far it is told anew
+-- the neighbours so far are marked again
 abbrev pub invariant-loop-neighbour : goal.invariant-loop-neighbour
 invariant-loop-neighbour l = record {
   len : length l.ready ≡ length l.initial.ready;

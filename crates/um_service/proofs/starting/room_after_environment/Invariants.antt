@@ -4,6 +4,6 @@ use Rattle.um_words.specs.Environment.{variables_of}
 use Rattle.um_words.specs.Rooms.{left}
 use Rattle.um_service.proofs.starting.room_after_environment.Given as goal
 
--- the variables that are left leave of what is free what all of them leave of the room
+-- the room after all variables is the room that is free now after those that are left
 abbrev pub invariant-loop-variable : goal.invariant-loop-variable
 invariant-loop-variable l = left l.free (map variable_text (variables_of (drop l.variable-index l.environment))) ≡ left l.fn.room (map variable_text (variables_of l.environment))

@@ -3,7 +3,7 @@ use Rattle.um_model.specs.Machine.{AreDeadlines}
 use Rattle.um_state.specs.Tables.{units_by}
 use Rattle.um_state.proofs.rows.deadlines_of.Given as goal
 
--- what is set are the deadlines of the rows that were passed
+-- the deadlines set so far are those of the rows that were passed
 abbrev pub invariant-loop-i : goal.invariant-loop-i
 invariant-loop-i l = record {
   within : l.i ≤ length l.names;

@@ -3,7 +3,7 @@ use Rattle.um_laws.proofs.NameMaps.{seen}
 use Rattle.um_state.specs.Tables.{jobs_by}
 use Rattle.um_state.proofs.rows.job_map_of.Given as goal
 
--- what is put are the rows that were passed
+-- the entries put so far are the rows that were passed
 abbrev pub invariant-loop-i : goal.invariant-loop-i
 invariant-loop-i l = record {
   within : l.i ≤ length l.names;

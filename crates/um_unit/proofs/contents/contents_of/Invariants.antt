@@ -8,7 +8,7 @@ use Rattle.um_unit.specs.Tests.{warned_in}
 use Rattle.um_unit.specs.View.{warnings_seen}
 use Rattle.um_unit.proofs.contents.contents_of.Given as goal
 
--- what is read of the files so far
+-- the contents of the files so far
 abbrev pub invariant-loop-file : goal.invariant-loop-file
 invariant-loop-file l =
     let sources = map model.source_of (map unit_file_of (take l.file-index l.files)) in

@@ -3,7 +3,7 @@ use Rattle.um_model.specs.FileForms.{last_or}
 use Rattle.um_model.specs.Units.{all_said}
 use Rattle.um_unit.proofs.singles.last_read.Given as goal
 
--- the last one of what is left, or else the one so far, is the last of all
+-- the last one of the values left, or else the one so far, is the last of all
 abbrev pub invariant-loop-value : goal.invariant-loop-value
 invariant-loop-value g l =
     let kind = g.R.Reader.kind in

@@ -8,7 +8,7 @@ use Rattle.um_unit.specs.Tests as tests
 use Rattle.um_unit.specs.View.{warning_of}
 use Rattle.um_unit.proofs.warnings.file_warnings.Given as goal
 
--- the warnings so far and those of what is left are all
+-- the warnings so far and those of the items left are all
 abbrev pub invariant-loop-item : goal.invariant-loop-item
 invariant-loop-item l =
     map (warning_of l.source.path.now) l.warnings.items

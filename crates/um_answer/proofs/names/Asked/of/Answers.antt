@@ -9,7 +9,7 @@ if_ok : {A E : Type 0} {P Q : A → Type 0} (result : Result A E) → ((x : A) �
 if_ok (Ok x) more said = more x said
 if_ok (Err e) more said = said
 
--- the name that counts by what was found in the tree is the unit's
+-- the name that counts, by the loading found in the tree, is the unit's
 named_so : (tree : ReadTree) (asked : List ℕ) (found : Loading) → found ≡ load_in tree asked → name_in asked found ≡ unit_named tree.entries asked
 named_so tree asked found is = ap (name_in asked) is ∙ sym (named_by_loading tree asked)
 

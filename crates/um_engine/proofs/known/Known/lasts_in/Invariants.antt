@@ -4,7 +4,7 @@ use Rattle.um_model.specs.Machine.{IsHeld}
 use Rattle.um_state.specs.View.{state_of}
 use Rattle.um_engine.proofs.known.Known.lasts_in.Given as goal
 
--- each one so far of which anything is held lasts
+-- each unit so far of which anything is held lasts
 abbrev pub invariant-loop-number : goal.invariant-loop-number
 invariant-loop-number l =
     (i : ℕ) → i < l.number-index → (d : ℕ) (unit : List ℕ) → IsNumberOf l.self.graph (get_or l.number-items i d) unit → IsHeld (state_of l.work.now) unit → Contains l.self.lasting unit

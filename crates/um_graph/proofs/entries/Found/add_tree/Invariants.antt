@@ -3,7 +3,7 @@ use Rattle.std.specs.List.{flat_map}
 use Rattle.um_graph.specs.Tells.{entry_names, entry_told}
 use Rattle.um_graph.proofs.entries.Found.add_tree.Given as goal
 
--- what was found and what the entries that are left give are all
+-- those found so far and those of the entries left are all
 abbrev pub invariant-loop-path : goal.invariant-loop-path
 invariant-loop-path l = record {
   names : l.self.names.items ++ flat_map entry_names l.path-iterator ≡ l.initial.self.names.items ++ flat_map entry_names l.initial.path-iterator;

@@ -7,7 +7,7 @@ use Rattle.um_state.proofs.InputArms.{told, input_here, input_short, unprofiled}
 use Rattle.um_state.specs.View.{input_of, timed_of}
 use Rattle.um_state.proofs.input_bytes.InputCanon.get.Goals as goal
 
--- what is read is told in another form, and what isn't read isn't told
+-- a value that is read is put into another form, and none stays none
 told_so : {A B : Type 0} (to : A → B) (o : Option (A × List ℕ)) (a : A) (rest : List ℕ) → o ≡ Some (a, rest) → told to o ≡ Some (to a, rest)
 told_so to o a rest is = rw is refl
 

@@ -4,7 +4,7 @@ use Rattle.um_model.proofs.TreeLaws.{without_run_same}
 use Rattle.um_model.specs.Tree.{Tree, has_run, without_run}
 use Rattle.um_state.proofs.shared_tree.SharedTree.clear_run.Goals as goal
 
--- one that is shared comes out of a boot as it is
+-- a shared tree is the same after a boot
 shared_same : {X : Type 0} (value : X → Tree) (shared : Option X) (own : Tree) → IfSome shared (λ x. has_run (value x) ≡ false) → is_some shared ≡ true
     → option_map_or value shared own ≡ without_run (option_map_or value shared own)
 shared_same value None own no_run some = absurd (true≢false (sym some))

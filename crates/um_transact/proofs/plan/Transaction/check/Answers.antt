@@ -14,7 +14,7 @@ use Rattle.um_transact.specs.declared.plan.Transaction.TheInside.{Inside}
 use Rattle.um_transact.specs.declared.walk.Marks.{Marks}
 use Rattle.um_transact.proofs.plan.Transaction.check.Goals as goal
 
--- what is checked of the parts is so of the transaction
+-- the check of the parts is that of the transaction
 module _ {X : Type 0} (result : Result X Refusal) (mode : JobMode) (x s : Inside) (is : x ≡ s) (marks : List Marks) (plan : List UnitJobs) (marks_is : marks ≡ x.marks.items)
     (plan_is : plan ≡ x.plan) (made : IsMade s.marks.items (transaction s.graph.now s.activity.now s.pending.now s.root s.plan)) where
   abbrev Refuses : Inside → Type 0
