@@ -56,7 +56,7 @@ cause_of layout same other (inl (inr device)) = absurd (other device)
 cause_of layout same other (inr (inl spent)) = inl (ap is_turned_away spent)
 cause_of layout {state = state} {input = input} {e = e} same other (inr (inr told)) = inr (refused_of e, subst (λ n. Step n state input (Refusal (refused_of e)) [] state) same told.1)
 
--- a count of calls with what is owed
+-- a count of calls with those that are owed
 pub owed_most : (b : Bool) → owed b ≤ 1
 owed_most true = omega arith
 owed_most false = omega arith

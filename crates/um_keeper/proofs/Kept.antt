@@ -187,7 +187,7 @@ module _ {past : Past} {sectors : ℕ} {layout : Layout} {slot : Slot} {newest :
       → IsBegun layout s (input ∷ []) image
   either_begun image either = begun (either_state (unpacked here k).comes fit stepped either)
 
-  -- behind it the keeper holds the state after the input
+  -- afterwards the keeper holds the state after the input
   pub recorded : {new : Past} {later further : ℕ} → IsImage new (seen new) → written < layout.slot_sectors → (parts : ℕ) → next + parts ≤ log_end layout generation
       → ((j : ℕ) → (j < next) ⊎ (next + parts ≤ j) → seen new j ≡ seen past j)
       → GoesOn layout new slot newest (unpacked here k).body (all_records current layout newest (seen past) ++ input_spelling input ∷ []) generation later further
@@ -272,7 +272,7 @@ record_short {size = size} {s = s} {t = t} {input} {reply} {actions} held fit st
 
 -- ---- what a step answers
 
--- what follows from what is said of a value
+-- a fact that follows from another fact of the value
 pub if_ok : {A E : Type 0} {P Q : A → Type 0} (result : Result A E) → ((x : A) → P x → Q x) → IfOk result P → IfOk result Q
 if_ok (Ok x) more said = more x said
 if_ok (Err e) more said = said

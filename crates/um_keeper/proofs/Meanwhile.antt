@@ -1,4 +1,4 @@
--- What a crash leaves while the store is written is a store of the state before or of that behind.
+-- An image that a crash leaves while the store is written is a store of the state before or of the state after.
 use Rattle.std.specs.Prelude.{◌⊎◌, ℕ, List}
 use Rattle.std.proofs.Common.{inl, inr}
 use Rattle.um_model.specs.Disk.{Image}

@@ -28,7 +28,7 @@ pub err_from : {T E : Type 0} (result : Result T E) {P : Type 0} → P → OnErr
 err_from (Ok x) p = tt
 err_from (Err e) p = p
 
--- what a `?` hands on as it is
+-- an error that a `?` hands on as it is
 pub err_same : {T E : Type 0} (P : E → Type 0) (result : Result T E) (e : E) → IsErrAnd result (λ y. y ≡ e) → P e → IfErr result P
 err_same P result e is p = let (y, r, q) = err_from_is_err_and result is in subst (λ x. IfErr x P) (sym r) (subst P (sym q) p)
 
@@ -74,7 +74,7 @@ pub err_more : {T E : Type 0} (result : Result T E) {P Q : Type 0} → (P → Q)
 err_more (Ok x) f p = tt
 err_more (Err e) f p = f p
 
--- what is told of the case that holds
+-- the fact of the case that holds
 pub of_first : {A B C : Type 0} → A → (A × B) ⊎ ((¬ A) × C) → B
 of_first a (inl both) = both.1
 of_first a (inr other) = absurd (other.0 a)

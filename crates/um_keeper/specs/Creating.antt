@@ -41,8 +41,8 @@ pub data WhileCreated (layout : Layout) (old new : Past) : Type 0 where
   synced : (first : Past) → sync_count first ≡ sync_count old + 1 → During old first (WasOrIsNone old) → During first new (NoneOrEmpty layout)
       → WhileCreated layout old new
 
--- So many calls on the disk make a store: a write and a sync of sector 0, a write of each header and of each sector of the log, the snapshot of the empty
--- state, and a write and a sync of sector 0.
+-- The number of disk calls that make a store: a write and a sync of sector 0, a write of each header and of each sector
+-- of the log, the snapshot of the empty state, and a write and a sync of sector 0.
 abbrev pub create_calls : Layout → ℕ
 create_calls layout = 2 + (layout.log_sectors + 2) + snapshot_calls empty_state + 2
 

@@ -21,11 +21,11 @@ abbrev pub has_bytes : List ℕ → Bool
 has_bytes [] = false
 has_bytes (x ∷ kept) = true
 
--- so many sectors of its body are left, where some were written
+-- the number of sectors of its body that are left, after those that were written
 abbrev pub left_of : List ℕ → ℕ → ℕ
 left_of kept written = sector_count (length kept) - written
 
--- and so many calls finish it: one a sector that is left, a sync, its header, a sync
+-- the number of calls that finish it: one a sector that is left, a sync, its header, a sync
 abbrev pub finish_calls : List ℕ → ℕ → ℕ
 finish_calls kept written = if has_bytes kept then left_of kept written + 3 else 0
 
@@ -41,8 +41,9 @@ pub record MayHold (layout : Layout) (size : ℕ) (s : State) : Type 0 where
   pub servable : IsServable size s
   pub fits : ∥ FitState s ∥₁
 
--- What always holds of the disk of a keeper that hasn't failed, where it does what it answers. It is told by what is read alone, without
--- saying of any state or input that there is one, so that it is the same fact however it came to hold.
+-- Facts that always hold of the disk of a keeper that hasn't failed, if the disk does what it answers. They depend on
+-- what is read alone, without saying of any state or input that there is one, so that each is the same fact however it
+-- was established.
 pub record Keeps (past : Past) (sectors : ℕ) (layout : Layout) (slot : Slot) (newest : ℕ) (kept : List ℕ) (written generation number next : ℕ) (s : State)
     : Type 0 where
   -- the log takes records of the newest snapshot's generation, or of the next, with a snapshot under way
@@ -60,16 +61,16 @@ pub record Keeps (past : Past) (sectors : ℕ) (layout : Layout) (slot : Slot) (
   pub home : (c : Contents) → contents_of current layout (seen past) ≡ Some c → (c.slot ≡ slot) × (c.generation ≡ newest)
   pub start : (c : Contents) → contents_of current layout (seen past) ≡ Some c → IsServable (body_limit layout) c.start
   pub run : (c : Contents) → contents_of current layout (seen past) ≡ Some c → (t : State) → Run (body_limit layout) c.start c.inputs t → t ≡ s
-  -- the next record goes behind those of the log's generation
+  -- the next record goes after those of the log's generation
   pub count : number ≡ length (records_of current layout generation (seen past))
   pub place : next ≡ log_start layout generation + sectors_of (records_of current layout generation (seen past))
   pub within : next ≤ log_end layout generation
   pub on_disk : store_sectors layout ≤ sectors
-  -- a snapshot under way is of the state behind the records of the newest one's generation, whatever state that is
+  -- a snapshot under way is of the state after the records of the newest one's generation, whatever state that is
   pub aside : has_bytes kept ≡ true → (n : Newest) → newest_of layout (seen past) ≡ Some n → (start : State) (inputs : List Input)
       → nothing_left (state_at n.body) ≡ Some start → inputs_of (records_of current layout newest (seen past)) ≡ Some inputs
       → (t : State) → Run (body_limit layout) start inputs t → (nothing_left (state_at kept) ≡ Some t) × IsServable (body_limit layout) t
-  -- and a read gives so many of its sectors in the other slot
+  -- and a read gives this many of its sectors in the other slot
   pub written_is : IsWritten layout (seen past) (other slot) kept written
 
 -- a store of the state after a beginning of these inputs

@@ -66,7 +66,7 @@ impl NextSnapshot {
         self.body.clear();
     }
 
-    /// Writes the next of its sectors, so many or all that are left, without a sync. E16.
+    /// Writes the next `count` of its sectors, or all that are left, without a sync. E16.
     pub(crate) fn write_part<D: Disk>(
         &self,
         disk: &mut D,
@@ -93,10 +93,10 @@ impl NextSnapshot {
         Ok(())
     }
 
-    /// Writes all of its sectors into the slot beside the one at `home`, where no store is newer, and makes it count there as the next
-    /// generation: a sync, its header, a sync. Answers where it stands. E16.
+    /// Writes all of its sectors into the slot beside the one at `home`, where no store is newer, and makes it count
+    /// there as the next generation: a sync, its header, a sync. Returns where it stands. E16.
     ///
-    /// What each image is meanwhile, and behind it, is told as by `um_slot::finish`.
+    /// The images meanwhile and afterwards are those of `um_slot::finish`.
     pub(crate) fn store<D: Disk>(
         self,
         disk: &mut D,
