@@ -16,7 +16,7 @@ status_of (File fault) = 5
 status_of (Store NoMemory) = 1
 status_of (Store refusal) = 5
 
--- a file that is there is told as that alone
+-- a file that is there is reported as that alone
 abbrev pub fault_of : FileFault → CreateFault
 fault_of file.Exists = Exists
 fault_of fault = File fault

@@ -1,3 +1,4 @@
+//! Creates the file of a store.
 ghost use Rattle.std.specs.Prelude.{◌≡◌, IfOk, IfErr};
 ghost use Rattle.um_create.specs.Statuses.{IsMet};
 ghost use Rattle.um_filedisk.specs.Counts.{calls_in, sectors_in};

@@ -63,7 +63,7 @@ fn let_one_go(answer: Result<Receipt, Refusal>) {
     }
 }
 
-/// Denies what was done, since the disk failed afterwards. A refusal stays.
+/// Denies a success, since the disk failed afterwards. A refusal stays.
 fn deny_one(answer: &mut Result<Receipt, Refusal>)
     ensures { answer.new ≡ denied answer.old }
 {
@@ -83,7 +83,8 @@ fn deny_all(answers: &mut Vec<Result<Receipt, Refusal>>)
     }
 }
 
-/// Makes `count` answers of these after the disk failed: what was done is denied, and each of the others is E16.
+/// Makes `count` answers of these after the disk failed: each success is denied, and each input without an answer gets
+/// E16.
 fn deny(answers: &mut Vec<Result<Receipt, Refusal>>, count: usize)
     requires { count ≤ vec_capacity answers.old }
     ensures { answers.new.items ≡ map denied answers.old.items ++ replicate (count - length answers.old.items) (Err Refusal.Device) }

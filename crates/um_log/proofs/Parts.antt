@@ -14,7 +14,7 @@ use Rattle.um_log.proofs.Scanning.{long_more, parts_more}
 
 -- ---- what a sector of the log says
 
--- the zeros behind a part's bytes
+-- the zeros after a part's bytes
 abbrev zeros_behind : List ℕ → List ℕ
 zeros_behind payload = replicate (512 - length (replicate 32 0 ++ payload)) 0
 
@@ -76,7 +76,7 @@ payload_of {generation = generation} {number = number} {part = part} {size = siz
 
 -- ---- the record that they are
 
--- so many bytes, of which these are the parts
+-- the first bytes of a record, as its parts have them
 record Made (generation number size at : ℕ) (image : Image) (n : ℕ) : Type 0 where
   bytes : List ℕ
   long : length bytes ≡ min (480 * n) size

@@ -1,3 +1,4 @@
+//! One part of a record, as it stands in a sector.
 ghost use Rattle.std.specs.Prelude.{◌≡◌, ◌↔◌, ◌<◌, suc, IsTrue};
 ghost use Rattle.um_model.specs.Store.{part_count};
 

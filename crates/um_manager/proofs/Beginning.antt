@@ -1,4 +1,4 @@
--- What the parts of an opening come to together.
+-- The parts of an opening, taken together.
 use Rattle.std.proofs.Common.{◌≡◌, ◌⊎◌, ◌≤◌, arith, inl, inr, ◌∙◌, ◌++◌, ℕ, zero, suc, List, [], ◌∷◌, length, map, take, Bool, true, false, if◌then◌else◌, Result, Ok, Err, append-nil, refl, sym, ap, subst}
 use Rattle.std.specs.Bool.{IsTrue}
 use Rattle.std.specs.Prelude.{IfErr}
@@ -30,7 +30,7 @@ pub if_err_all : {T E : Type 0} (result : Result T E) (P : E → Type 0) → ((e
 if_err_all (Ok x) P f = tt
 if_err_all (Err e) P f = f e
 
--- what holds of the refusal that is handed on
+-- a fact of the refusal that is handed on
 pub if_err_same : {T E : Type 0} (result : Result T E) (P : E → Type 0) (e : E) → IsErrAnd result (λ y. y ≡ e) → P e → IfErr result P
 if_err_same result P e is p = let (y, err, same) = err_from_is_err_and result is in subst (λ r. IfErr r P) (sym err) (subst P (sym same) p)
 
@@ -126,7 +126,7 @@ refused_left place h w moment boot sectors first a b e on sure found before (una
     (λ honest whole. inr (asks_alone on began honest whole)) (taken_had inputs adopted.answers) before
     (boot_then place a.state mid.state (boot_at moment boot) began.reply some a.disk mid.disk b.disk on began.booted (began.left sure) (adopted.left sure))
 
--- it asked for fates alone, or nothing
+-- it queried fates alone, or nothing
 pub asked_alone : (place : Place) (h w honest : Bool) (moment : ℕ) (boot : List ℕ) (sectors : ℕ) (first : Past) (a b : Now) (e : Refusal) → place.size ≡ body_limit place.layout
     → (IsTrue honest → IsFound sectors first place.layout a.state) → Refuses place h w e moment boot a b → IsTrue h → IsTrue w
     → (b.past ≡ a.past) ⊎ IsSilent sectors first honest moment boot a.past b.past

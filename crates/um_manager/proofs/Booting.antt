@@ -1,4 +1,4 @@
--- What a boot does to the live processes, and that it asks for nothing.
+-- A boot's effect on the live processes; it has no actions.
 use Rattle.std.proofs.Common.{◌≡◌, ◌≢◌, ◌⊎◌, ◌↔◌, ◌+◌, ◌≤◌, ◌∙◌, ℕ, List, [], length, length-append, Bool, true, false, true≢false, None, unwrap_or, Result, Ok, Err, refl, sym, ap, subst, inl, inr, arith}
 use Rattle.um_engine.specs.OfStore.{is_of_store}
 use Rattle.um_sector.specs.Refused.{IsLost}
@@ -62,7 +62,7 @@ stepped size s t input reply actions (crowded_out takes heavy) = crowded size s 
 stepped size s t input reply actions (idle effect) = known _ s _ effect
 stepped size s t input reply actions (taken takes light) = takes_boot _ s _ _ actions takes
 
--- a boot asks for nothing
+-- a boot has no actions
 pub asks_nothing : (size moment : ℕ) (boot : List ℕ) (s t : State) (reply : Reply) (actions : List Action) → Step size s (happens_at moment (Booted boot)) reply actions t → actions ≡ []
 asks_nothing size moment boot s t reply actions step = (stepped size s t (happens_at moment (Booted boot)) reply actions step).0
 

@@ -1,4 +1,4 @@
--- What is taken up of an image is what it stands for.
+-- The state that is taken up of an image is the one it stands for.
 use Rattle.std.proofs.Common.{◌≡◌, ◌∙◌, ℕ, List, [], ◌∷◌, Some, refl}
 use Rattle.um_keeper.specs.Opening.{Replays, no_more, and_then, IsTakenUp}
 use Rattle.um_laws.proofs.ImageLaws.{newest_some}

@@ -1,4 +1,4 @@
--- What a turn tells its clients of their commands is what the answers of its store did.
+-- A turn's reports to its clients that commands were done are the commands that the answers of its store did.
 use Rattle.std.proofs.Common.{◌≡◌, ◌⊎◌, ◌∙◌, ◌+◌, inl, inr, ℕ, zero, suc, List, [], ◌∷◌, ◌++◌, map, take, drop, length, flat_map, Bool, Option, Some, None, Result, Ok, Err, slice_get, append-nil, refl, sym, ap, subst, arith}
 use Rattle.std.proofs.lemmas.List.{length-append}
 use Rattle.um_keeper.specs.Answering.{Answer}
@@ -101,7 +101,7 @@ done_is input (Err e) = refl
 abbrev puts : List Input → List Reply → List PutOut
 puts command replies = map (λ reply. record { command = command; reply = reply }) replies
 
--- those for none tell of none
+-- those for none report none
 no_told : (replies : List Reply) → flat_map told_by (puts [] replies) ≡ []
 no_told [] = refl
 no_told (reply ∷ replies) = no_told replies

@@ -10,8 +10,8 @@ use Rattle.um_model.specs.declared.service.Signal.{Signal}
 use Rattle.um_model.specs.declared.service.UnitState.{UnitState}
 use Rattle.um_fates.specs.Live.{has, is_live, HasFewLive}
 
--- Just these orders were given then, no fate was asked, and nothing was let go; of the live numbers those whose start was refused are marked
--- beside the others.
+-- Exactly these orders were given then, no fate was queried, and no record was dropped; of the live numbers those whose
+-- start was refused are marked beside the others.
 pub record Grew (units : ByUnit UnitState) (old new : List Call) (marks marked : List ℕ) (actions : List Action) : Type 0 where
   pub given : List Call
   pub past_is : new ≡ old ++ given
@@ -24,7 +24,7 @@ pub record Grew (units : ByUnit UnitState) (old new : List Call) (marks marked :
 abbrev pub Carries : Bool → Bool → ByUnit UnitState → List Call → List Call → List ℕ → List ℕ → List Action → Type 0
 Carries honest whole units old new marks marked actions = IsTrue honest → IsTrue whole → Grew units old new marks marked actions
 
--- What is kept of numbers that aren't live was let go, and nothing else was asked.
+-- The records of numbers that aren't live were dropped, and no other call was made.
 pub record LetGo (units : ByUnit UnitState) (old new : List Call) : Type 0 where
   pub given : List Call
   pub past_is : new ≡ old ++ given

@@ -41,7 +41,7 @@ pub record LogEnd : Type 0 where
 abbrev pub log_in : {D : Type 0} {g : disk.Ghosts D} → Keeper D g → LogEnd
 log_in {g = g} k = record { generation = log_generation_in k; next = next_in k; left = left_in k; calls = g.calls (disk_in k) }
 
--- in the last generation, now or once it comes to that, the log is free from this sector on
+-- in the last generation, now or once the log reaches it, the log is free from this sector on
 pub record IsFreeFrom (layout : Layout) (log : LogEnd) (from : ℕ) : Type 0 where
   pub start : log_start layout (2 ^ 64 - 1) ≤ from
   pub behind : log.generation ≡ 2 ^ 64 - 1 → log.next ≤ from

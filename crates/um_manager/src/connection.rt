@@ -1,8 +1,9 @@
+//! The number of a connection.
 ghost use Rattle.std.specs.Prelude.{◌≡◌, ◌≤◌, ◌<◌, ℕ, MatchOption};
 
 use std::marker::Model;
 
-/// So many connections a manager has.
+/// The number of connections of a manager.
 pub const CONNECTIONS: usize = 64;
 
 /// The number of a connection: 0 to 63.

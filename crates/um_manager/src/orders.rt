@@ -14,7 +14,8 @@ use um_keeper::{Handed, Receipt};
 use um_state::{Reply, Units};
 use um_wire::Refusal;
 
-/// Asks one order. The number of a start that is refused is marked; a signal that fails isn't repeated.
+/// Gives one order to the children. The number of a start that is refused is marked; a signal that fails isn't
+/// repeated.
 fn ask<C: Children>(children: &mut C, marks: &mut Marks, units: &Units, handed: Handed)
     ensures carries { Carries (C.honest children.old) (C.whole children.new) units.now.held (C.past children.old) (C.past children.new) marks.old marks.new
         (handed_of handed ∷ []) }

@@ -59,7 +59,7 @@ impl StoreFault {
     }
 }
 
-/// So many replies are this refusal.
+/// Makes `count` replies of this refusal.
 fn deny(replies: &mut Vec<Reply>, count: usize, fault: StoreFault)
     requires { vec_len replies.old + count ≤ vec_capacity replies.old }
     ensures items { map reply_of replies.new.items ≡ map reply_of replies.old.items ++ replicate count (model.Refusal (refused_of (refusal_of fault))) }

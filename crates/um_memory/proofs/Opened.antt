@@ -49,6 +49,6 @@ opened_first d layout l t each stands = stands layout empty_state (seen_store d 
 pub size_again : (size n : ℕ) (layout l : Layout) → size ≡ body_limit l → n ≡ body_limit layout → l ≡ layout → size ≡ n
 size_again size n layout l is was same = is ∙ ap (λ (m : Layout). body_limit m) same ∙ sym was
 
--- that of this layout is the one told
+-- that of this layout is the one named
 pub size_first : (size : ℕ) (layout l : Layout) → size ≡ body_limit l → l ≡ layout → layout.slot_sectors ≡ 16384 → size ≡ memory_size
 size_first size layout l is same slot = is ∙ ap (λ (m : Layout). body_limit m) same ∙ ap (λ n. (n - 1) * 512) slot

@@ -3,7 +3,7 @@ ghost use Rattle.std.specs.Prelude.{◌≡◌, ◌⊎◌, ◌<◌, ℕ, List, []
 ghost use Rattle.um_model.specs.Disk.{Sector, Image, Past, IsImage, IsSettled, with_sector, wrote, synced, after, seen, Images, During};
 ghost use Rattle.um_sector.specs.Unsynced.{picked};
 
-/// A disk that was just made leaves what it was made with.
+/// A disk that was just made leaves the content it was made with.
 pub fn a_new_disk_is_settled()
     ensures { (start : Image) → IsSettled (record { start = start; calls = [] }) }
 {}
@@ -30,7 +30,7 @@ pub fn each_image_is_picked()
         → (picks : List ℕ) × ((k : ℕ) → k < sectors → picked past picks k ≡ image k) }
 {}
 
-/// What each image has during two runs of calls, one behind the other, it has during both together.
+/// A fact of each image during either of two consecutive runs of calls holds of each image during both together.
 pub fn runs_of_calls_join()
     ensures { (old mid new : Past) (p : Image → Bool) → During old mid (λ image. IsTrue (p image)) → During mid new (λ image. IsTrue (p image))
         → During old new (λ image. IsTrue (p image)) }

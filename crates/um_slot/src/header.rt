@@ -1,3 +1,4 @@
+//! The header of a slot.
 ghost use Rattle.std.specs.Prelude.{◌≡◌};
 ghost use Rattle.um_model.specs.Store as store;
 ghost use Rattle.um_slot.specs.Reading.{ReadsHeader};

@@ -1,3 +1,4 @@
+//! Reads the slots of a store: which snapshot is the newest, and its body.
 ghost use Rattle.std.specs.Prelude.{◌≡◌, ◌⊎◌, ◌↔◌, ◌+◌, ◌^◌, ◌≤◌, ℕ, length, take, IfOk, IfErr, IfSome, IsTrue};
 ghost use Rattle.um_model.specs.Disk.{seen};
 ghost use Rattle.um_model.specs.Store.{body_limit, sector_count, slot_start, other, joined, HasNoHeader, IsNewest};
@@ -71,7 +72,7 @@ fn newest_header<D: Disk>(
     Ok((found, is_damaged))
 }
 
-/// At most so many bytes of a sector's front.
+/// At most `count` bytes of a sector's front.
 fn front(sector: &Sector, count: usize) -> &[u8]
     ensures { result.now ≡ take count sector.now }
 {
@@ -83,7 +84,7 @@ fn front(sector: &Sector, count: usize) -> &[u8]
     }
 }
 
-/// So many bytes of the sectors from `at` on.
+/// `size` bytes of the sectors from `at` on.
 fn read_body<D: Disk>(
     alloc: Global,
     disk: &mut D,
