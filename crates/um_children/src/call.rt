@@ -1,3 +1,4 @@
+//! The calls of children, as their history keeps them.
 ghost use Rattle.std.specs.Prelude.{◌≡◌, ◌&&◌, false, IfOk};
 ghost use Rattle.um_children.specs.History.{tells_absent, is_start, is_absence};
 ghost use Rattle.um_children.specs.Calls.{call_of};
@@ -22,25 +23,25 @@ pub enum Call {
         number: ProcessNumber,
         signal: Signal,
     },
-    /// A fate that was asked.
+    /// A fate that was queried.
     Asked {
         number: ProcessNumber,
         claim: bool,
         /// Nothing where the call failed.
         told: Option<Fate>,
     },
-    /// What is kept of a number was let go.
+    /// The record of a number was dropped.
     Forgot {
         number: ProcessNumber,
     },
-    /// What is kept of each other number that has ended was let go; from the next number on none was ever started.
+    /// The record of each other number that has ended was dropped; from the next number on none was ever started.
     ForgotOthers {
         live: Vec<ProcessNumber>,
         next: NextNumber,
     },
 }
 
-/// Whether absence was told.
+/// Whether absence was reported.
 fn tells_absent(told: Option<Fate>) -> bool
     ensures { result ≡ tells_absent told }
 {
@@ -64,7 +65,7 @@ impl Call {
         }
     }
 
-    /// Whether it tells that the process is absent.
+    /// Whether it reports that the process is absent.
     pub fn is_absence(&self, process: ProcessNumber) -> bool
         ensures { result ≡ is_absence process (call_of self.now) }
     {

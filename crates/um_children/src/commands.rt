@@ -9,9 +9,10 @@ use std::process::Command;
 use um_keeper::SpawnOrder;
 use um_model::Signal;
 
-/// Its words behind the first become a command of its own, with no stream of the manager; nobody waits for it. What it prints is added to the file of
-/// the first word: to a regular file that is there and can be written, and else to nothing, and nobody is held up by a pipe. One that isn't there, or
-/// that nobody can execute, is told by the status. A path is looked at as it stands, since each `$(..)` is one process more.
+/// The words after the first become a command of its own, with no stream of the manager; nobody waits for it. Its
+/// output is appended to the file of the first word, if that is a regular file that can be written, and else goes
+/// nowhere, so no pipe holds anybody up. The status shows a command that isn't there, or that nobody can execute. A
+/// path is looked at as it stands, since each `$(..)` is one process more.
 const DETACHING: &str =
     "o=$1; shift; case $1 in */*) p=$1;; *) p=$(command -v \"$1\");; esac && test -f \"$p\" && test -x \"$p\" || exit 126; test -f \"$o\" && true 2>/dev/null >>\"$o\" || o=/dev/null; exec </dev/null >>\"$o\" 2>&1; \"$@\" &";
 

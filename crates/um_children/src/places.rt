@@ -126,7 +126,7 @@ fn is_running<R: Files>(rt: &R, alloc: Global, pid: u32) -> bool {
     }
 }
 
-/// Whether the process that a pid file tells runs, and has no status.
+/// Whether the process that a pid file names runs, and has no status.
 fn runs<R: Files>(
     rt: &R,
     alloc: Global,
@@ -170,7 +170,7 @@ pub(crate) fn bar<R: Files>(
     let claiming = claim(rt, alloc, folder, number, Claimant::Manager)?;
     let standing = Standing::claimed(claiming);
     if standing == Standing::Barred {
-        // what is left where this fails goes at an opening
+        // a file that is left because this fails goes at an opening
         let _left = take_back(rt, alloc, folder, number);
     }
     Ok(standing)
@@ -191,7 +191,7 @@ pub(crate) fn greatest_from(
     ProcessNumber::new(greatest)
 }
 
-/// How many processes these files tell of that run and aren't live. What can't be read counts as none.
+/// The number of processes that run by these files and aren't live. A file that can't be read counts as none.
 pub(crate) fn count_unmanaged<R: Files>(
     rt: &R,
     alloc: Global,

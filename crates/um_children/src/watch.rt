@@ -5,17 +5,18 @@ use std::io::ErrorKind;
 use std::time::{Clock, Duration, Instant, SystemTime};
 use std::{fs, io};
 
-/// A folder's time that is younger than this tells nothing: the clock of the files goes on in steps of up to 10 ms, and so the next
-/// file may come at the same time.
+/// A folder's time that is younger than this doesn't count: the clock of the files goes on in steps of up to 10 ms, so
+/// the next file may have the same time.
 const YOUNG_MILLIS: u128 = 20;
 
-/// After so many milliseconds the files are read again where the folder's time is one of whole seconds, as that of some file systems is alone.
+/// The milliseconds after which the files are read again if the folder's time is one of whole seconds, as some file
+/// systems give only those.
 const OLD_MILLIS: u128 = 1_000;
 
-/// And after so many whatever that time says.
+/// The milliseconds after which they are read again whatever that time is.
 const AGED_MILLIS: u128 = 60_000;
 
-/// What was seen of the folder's time.
+/// The folder's time as it was seen.
 #[derive(Clone, Copy, Debug)]
 pub struct Watch {
     /// At the last look; None where it was too young, or couldn't be seen.

@@ -21,7 +21,7 @@ struct Client {
     parts: Vec<Vec<u8>>,
     /// It leaves once all is sent.
     leaves: bool,
-    /// It takes at most so many bytes of a write.
+    /// The most bytes that it takes of a write.
     limit: usize,
 }
 
@@ -42,7 +42,7 @@ pub struct FakeGate {
     waiting: VecDeque<Client>,
     /// Those that were accepted, by the numbers of their connections.
     places: Vec<Option<Client>>,
-    /// So many accepts from now on one fails: 1 is the next, 0 none.
+    /// The accept that fails, counted from now on: 1 is the next, 0 none.
     fuse: usize,
     /// An event is missing from the notes.
     lost: bool,
@@ -123,7 +123,7 @@ fn open_of(places: &[Option<Client>]) -> Open
     Open { is_open }
 }
 
-/// So many places, all free.
+/// As many free places as there are connections.
 fn free_places(alloc: Global) -> Result<Vec<Option<Client>>, AllocError>
     ensures { IfOk result (λ places. places.items ≡ nobody.places) }
 {
@@ -134,7 +134,7 @@ fn free_places(alloc: Global) -> Result<Vec<Option<Client>>, AllocError>
     Ok(places)
 }
 
-/// Takes the front of a part, so many bytes at most.
+/// Takes the front of a part, `most` bytes at most.
 fn take_front(part: &mut Vec<u8>, most: usize, bytes: &mut Vec<u8>)
     requires empty { bytes.old.items ≡ [] }
     requires room { most ≤ vec_capacity bytes.old }
@@ -151,7 +151,7 @@ fn take_front(part: &mut Vec<u8>, most: usize, bytes: &mut Vec<u8>)
 }
 
 impl Client {
-    /// Sends so many bytes of its next part at most.
+    /// Sends the next part, `most` bytes of it at most.
     fn send(&mut self, most: usize, bytes: &mut Vec<u8>)
         requires some { self.old.parts ≢ [] }
         requires empty { bytes.old.items ≡ [] }
@@ -168,7 +168,7 @@ impl Client {
     }
 }
 
-/// Reads what is there of a place, and tells whether it is open still.
+/// Reads the bytes that are there of a place, and returns whether it is open still.
 fn read_place(place: &mut Option<Client>, most: usize, bytes: &mut Vec<u8>) -> bool
     requires empty { bytes.old.items ≡ [] }
     requires room { most ≤ vec_capacity bytes.old }
@@ -190,7 +190,7 @@ fn read_place(place: &mut Option<Client>, most: usize, bytes: &mut Vec<u8>) -> b
     !leaves
 }
 
-/// Reads what is there of the place of a number.
+/// Reads the bytes that are there of the place of a number.
 fn read_at(
     places: &mut Vec<Option<Client>>,
     number: usize,
@@ -268,8 +268,9 @@ impl FakeGate {
         })
     }
 
-    /// A client comes behind those that wait. Under its number it sends these parts: one a read, or as much of it as that reads at most.
-    /// It leaves then, if it `leaves`, and takes at most `limit` bytes of a write. Where memory is wanting it doesn't come.
+    /// A client connects, after those that wait. Under its number it sends these parts: one a read, or as much of it as
+    /// that reads at most. It leaves then, if it `leaves`, and takes at most `limit` bytes of a write. If there is no
+    /// memory for it, it doesn't connect.
     pub fn client(
         &mut self,
         number: usize,

@@ -1,3 +1,4 @@
+//! The note of an event at a gate.
 use crate::gate::Open;
 
 /// What a gate did.
@@ -8,14 +9,14 @@ pub enum Note {
     /// A read of a connection, with the bytes that came.
     Came {
         number: usize,
-        /// So many bytes were to be read at most.
+        /// The most bytes that were to be read.
         most: usize,
         bytes: Vec<u8>,
     },
     /// A read of a connection that is closed.
     Closed {
         number: usize,
-        /// So many bytes were to be read at most.
+        /// The most bytes that were to be read.
         most: usize,
     },
     /// A write to a connection.

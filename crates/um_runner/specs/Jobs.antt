@@ -20,7 +20,7 @@ entries_of job = map string_bytes job.entries.now
 abbrev pub is_entry : List ℕ → Bool
 is_entry word = list_any is_entry_sign word && not (first_passes is_entry_sign word)
 
--- the words can be a job with so many entries
+-- the words can be a job with this many entries
 abbrev pub can_be_job : ℕ → List (List ℕ) → Bool
 can_be_job count words = nat_lt count (length words) && list_all is_entry (take count words)
 

@@ -22,7 +22,7 @@ abbrev pub entry_value : List (List ℕ) → List ℕ → Option (List ℕ)
 entry_value entries name =
     option_map (λ entry. after_first is_entry_sign entry) (find (λ entry. bytes_eq (before_first is_entry_sign entry) name) (reverse entries))
 
--- what came of claiming a number: it is this runner's, somebody's claim stood there, or the folder refused it
+-- the outcome of claiming a number: it is this runner's, somebody's claim stood there, or the folder refused it
 pub data Claimed : Type 0 where
   Ours : Claimed
   Taken : Claimed
@@ -43,7 +43,7 @@ pub data RunnerStep : Type 0 where
 abbrev pub not_executed : End
 not_executed = Code 203
 
--- the whole life of a runner for these words and entries, and whether the folder took all that was to be told
+-- the whole life of a runner for these words and entries, and whether the folder took all its reports
 pub data RunnerLife (words entries : List (List ℕ)) : List RunnerStep → Bool → Type 0 where
   -- somebody has the number: nothing is started
   yields : RunnerLife words entries (Claims Taken ∷ []) true
@@ -51,7 +51,7 @@ pub data RunnerLife (words entries : List (List ℕ)) : List RunnerStep → Bool
   fails : RunnerLife words entries (Claims Refused ∷ []) false
   -- the command can't be executed: there is no pid
   refuses : (told : Bool) → RunnerLife words entries (Claims Ours ∷ Starts words entries None ∷ Writes Status (status_text not_executed) told ∷ []) told
-  -- the command runs, and its end is told behind its pid, also where the pid couldn't be
+  -- the command runs, and its end is reported after its pid, also if the pid couldn't be
   runs : (pid : ℕ) (end : End) (told_pid told : Bool)
       → RunnerLife words entries
       (Claims Ours ∷ Starts words entries (Some pid) ∷ Writes Pid (pid_text pid) told_pid ∷ Waits end ∷ Writes Status (status_text end) told ∷ [])

@@ -12,7 +12,7 @@ use std::os::unix::fs::OpenOptionsExt;
 use std::{fs, io};
 use um_model::ProcessNumber;
 
-/// So many bytes are read of a file: a few more than the longest text has.
+/// The number of bytes that are read of a file: a few more than the longest text has.
 const LIMIT: usize = 16;
 
 /// As long as the longest text of a pid or an end.
@@ -62,8 +62,8 @@ fn fill<F: Read>(file: &mut F, buffer: &mut [u8]) -> io::Result<usize>
     Err(io::Error::from(ErrorKind::Interrupted))
 }
 
-/// Reads the beginning of the file at the path; None where nothing stands there. Of what is no regular file, as a directory, a
-/// link or a pipe, nothing is read: nobody waits for a pipe's other end, and no link is followed.
+/// Reads the beginning of the file at the path; None where nothing stands there. A file that isn't regular, such as a
+/// directory, a link or a pipe, isn't read: nobody waits for a pipe's other end, and no link is followed.
 pub fn read_beginning<R: Files>(rt: &R, path: &str) -> io::Result<Option<Beginning>> {
     let about = match fs::symlink_metadata(rt, path) {
         Ok(about) => about,
@@ -90,10 +90,10 @@ pub fn read_file<R: Files>(
     Ok(read_beginning(rt, path.as_str())?)
 }
 
-/// So often a draft is made anew that another one has made in the meantime.
+/// The number of attempts at a draft, each after the removal of one that somebody else made in the meantime.
 const TRIES: u32 = 8;
 
-/// A draft tells nothing that isn't told to anyone who may look into the folder.
+/// A draft holds nothing that isn't shown to anyone who may look into the folder.
 const DRAFT_MODE: u32 = 0o666;
 
 /// Removes what stands at the path of a draft: a file, or a link and not what it leads to.
@@ -179,7 +179,7 @@ pub fn replace_file<R: Files>(
     Ok(fs::rename(rt, draft.as_str(), path.as_str())?)
 }
 
-/// What came of making a file where none stood.
+/// The outcome of making a file where none stood.
 #[derive(Clone, Copy, Debug, PartialEq, Eq)]
 pub enum Creation {
     /// It is new.

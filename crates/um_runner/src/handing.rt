@@ -38,7 +38,7 @@ pub fn hand_over<R: Files>(
     match make_file(rt, path.as_str(), text.as_slice()) {
         Ok(()) => Ok(()),
         Err(error) => {
-            // What is left where this fails goes with the number's other files.
+            // A file that is left because this fails goes with the number's other files.
             let _left = fs::remove_file(rt, path.as_str());
             Err(FolderFault::System(error))
         }
@@ -61,7 +61,7 @@ pub fn take_back<R: Files>(
     }
 }
 
-/// The text of the file at the path, which is gone then. What is no regular file is neither read nor removed.
+/// The text of the file at the path, which is removed. A file that isn't regular is neither read nor removed.
 fn take_text<R: Files>(rt: &R, alloc: Global, path: &str) -> io::Result<String> {
     if !fs::symlink_metadata(rt, path)?.is_file() {
         return Err(io::Error::from(ErrorKind::InvalidData));
@@ -71,8 +71,8 @@ fn take_text<R: Files>(rt: &R, alloc: Global, path: &str) -> io::Result<String> 
     text
 }
 
-/// Takes the entries that were handed over for the number, and removes their file. None where it can't be read or removed, or tells no entries
-/// NAME=value.
+/// Takes the entries that were handed over for the number, and removes their file. None if it can't be read or removed,
+/// or holds no entries NAME=value.
 pub fn take_entries<R: Files>(
     rt: &R,
     alloc: Global,

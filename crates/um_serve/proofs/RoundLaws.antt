@@ -112,7 +112,7 @@ untaken_round {moment = moment} was old new turned later at result g are ticks t
       lost = refl;
     })
 
--- a turn that was taken, and what is handed to the gate then
+-- a turn that was taken, and the output handed to the gate then
 pub done_round : {children calls taken gate later_gate before events clock moments busy came stirred changed lost lost_then : Bool} {held : List Bool} {pieces : List Piece} {waits forgot left : List Waits} {given more : List ℕ} {moment : ℕ}
     {a b d : Now} → (was : Bool) (old new later said : List Event) (turned : ℕ) (at : Place) (result : Result Unit Refusal) → Gathers gate before held pieces old new waits forgot came
     → (IsTrue gate → IsTrue later_gate) → (IsTrue events → IsTrue before) → AreHeldBack a.sessions waits held → Ticks clock moments given more (moment ∷ [])

@@ -1,4 +1,4 @@
--- What the gate took for one client of what a manager put out for it, as the history of that manager tells.
+-- The bytes that the gate took for one client of the manager's output for it, as the manager's history records them.
 -- No manual page has this: it is the project's own (docs/HEADLINE.md, "Which call gives what").
 -- The law of what a client reads stands on this file.
 use Rattle.std.specs.Prelude.{◌≡◌, ℕ, List, [], ◌++◌, Bool, false, Some, Result, slice_get}
@@ -14,7 +14,8 @@ use Rattle.um_serve.specs.Histories.{AreRounds, no_round, and_round, last_round,
 use Rattle.um_serve.specs.Rounds.{Round, Trust, Served}
 use Rattle.um_wire.specs.declared.refusal.Refusal.{Refusal}
 
--- what the gate took for a connection in these rounds, behind what it had taken before, since it was heard last that it closed
+-- the bytes that the gate took for a connection in these rounds, after those it had taken before, since it was last
+-- heard to be closed
 abbrev pub took_in_rounds : {trust : Trust} {at : Place} {disk : Past} {before : List Call} {rs : List Round} {result : Result Unit Refusal} {x y : Served}
     {past : History disk before x.now} {all : History disk before y.now} → ℕ → List ℕ → AreRounds trust at rs result x y past all → List ℕ
 took_in_rounds k took no_round = took

@@ -4,7 +4,7 @@ ghost use Rattle.um_session.specs.Fronts.{IsFront};
 
 use byteorder::{BigEndian, ByteOrder};
 
-/// The length of a frame stands in so many bytes in front of it.
+/// The length of a frame stands in this many bytes in front of it.
 pub const HEADER: usize = 4;
 
 /// The longest frame of a request, in bytes.
@@ -17,7 +17,7 @@ pub enum FrameFront {
     Partial,
     /// A length past the limit.
     TooLong,
-    /// A frame of so many bytes.
+    /// A frame of this many bytes.
     Frame(usize),
 }
 
