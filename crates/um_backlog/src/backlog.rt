@@ -24,7 +24,7 @@ impl Model for Backlog {
 }
 
 impl Backlog {
-    /// Nothing waits for anybody.
+    /// A backlog in which no bytes wait for any client. Refused only for want of memory.
     pub fn new(alloc: Global) -> Result<Backlog, AllocError>
         ensures { IfOk result (λ backlog. backlog ≡ replicate 64 nothing) }
     {

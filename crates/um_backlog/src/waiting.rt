@@ -39,7 +39,7 @@ impl Model for Waiting {
 }
 
 impl Waiting {
-    /// Nothing waits for it.
+    /// No bytes, and no memory taken.
     pub fn new(alloc: Global) -> Waiting
         ensures { result ≡ nothing }
     {
@@ -102,7 +102,7 @@ impl Waiting {
         self.bytes.append(&mut bytes)
     }
 
-    /// Gives the connection up.
+    /// Gives the connection up: drops the bytes that wait, and has the gate drop the connection.
     fn give_up<G: Gate>(&mut self, gate: &mut G, number: usize)
         ensures value { self.new ≡ given_up }
         ensures past { Logs (G.honest gate.old) (G.whole gate.new) (G.past gate.old) (G.past gate.new) (dropped number ∷ []) }

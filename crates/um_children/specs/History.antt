@@ -50,15 +50,15 @@ Signals number signal old new = new ≡ old ++ Signalled number signal ∷ []
 abbrev pub Asks : {E : Type 0} → ℕ → Bool → Result Fate E → List Call → List Call → Type 0
 Asks number claim result old new = new ≡ old ++ Asked number claim (result_ok result) ∷ []
 
--- dropping the record of a number is one call more, whatever it answered
+-- forgetting a number is one call more, whatever it answered
 abbrev pub Forgets : ℕ → List Call → List Call → Type 0
 Forgets number old new = new ≡ old ++ Forgot number ∷ []
 
--- dropping the records of all others below the next number is one call more, whatever it answered
+-- forgetting all others below the next number is one call more, whatever it answered
 abbrev pub ForgetsOthers : List ℕ → ℕ → List Call → List Call → Type 0
 ForgetsOthers live next old new = new ≡ old ++ ForgotOthers live next ∷ []
 
--- whether a call drops the record of the number
+-- whether a call forgets the number
 abbrev pub lets_go : ℕ → Call → Bool
 lets_go n (Forgot number) = number == n
 lets_go n (ForgotOthers live next) = not (list_any (λ m. m == n) live)
@@ -70,6 +70,6 @@ lets_any (Forgot number) = true
 lets_any (ForgotOthers live next) = true
 lets_any other = false
 
--- these calls drop the record of no number that passes the test
+-- these calls forget no number that passes the test
 abbrev pub Spares : (ℕ → Bool) → List Call → Type 0
 Spares test calls = (n : ℕ) → test n ≡ true → list_any (lets_go n) calls ≡ false

@@ -30,11 +30,11 @@ pub enum Call {
         /// Nothing where the call failed.
         told: Option<Fate>,
     },
-    /// The record of a number was dropped.
+    /// A number was forgotten.
     Forgot {
         number: ProcessNumber,
     },
-    /// The record of each other number that has ended was dropped; from the next number on none was ever started.
+    /// Each other number that has ended was forgotten; from the next number on none was ever started.
     ForgotOthers {
         live: Vec<ProcessNumber>,
         next: NextNumber,
@@ -79,7 +79,7 @@ impl Call {
         }
     }
 
-    /// The call again.
+    /// A copy of the call. Refused only for want of memory.
     pub fn copy(&self, alloc: Global) -> Result<Call, AllocError>
         ensures { IfOk result (λ call. call_of call ≡ call_of self.now) }
     {

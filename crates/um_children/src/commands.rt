@@ -22,7 +22,7 @@ const FINDING: &str =
 
 const SIGNALLING: &str = "kill -s \"$1\" \"$2\"";
 
-/// Adds the words.
+/// Adds words as arguments, in their order.
 fn add(command: &mut Command, words: &[&str]) -> Result<(), AllocError>
     ensures program { OnOk result (command_program command.new ≡ command_program command.old) }
     ensures args { OnOk result (command_args command.new ≡ command_args command.old ++ lent words.now) }
@@ -33,7 +33,7 @@ fn add(command: &mut Command, words: &[&str]) -> Result<(), AllocError>
     Ok(())
 }
 
-/// Adds the texts.
+/// Adds texts as arguments, in their order.
 fn add_texts(command: &mut Command, texts: &[String]) -> Result<(), AllocError>
     ensures program { OnOk result (command_program command.new ≡ command_program command.old) }
     ensures args { OnOk result (command_args command.new ≡ command_args command.old ++ map string_bytes texts.now) }

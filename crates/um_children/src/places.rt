@@ -31,10 +31,10 @@ pub enum OpenFault {
     /// Its owner could put files there in the place of the manager's and the runners'.
     #[error("the folder of processes is another user's")]
     Owner,
-    /// Others could.
+    /// Others than the owner may write it.
     #[error("others may write the folder of processes")]
     Writable,
-    /// The system refuses it.
+    /// The system refuses the folder, for this cause.
     #[error("{0}")]
     System(io::Error),
 }

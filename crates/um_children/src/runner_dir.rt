@@ -219,7 +219,7 @@ impl<'a, R: Files + Processes + Clock> RunnerDir<'a, R> {
         self.is_pressed
     }
 
-    /// The folder.
+    /// The path of the folder of processes.
     pub fn folder(&self) -> &str {
         self.folder.as_str()
     }

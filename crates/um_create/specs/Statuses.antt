@@ -21,7 +21,8 @@ abbrev pub fault_of : FileFault → CreateFault
 fault_of file.Exists = Exists
 fault_of fault = File fault
 
--- what can come: something stands there, the system's own faults of a file, and of the disk want of memory or its own fault
+-- the possible faults: something stands there, the system's own faults of a file, and of the disk want of memory or its
+-- own fault
 abbrev pub IsMet : CreateFault → Type 0
 IsMet Exists = ⊤
 IsMet (File fault) = (fault ≢ file.Exists) × (fault ≢ file.TooLarge)

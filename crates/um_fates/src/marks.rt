@@ -107,7 +107,7 @@ fn index_of(alloc: Global, numbers: &[ProcessNumber]) -> Option<BTreeSet<u64>>
 }
 
 impl Marks {
-    /// These numbers.
+    /// Marks of exactly these numbers. Refused only for want of memory.
     pub fn of(alloc: Global, numbers: &[ProcessNumber]) -> Result<Marks, AllocError>
         ensures { IfOk result (λ marks. (n : ℕ) → has n marks ≡ has n numbers.now) }
     {

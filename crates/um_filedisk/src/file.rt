@@ -135,7 +135,7 @@ impl<'a, R: Files<File = File>> FileDisk<'a, R> {
         ensures counts { IfOk result (λ disk. (disk.calls ≡ 0) × (disk.failures ≡ 0)) }
         ensures never_too_large { IfErr result (λ fault. fault ≢ FileFault.TooLarge) }
     {
-        // the opening of a pipe would wait for somebody who writes it
+        // opening a pipe would wait until somebody writes it
         if !fs::metadata(rt, path)?.is_file() {
             return Err(FileFault::NotAFile);
         }
@@ -271,7 +271,7 @@ impl<'a, R: Files<File = File>> FileDisk<'a, R> {
 }
 
 impl<'a, R: Files<File = File>> Disk for FileDisk<'a, R> {
-    // No clause reads it, since nothing is claimed of what the file holds.
+    // No clause reads it, since nothing is claimed of the bytes in the file.
     ghost past = { λ _. record { start = λ _. []; calls = [] } };
 
     ghost size = { λ disk. disk.sectors };

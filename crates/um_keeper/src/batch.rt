@@ -55,7 +55,7 @@ fn keep(backs: &mut Vec<Back>, back: Back)
     backs.push_reserved(back);
 }
 
-/// Lets go of an answer that nobody was given.
+/// Drops an answer that is not given to anybody.
 fn let_one_go(answer: Result<Receipt, Refusal>) {
     match answer {
         Ok(receipt) => receipt.let_go(),

@@ -113,7 +113,7 @@ impl<D: Disk> Keeper<D> {
         self.failed
     }
 
-    /// The state.
+    /// The state after all inputs that were accepted.
     pub fn state(&self) -> &State
         ensures { state_of result.now ≡ state_in self.now }
     {

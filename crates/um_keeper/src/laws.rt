@@ -1,4 +1,4 @@
-//! What the definitions of a store say together, as functions that do nothing.
+//! Laws of the definitions of a store, as functions that do nothing.
 ghost use Rattle.std.specs.Prelude.{◌≡◌, ◌↔◌, ◌+◌, ◌-◌, ◌^◌, ◌<◌, ◌≤◌, ℕ, List};
 ghost use Rattle.um_keeper.specs.Finished.{RepeatsNone, WaitsForCommand};
 ghost use Rattle.um_keeper.specs.Opening.{IsUnread, IsUntaken, IsTakenUp, IsNextOf};

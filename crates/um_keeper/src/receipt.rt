@@ -112,7 +112,7 @@ impl Receipt {
         Receipt::new(Reply::Done, Vec::new(alloc))
     }
 
-    /// The reply.
+    /// The reply to the input. It can be read before the actions are taken out.
     pub fn reply(&self) -> &Reply
         ensures { reply_of result.now ≡ self.now.0 }
     {

@@ -28,7 +28,7 @@ pub(crate) struct NextSnapshot {
 }
 
 impl NextSnapshot {
-    /// None. It takes no memory.
+    /// No snapshot under way. It takes no memory.
     pub(crate) fn none(alloc: Global) -> NextSnapshot
         ensures body { result.body.items ≡ [] }
         ensures written { result.written ≡ 0 }

@@ -14,7 +14,8 @@ const NUMBER_AT: usize = 12;
 /// The byte of a sector of the log at which its part begins, in four bytes.
 const WHICH_AT: usize = 20;
 
-/// The part of a record that a sector is, just as it is written; None where it is none of this generation or a later one.
+/// The part of a record that a sector is, exactly as one is written; None if it is none of this generation or a later
+/// one.
 fn part_in(format: Format, least: u64, sector: &Sector) -> Option<Part>
     ensures { ReadsPart format least sector.now result }
 {

@@ -4,7 +4,7 @@ ghost use Rattle.um_model.specs.Store.{part_count};
 
 use crate::sectors::PART_BYTES;
 
-/// What a part of a record says of itself.
+/// The fields of a part of a record.
 #[derive(Clone, Copy, Debug)]
 pub struct Part {
     pub generation: u64,

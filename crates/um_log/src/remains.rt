@@ -1,4 +1,4 @@
-//! Counts what stands in the log after the records that count.
+//! Counts the records in the log that don't count, after those that do.
 ghost use Rattle.std.specs.Prelude.{◌≡◌, ◌⊎◌, ◌↔◌, ◌+◌, ◌-◌, ◌<◌, ◌≤◌, ℕ, suc, List, length, IfOk, IfErr, IsTrue};
 ghost use Rattle.um_log.specs.Following.{IsSomeWith, IsLastUncounted, IsLastLater, IsInPlace};
 ghost use Rattle.um_log.specs.Greatest.{IsGreatestIn};

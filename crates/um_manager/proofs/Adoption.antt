@@ -180,7 +180,7 @@ asks_none place size s t inputs answers (each are) fault = absurd (no_fault are 
 asks_none place size s t inputs answers (fell back) fault = ap all_asked back.are ∙ none_asked back.meant (length back.rest)
 asks_none place size s t inputs answers (reopen untrusted are same) fault = ap all_asked are ∙ none_again (length inputs) Reopen
 
--- if the store failed the records of all but the live numbers were dropped, the fates were queried, and nothing else
+-- if the store failed all but the live numbers were forgotten, the fates were queried, and nothing else
 pub unadopted_calls : (place : Place) (store : Result Unit Refusal) (moment : ℕ) (s t : State) (old heard new : List Call) (live marks marked : List ℕ) (d e : Past) (p q : LogEnd) (inputs : List Input)
     (replies : List Reply) (h k w v m : Bool) → AreLive s.units live → Heard lost moment (λ n. true) h m (old ++ ForgotOthers live s.next ∷ []) heard live [] inputs
     → Submits place store inputs replies k v (now s heard marks [] d p) (now t new marked [] e q) → store ≡ Err Device

@@ -47,7 +47,7 @@ grew_refused units a b s starts k m e marked = record {
   marks_are = marked;
 }
 
--- if no order was given, no fate was queried and no record was dropped there was no call
+-- if no order was given, no fate was queried and no number was forgotten there was no call
 pub none_given : (calls : List Call) → orders calls ≡ [] → tales calls ≡ [] → list_any lets_any calls ≡ false → calls ≡ []
 none_given [] no_order no_tale kept = refl
 none_given (Spawned s is_taken starts ∷ calls) no_order no_tale kept = absurd (cons≢nil no_order)

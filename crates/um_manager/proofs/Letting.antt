@@ -1,4 +1,4 @@
--- The records of numbers that aren't live are dropped, one after another.
+-- The numbers that aren't live are forgotten, one after another.
 use Rattle.std.proofs.Common.{◌≡◌, ◌||◌, ◌+◌, ◌==◌, ℕ, List, [], ◌∷◌, ◌++◌, flat_map, length, length-append, Bool, true, false, true≢false, refl, sym, ap, ◌∙◌, append_assoc, append-nil, arith}
 use Rattle.std.proofs.lemmas.Bool.{eqb-true}
 use Rattle.std.proofs.lemmas.List.Concat.{flat_map-append}

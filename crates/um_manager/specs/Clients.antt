@@ -1,4 +1,4 @@
--- What one client has of a manager's turns: its own requests, each with its reply.
+-- One client over a manager's turns: its own requests, each with its reply.
 -- No manual page has this: it is the project's own protocol (docs/FORMATS.md, "Frames", "Replies").
 -- The laws of clients stand on this file.
 use Rattle.std.specs.Prelude.{◌≡◌, ◌≢◌, ◌⊎◌, ◌+◌, ℕ, List, [], ◌∷◌, ◌++◌, map, flat_map, take, length, Bool, true, Option, Some, None, Result, Ok, Err, slice_get, ⊤}
@@ -46,7 +46,7 @@ abbrev pub IsReplyOf : State → List Answer → ℕ → Result Request declared
 IsReplyOf s answers at (Ok request) reply = IsReplyAsked s answers at request.asked reply
 IsReplyOf s answers at (Err e) reply = reply ≡ Refusal (refused_of e)
 
--- what a turn took of a connection, with the reply: one request, or none
+-- the exchange of a turn with a connection: one request with its reply, or none
 abbrev pub IsExchange : State → List Answer → ℕ → Option (Option (Result Request declared.Refusal)) → List Exchange → Type 0
 IsExchange s answers at (Some (Some request)) here = (reply : Reply) × IsReplyOf s answers at request reply × (here ≡ (request, reply) ∷ [])
 IsExchange s answers at (Some None) here = here ≡ []

@@ -40,7 +40,7 @@ abbrev pub AllFit : List Piece → List Session → Type 0
 AllFit (p ∷ ps) (t ∷ ts) = (piece_len p ≤ t.room) × AllFit ps ts
 AllFit ps ts = ⊤
 
--- nothing came yet
+-- no bytes have arrived yet
 abbrev pub IsNew : Session → Type 0
 IsNew t = (t.rest ≡ []) × (t.output ≡ []) × (t.failed ≡ false)
 

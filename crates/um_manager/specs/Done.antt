@@ -27,12 +27,12 @@ abbrev pub command_in : ℕ → Option (Option (Result Request declared.Refusal)
 command_in moment (Some request) = inputs_asked moment request
 command_in moment None = []
 
--- a reply whose frame was put out, with the input of just the request that it answers, where that is a command
+-- a reply whose frame was put out, with the input of exactly the request that it answers, if that is a command
 pub record PutOut : Type 0 where
   pub command : List Input
   pub reply : Reply
 
--- what a turn put out for a connection, if anything
+-- the replies that a turn put out for a connection, if any
 abbrev pub put_out_in : ℕ → {at : Place} {honest whole : Bool} {result : Result Unit declared.Refusal} {moment : ℕ} {pieces : List Piece} {a b : Now}
     → Turned at honest whole result moment pieces a b → List PutOut
 put_out_in k {moment = moment} {b = b} turned =

@@ -59,7 +59,7 @@ told_before k (opens sessions opened anew) = []
 told_before k (turns past turned) = told_to k past
 told_before k (takes past out) = told_before k past
 
--- a life that came so far, and stopped so
+-- a life that got this far, and stopped so
 abbrev pub stopped : {disk : Past} {before : List Call} → Way disk before → (stop : Past) (calls : List Call) → ManagerLife
 stopped {disk} {before} way stop calls = record { disk = disk; before = before; way = way; stop = stop; calls = calls }
 

@@ -19,7 +19,7 @@ use Rattle.um_manager.specs.declared.pieces.Piece.{Piece}
 
 -- The history of a manager up to now, over a disk and children as they were before it.
 pub data History (disk : Past) (before : List Call) : Now → Type 0 where
-  -- it was opened, and no client had come
+  -- it was opened, and no client had connected
   opens : {at : Place} {honest whole : Bool} {moment : ℕ} {boot : List ℕ} {count sectors : ℕ} {b : Now} (sessions : List Session)
       → Opened at honest whole moment boot count sectors disk before b → AllNew sessions → History disk before (record b { sessions = sessions })
   -- a turn was made, whatever it answered

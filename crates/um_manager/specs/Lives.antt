@@ -28,7 +28,7 @@ use Rattle.um_wire.specs.declared.refusal.Refusal.TheVariants.{GenerationsSpent}
 use Rattle.um_manager.specs.Done.{Told, where_done}
 use Rattle.um_manager.specs.Living.{ManagerLife, offers_of, told_of, IsByDisk, IsByChildren}
 
--- each life finds what the one before it left
+-- each life finds the disk that the one before it left
 abbrev pub FollowOnDisk : (disk : Past) → List ManagerLife → (stop : Past) → Type 0
 FollowOnDisk disk [] stop = stop ≡ disk
 FollowOnDisk disk (life ∷ lives) stop = IsLeftBy disk life.disk × FollowOnDisk life.stop lives stop
@@ -56,7 +56,7 @@ pub record DiskPremises (layout : Layout) (first : State) (lives : List ManagerL
   pub made : Past
   pub empty : IsEmpty first
   pub created : Images made (λ image. IsStoreOf layout image first)
-  -- nobody else writes the disk: each life finds what the one before it left
+  -- nobody else writes the disk: each life finds the disk that the one before it left
   pub follow : FollowOnDisk made lives stop
   -- the disk does what it answers, and after a fault the store is opened again: each life ends with the first turn that its store refuses
   pub each : AllByRecursion (λ (life : ManagerLife). IsByDisk layout life.way life.stop) lives
@@ -71,7 +71,7 @@ pub record ChildrenPremises (lives : List ManagerLife) (calls : List Call) : Typ
   -- they do what they answer, and no call is missing from their history
   pub each : AllByRecursion (λ (life : ManagerLife). IsByChildren life.way life.calls) lives
 
--- ---- what outlives them
+-- ---- the facts that outlive them
 
 -- One run through all lives: of each over a beginning of its offers, without those that were turned away; each offer
 -- that was answered is in it, and got the reply of its step.

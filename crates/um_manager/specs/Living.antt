@@ -1,4 +1,4 @@
--- A life of a manager: how far it came from its opening on, and a stop at any moment of any call.
+-- A life of a manager: how far it got from its opening on, and a stop at any moment of any call.
 -- No manual page has it: crash safety is this project's own promise (docs/HEADLINE.md reads the theorem line by line).
 -- The theorem of managers that outlive crashes stands on this file.
 use Rattle.std.specs.Prelude.{◌≡◌, ℕ, List, [], ◌++◌, Bool, Result}
@@ -15,7 +15,7 @@ use Rattle.um_manager.specs.Places.{Place, place_on}
 use Rattle.um_manager.specs.Turns.{Now, Turned, IsMeanwhile}
 use Rattle.um_manager.specs.declared.pieces.Piece.{Piece}
 
--- How far a manager came, over a disk and children as they were before it.
+-- How far a manager got, over a disk and children as they were before it.
 pub data Way (disk : Past) (before : List Call) : Type 0 where
   -- it stopped between two calls, or in one after the answer of its store
   behind : {b : Now} (past : History disk before b) → Way disk before

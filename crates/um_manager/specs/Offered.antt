@@ -19,7 +19,7 @@ abbrev pub offered_in : {at : Place} {honest whole : Bool} {result : Result Unit
     → Turned at honest whole result moment pieces a b → List Input
 offered_in {moment = moment} turned = inputs_of moment turned.told turned.requests
 
--- what a turn offered
+-- the offers of a turn
 abbrev pub offers_of_turn : {at : Place} {honest whole : Bool} {result : Result Unit Refusal} {moment : ℕ} {pieces : List Piece} {a b : Now}
     → Turned at honest whole result moment pieces a b → List Offer
 offers_of_turn turned = offers (offered_in turned) turned.answers

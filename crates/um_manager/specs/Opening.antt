@@ -37,9 +37,9 @@ adoptions moment told = flat_map (inputs_of_tale lost moment) told
 abbrev pub boot_at : ℕ → List ℕ → Input
 boot_at moment boot = happens_at moment (Booted boot)
 
--- The children's calls: the records of all but the live numbers were dropped, of those below the next number, and each
--- fate that was reported was queried; then the orders were given, which are these actions, then TERM to the adopted
--- numbers whose unit is in stop-sigterm, and KILL to those whose unit is in stop-sigkill.
+-- The children's calls: all but the live numbers were forgotten, of those below the next number, and each fate that was
+-- reported was queried; then the orders were given, which are these actions, then TERM to the adopted numbers whose
+-- unit is in stop-sigterm, and KILL to those whose unit is in stop-sigkill.
 pub record Ended (units : ByUnit UnitState) (live : List ℕ) (next : ℕ) (told : List Tale) (actions : List Action) (old new : List Call)
     (marked : List ℕ) : Type 0 where
   pub termed : List ℕ
@@ -48,15 +48,15 @@ pub record Ended (units : ByUnit UnitState) (live : List ℕ) (next : ℕ) (told
   pub are_killed : AreIn units StopSigkill live killed
   pub called : Called units (Ok tt) told (actions ++ (signals Term termed ++ signals Kill killed)) (old ++ ForgotOthers live next ∷ []) new live marked
 
--- so it is if the store took the inputs; if it failed the records of all but the live numbers were dropped, the fates
--- were queried, and nothing else
+-- so it is if the store took the inputs; if it failed all but the live numbers were forgotten, the fates were queried,
+-- and nothing else
 abbrev pub CallsOf : Result Unit Refusal → ByUnit UnitState → List ℕ → ℕ → List Tale → List Action → (old new : List Call) → List ℕ → Type 0
 CallsOf (Ok done) units live next told actions old new marked = Ended units live next told actions old new marked
 CallsOf (Err e) units live next told actions old new marked = new ≡ old ++ (ForgotOthers live next ∷ map asks_for told)
 
--- Adoption dropped the records of all but the live numbers, with the next number of the state that it found, queried
--- the fate of each live one once, ascending, with a claim, and offered the fates reported; an absent number is lost,
--- and marked are the numbers that were live and those whose start was refused.
+-- Adoption forgot all but the live numbers, below the next number of the state that it found, queried the fate of each
+-- live one once, ascending, with a claim, and offered the fates reported; an absent number is lost, and marked are the
+-- numbers that were live and those whose start was refused.
 pub record Adopted (place : Place) (honest whole : Bool) (store : Result Unit Refusal) (moment : ℕ) (a b : Now) : Type 0 where
   pub live : List ℕ
   pub are_live : AreLive a.state.units live
@@ -124,8 +124,8 @@ pub record Opened (place : Place) (honest whole : Bool) (moment : ℕ) (boot : L
   pub left : IsTrue place.trusted → Images disk (IsSomeStore place.layout) → During disk b.disk (IsOfOpening place.layout disk a.state
       (boot_at moment boot ∷ taken (adoptions moment began.adopted.told) began.adopted.answers))
 
--- The children's calls of an opening that is refused after the boot of this state: the records of all numbers that
--- aren't live then are dropped, below the number that is next then, and fates are queried.
+-- The children's calls of an opening that is refused after the boot of this state: all numbers that aren't live then
+-- are forgotten, below the number that is next then, and fates are queried.
 pub record AsksAlone (size : ℕ) (s : State) (moment : ℕ) (boot : List ℕ) (told : List Tale) (old new : List Call) : Type 0 where
   pub reply : Reply
   pub booted : State
@@ -168,8 +168,8 @@ pub record Signalled (units : ByUnit UnitState) (sub : SubState) (signal : Signa
   pub are : AreIn units sub numbers chosen
   pub past_is : new ≡ old ++ map (λ n. Sent n signal) chosen
 
--- TERM was sent to those of these numbers whose unit is in stop-sigterm, then KILL to those whose unit is in stop-sigkill, and then numbers that
--- aren't live were let go.
+-- TERM was sent to those of these numbers whose unit is in stop-sigterm, then KILL to those whose unit is in
+-- stop-sigkill, and then numbers that aren't live were forgotten.
 pub record Ends (units : ByUnit UnitState) (numbers : List ℕ) (old new : List Call) : Type 0 where
   pub termed : List Call
   pub terms : Signalled units StopSigterm Term numbers old termed

@@ -1,4 +1,4 @@
--- What a script of turns does.
+-- A script of turns.
 -- No manual page has this: it is the project's own.
 -- `run_script` and the laws of the manager stand on this file.
 use Rattle.std.specs.Prelude.{◌≡◌, ◌≢◌, ◌⊎◌, List, [], ◌∷◌, ◌++◌, Bool, Result, Ok, Err}

@@ -1,4 +1,4 @@
--- What a store answers that refuses all inputs of a list.
+-- The answers of a store that refuses all inputs of a list.
 -- No manual page has it: it is the project's own protocol (docs/FORMATS.md, "Refusals").
 -- The turn of the manager and its opening stand on this file.
 use Rattle.std.specs.Prelude.{◌≡◌, ◌≢◌, List, Bool, Result, Ok, Err}

@@ -1,4 +1,4 @@
--- What a turn of the manager does.
+-- A turn of the manager.
 -- No manual page has this: it is the project's own (docs/ARCHITECTURE.md, "The way of one input").
 -- The manager's calls stand on this file.
 use Rattle.std.specs.Prelude.{◌≡◌, ◌≢◌, ◌⊎◌, ◌↔◌, ◌+◌, ◌≤◌, ◌||◌, ℕ, List, [], ◌∷◌, ◌++◌, length, drop, map, flat_map, replicate, Bool, true, false, IsTrue, Option, Result, Ok, Err}
@@ -72,7 +72,8 @@ pub record Tells (store : Result Unit Refusal) (size : ℕ) (s : State) (inputs 
   pub device : (store ≡ Err Device) ↔ HasFault answers
   pub other : (e : Refusal) → store ≡ Err e → e ≢ Device → (answers ≡ replicate (length inputs) (Err e)) × (t ≡ s)
 
--- what a crash leaves while inputs are offered: each image is a store of the state after a beginning of those that were taken
+-- the images that a crash leaves while inputs are offered: each is a store of the state after a beginning of those that
+-- were taken
 abbrev pub Leaves : Place → State → List Input → List Answer → Past → Past → Type 0
 Leaves place s inputs answers old new = During old new (IsBegun place.layout s (taken inputs answers))
 

@@ -33,7 +33,7 @@ impl Connection {
         Some(Connection { number })
     }
 
-    /// The number.
+    /// The number, below 64.
     pub fn get(self) -> usize
         ensures value { result ≡ self }
         ensures small { self < 64 }

@@ -1,4 +1,4 @@
-//! What the turns of a script say together, as functions that do nothing.
+//! Laws of the turns of a script and of lives of managers, as functions that do nothing.
 ghost use Rattle.std.specs.Prelude.{◌≡◌, ◌<◌, ◌++◌, ℕ, List, flat_map, Bool, Some, Result, Ok, IsTrue, slice_get};
 ghost use Rattle.um_manager.specs.Clients.{AllTurned, HasHad, IsServed};
 ghost use Rattle.um_manager.specs.Crashes.{all_offers, IsLeft};

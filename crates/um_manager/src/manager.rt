@@ -35,7 +35,7 @@ use um_session::Session;
 use um_state::{BootId, State};
 use um_wire::Refusal;
 
-/// What a connection puts out.
+/// The output of a connection.
 #[derive(Drop)]
 pub struct Output {
     pub bytes: Vec<u8>,
@@ -74,9 +74,8 @@ impl<D: Disk, C: Children> Manager<D, C> {
     /// A refusal hands disk and children back.
     ///
     /// Its refusals are those of `Keeper::open`, for the same causes. With each but E15 and E16 nothing was written.
-    /// E16 is given exactly if the count of the disk's failures rises. Then the records of numbers that aren't live
-    /// after the boot may have been dropped, and fates queried, and nothing else; with each of the others not even
-    /// that.
+    /// E16 is given exactly if the count of the disk's failures rises. Then the numbers that aren't live after the boot
+    /// may have been forgotten, and fates queried, and nothing else; with each of the others not even that.
     pub fn open(
         alloc: Global,
         disk: D,
@@ -241,7 +240,7 @@ impl<D: Disk, C: Children> Manager<D, C> {
         self.sessions[connection.get()].holds_frame()
     }
 
-    /// The state.
+    /// The state of its store.
     pub fn state(&self) -> &State
         ensures { state_of result.now ≡ state_in self.now.keeper }
     {

@@ -64,7 +64,7 @@ pub fn put_reply(replies: &mut Vec<Reply>, reply: Reply)
     replies.push_reserved(reply);
 }
 
-/// Carries out what the answer to an input hands out, and gives the reply.
+/// Carries out the actions of the answer to an input, and returns the reply.
 fn carry_one<C: Children>(
     children: &mut C,
     marks: &mut Marks,
@@ -82,7 +82,7 @@ fn carry_one<C: Children>(
     }
 }
 
-/// Carries out what the answers hand out, in their order, and notes the replies.
+/// Carries out the actions of the answers, in their order, and notes the replies.
 pub fn carry_all<C: Children>(
     children: &mut C,
     marks: &mut Marks,

@@ -13,7 +13,7 @@ pub enum Piece {
     Nothing,
     /// These bytes. The first ones, also after `Closed`, open a session.
     Bytes(Vec<u8>),
-    /// The client is gone: its session ends with what it holds.
+    /// The client is gone: its session ends with the bytes it holds.
     Closed,
 }
 

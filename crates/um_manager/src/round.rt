@@ -35,7 +35,7 @@ fn tick(moment: Moment) -> Input
     Input::new(moment, Event::Happened(Happening::Tick))
 }
 
-/// What a turn fills. Room for all of it is taken before anything is heard.
+/// The vectors that a turn fills. Room for all of them is taken before anything is heard.
 struct Room {
     inputs: Vec<Input>,
     replies: Vec<Reply>,
@@ -90,7 +90,8 @@ fn forget_one<C: Children>(children: &mut C, units: &Units, number: ProcessNumbe
     }
 }
 
-/// Forgets each of these numbers that isn't live any more. What isn't forgotten for a fault is forgotten by a later opening.
+/// Forgets each of these numbers that isn't live any more. One that isn't forgotten because of a fault is forgotten by
+/// a later opening.
 pub fn forget_ended<C: Children>(children: &mut C, units: &Units, numbers: &[ProcessNumber])
     ensures let_go { IsTrue (C.honest children.old) → IsTrue (C.whole children.new) → LetGo units.now.held (C.past children.old) (C.past children.new) }
     ensures children { KeepsChildren C.Children children.old children.new }

@@ -48,7 +48,7 @@ impl StoreFault {
         }
     }
 
-    /// What the manager answers: where the list as a whole found no memory each of its inputs did, and the store goes on.
+    /// The answer of the manager: if the list as a whole found no memory each of its inputs did, and the store goes on.
     fn answer(self) -> Result<(), Refusal>
         ensures { StoreAnswers self result }
     {

@@ -1,4 +1,4 @@
-//! What a turn takes of the connections.
+//! The requests that a turn takes of the connections.
 
 ghost use Rattle.std.specs.Prelude.{◌≡◌, ◌≤◌, ◌+◌, ◌++◌, ◌∷◌, [], OnOk, length, vec_len, vec_capacity};
 ghost use Rattle.um_manager.specs.Connections.{AllSame, AllFit, piece_len, Cuts, Took, inputs_asked, due_of};

@@ -1,4 +1,4 @@
--- What a manager in memory holds, and what it writes for what it reads.
+-- The state that a manager in memory holds, and its output for its input.
 use Rattle.std.specs.Prelude.{◌≡◌, ℕ, List, [], ◌++◌, map, Option}
 use Rattle.std.specs.Io.KnownBytes.{Appends}
 use Rattle.um_model.specs.Machine.{State, Event, Reply, Told, Step}

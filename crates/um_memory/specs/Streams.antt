@@ -20,7 +20,7 @@ pub data Begins (size : ℕ) : State → List Action → (stream out : List ℕ)
   goes_on : {s t : State} {kept left : List Action} {stream bytes rest out : List ℕ} (r : Reply) → BeginsWith stream bytes rest
       → Answers size s kept bytes r t left → Begins size t left rest out → Begins size s kept stream (frame_of (reply_text r) ++ out)
 
--- what a reader gave next: a frame, or how its stream ends
+-- the piece that a reader gave next: a frame, or how its stream ends
 abbrev pub Comes : Piece → Option (List ℕ) → Option (List ℕ) → Type 0
 Comes piece None new = ⊤
 Comes (End ending) (Some stream) new = EndsSo stream ending

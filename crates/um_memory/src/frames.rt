@@ -11,7 +11,7 @@ use um_stream::{Fault, HEADER, read_up_to};
 /// The longest frame of a request, in bytes.
 const FRAME_LIMIT: usize = 524_288;
 
-/// What comes next on an input.
+/// The next piece of an input.
 #[derive(Debug, Drop)]
 pub enum Piece {
     /// A frame, by the bytes that it holds.

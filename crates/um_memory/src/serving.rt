@@ -58,7 +58,7 @@ struct Manager {
     keeper: Keeper<MemDisk>,
     /// The actions since they were last requested.
     kept: Vec<Action>,
-    /// What the inputs count since the store was renewed.
+    /// The count of the inputs since the store was renewed.
     taken: usize,
 }
 

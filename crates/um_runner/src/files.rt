@@ -33,7 +33,7 @@ impl Beginning {
         size: 0,
     };
 
-    /// The bytes.
+    /// The bytes that were read.
     pub fn bytes(&self) -> &[u8] {
         &self.bytes[..self.size]
     }

@@ -58,7 +58,7 @@ fn can_all_be_handed(entries: &[String]) -> bool
     can_each_be_handed(entries)
 }
 
-/// Fills the text up.
+/// Fills the text up with zero bytes to its least length.
 fn filled(text: Vec<u8>) -> Result<Vec<u8>, AllocError>
     ensures { IfOk result (λ filled. filled.items ≡ text.items ++ replicate (handed.least_bytes - length text.items) 0) }
 {

@@ -14,7 +14,7 @@ use um_model::End;
 ///
 /// No contract can say what a real folder holds and what a real process does, so the clauses stand under `honest`.
 pub trait Host {
-    /// The steps, in order.
+    /// The steps of the runner so far, the oldest first.
     ghost past: { Self → List RunnerStep };
 
     /// It does what it answers.

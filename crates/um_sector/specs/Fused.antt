@@ -1,4 +1,4 @@
--- What a fuse adds to the failures of a disk.
+-- The calls that a fuse fails, beside the failures of its disk.
 -- No manual page has it: it is the project's own test device.
 -- Fuse stands on this file.
 use Rattle.std.specs.Prelude.{◌+◌, ◌-◌, ◌^◌, min, ℕ, Result}

@@ -1,5 +1,6 @@
--- What a stop leaves of a disk, as it is found by the next.
--- No manual page has it: it is the usual model of sectors whose writes reach the disk in any order until a sync answers.
+-- The disk that a stop leaves, as it is found next.
+-- No manual page has it: it is the usual model of sectors whose writes reach the disk in any order until a sync
+-- answers.
 -- `MemDisk::crash`, and the theorem of managers that outlive crashes, stand on this file.
 use Rattle.um_model.specs.Disk.{Past, IsImage, Images, seen}
 

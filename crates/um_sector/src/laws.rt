@@ -1,4 +1,4 @@
-//! What the disk model says of single calls and of crashes, as functions that do nothing.
+//! Laws of the disk model for single calls and crashes, as functions that do nothing.
 ghost use Rattle.std.specs.Prelude.{◌≡◌, ◌⊎◌, ◌<◌, ℕ, List, [], Bool, IsTrue};
 ghost use Rattle.um_model.specs.Disk.{Sector, Image, Past, IsImage, IsSettled, with_sector, wrote, synced, after, seen, Images, During};
 ghost use Rattle.um_sector.specs.Unsynced.{picked};
@@ -14,7 +14,7 @@ pub fn a_write_changes_one_sector_or_none()
         → IsImage past image ⊎ ((before : Image) × IsImage past before × (image ≡ with_sector before k value)) }
 {}
 
-/// After a sync that answered Ok there is one image: what a read gives.
+/// After a sync that answered Ok there is one image: the one that a read gives.
 pub fn a_sync_leaves_what_a_read_gives()
     ensures { (past : Past) (image : Image) → IsImage (after synced past) image → image ≡ seen past }
 {}
@@ -36,7 +36,7 @@ pub fn runs_of_calls_join()
         → During old new (λ image. IsTrue (p image)) }
 {}
 
-/// What each image has during a run of calls, each image at its end has.
+/// A fact of each image during a run of calls holds of each image at its end.
 pub fn a_run_of_calls_ends()
     ensures { (old new : Past) (p : Image → Bool) → During old new (λ image. IsTrue (p image)) → Images new (λ image. IsTrue (p image)) }
 {}

@@ -20,9 +20,9 @@ use um_model::SECTOR_BYTES;
 pub struct MemDisk {
     /// The content it was made with.
     start: Vec<Sector>,
-    /// What a read gives.
+    /// The sectors that a read gives.
     held: Vec<Sector>,
-    /// What a read gave at the last sync, or at the start.
+    /// The sectors that a read gave at the last sync, or at the start.
     synced: Vec<Sector>,
     /// Its writes and syncs that answered Ok, the oldest first.
     noted: Vec<Noted>,

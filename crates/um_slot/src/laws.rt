@@ -1,4 +1,4 @@
-//! What the definitions of the slots say together, as functions that do nothing.
+//! Laws of the definitions of the slots, as functions that do nothing.
 ghost use Rattle.std.specs.Prelude.{◌≡◌, ◌↔◌, ℕ, List, Some, None};
 ghost use Rattle.um_model.specs.Disk.{Image};
 ghost use Rattle.um_model.specs.declared.layout.Layout.{Layout};

@@ -110,11 +110,11 @@ fn read_body<D: Disk>(
     Ok(body)
 }
 
-/// Reads both headers and takes the well-formed one of the greater generation, of equal ones slot A's, with its body; and says whether the
-/// other slot's first sector is damaged.
+/// Reads both headers and takes the well-formed one of the greater generation, of equal ones slot A's, with its body.
+/// Also returns whether the other slot's first sector is damaged.
 ///
-/// E18 with sector 1 where no header is well-formed; E15; E16 where a read fails. It makes at most two disk calls more than the
-/// body has sectors, and also where it is refused at most two more than the longest body has.
+/// E18 with sector 1 where no header is well-formed; E15; E16 where a read fails. It makes at most two disk calls more
+/// than the body has sectors, and when it is refused at most two more than the longest body has.
 pub fn newest<D: Disk>(alloc: Global, disk: &mut D, layout: Layout) -> Result<Snapshot, Refusal>
     ensures ok { IfOk result (λ newest. IsTrue (D.honest disk.old) → IsNewest layout (seen (D.past disk.old)) newest.home.slot newest.home.generation newest.body.items) }
     ensures damaged { IfOk result (λ newest. IsTrue (D.honest disk.old)
