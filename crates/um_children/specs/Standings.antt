@@ -22,7 +22,7 @@ fate_of (Running pid) claim = fate.Executed
 fate_of (Ended end) claim = fate.Ended end
 fate_of Barred claim = if claim then fate.Absent else fate.Starting
 
--- who has claimed a number decides: what the manager has claimed never starts
+-- the claimant decides: a number that the manager has claimed never starts
 abbrev pub claimed : Claiming → Standing
 claimed New = Barred
 claimed (Stands Manager) = Barred

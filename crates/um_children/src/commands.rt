@@ -72,8 +72,8 @@ fn add_place(
     add(command, &["--env-file", "--"])
 }
 
-/// The command that starts the runner at `program` for an order, in the folder, and has what it prints added to the file `output`. The order's
-/// environment isn't among its words, which any user may read.
+/// The command that starts the runner at `program` for an order, in the folder, and has its output appended to the file
+/// `output`. The order's environment isn't among its words, which any user may read.
 pub fn start_command(
     alloc: Global,
     output: &str,

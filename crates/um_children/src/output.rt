@@ -1,4 +1,4 @@
-//! The file of what a process prints.
+//! The file of a process's output.
 
 use std::alloc::Global;
 use std::fs::{Files, OpenOptions};
@@ -46,7 +46,7 @@ fn try_drop_ahead<R: Files>(rt: &R, alloc: Global, folder: &str) -> io::Result<(
     fs::remove_file(rt, path_ahead(alloc, folder)?.as_str())
 }
 
-/// Makes the first file ahead, in place of what an earlier manager left.
+/// Makes the first file ahead, in place of the one that an earlier manager left.
 pub(crate) fn begin_ahead<R: Files>(rt: &R, alloc: Global, folder: &str) {
     let _gone = try_drop_ahead(rt, alloc, folder);
     make_ahead(rt, alloc, Some(folder));

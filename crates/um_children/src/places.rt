@@ -16,7 +16,7 @@ use um_runner::{
 /// The folder is the manager's own.
 const MODE: u32 = 0o700;
 
-/// Others may write what has one of these.
+/// The mode bits by which others may write a file.
 const WRITABLE: u32 = 0o022;
 
 /// Why there are no children over a folder.

@@ -1,4 +1,4 @@
-//! What goes of a number whose status stands in the folder of the runners' files.
+//! Removes the files of a number whose status stands in the folder of the runners' files.
 
 use crate::trouble::Trouble;
 use std::alloc::Global;

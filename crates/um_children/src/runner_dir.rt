@@ -44,7 +44,7 @@ pub struct RunnerDir<'a, R: Files + Processes + Clock> {
     /// The path of the runner's program.
     program: String,
     folder: String,
-    /// The folder of the files of what processes print; none where that isn't kept.
+    /// The folder of the output files of processes; none if output isn't kept.
     output: Option<&'a str>,
     /// The result of making a file for the output of the process that was started last.
     printed: Output,
@@ -54,10 +54,10 @@ pub struct RunnerDir<'a, R: Files + Processes + Clock> {
     last: u64,
     /// The next round may report or do something even if no file arrives.
     is_restless: bool,
-    /// And it should come soon, since no runner may wake the manager for that.
+    /// And it should follow soon, since no runner may wake the manager for that.
     is_pressed: bool,
     failures: u64,
-    /// What failed in the last call that did.
+    /// The cause of the last failure of a call.
     cause: Option<Cause>,
     /// How long numbers have been silent, those alone that are.
     silences: BTreeMap<u64, Silence>,
@@ -177,8 +177,8 @@ impl<'a, R: Files + Processes + Clock> RunnerDir<'a, R> {
         })
     }
 
-    /// From now on what a process prints goes to a new file of this folder, under its number; it has mode 600, and is removed again where the start is
-    /// refused. Where none can be made it goes to nothing, and the start is no other for that.
+    /// From now on the output of a process goes to a new file of this folder, under its number; it has mode 600, and is
+    /// removed again if the start is refused. If none can be made the output goes nowhere, and the start is the same.
     pub fn keep_output(&mut self, folder: &'a str)
         ensures failures { self.new.failures ≡ self.old.failures }
     {
@@ -238,7 +238,7 @@ impl<'a, R: Files + Processes + Clock> RunnerDir<'a, R> {
         }
     }
 
-    /// What failed in the last call that failed, and where.
+    /// The path and the cause of the last failure of a call.
     pub fn trouble(&self) -> Option<(&str, &Cause)> {
         match &self.cause {
             Some(cause) => Some((self.place_of(cause), cause)),
@@ -283,7 +283,7 @@ impl<'a, R: Files + Processes + Clock> RunnerDir<'a, R> {
         self.unmanaged
     }
 
-    /// Counts the call where it failed, and keeps what did.
+    /// Counts the call if it failed, and keeps the cause.
     fn count<T: Drop>(&mut self, answer: Result<T, Trouble>) -> Result<T, ChildFault>
         ensures same { IfOk result (λ value. answer ≡ Ok value) }
         ensures failures { CountsFault result self.old.failures self.new.failures }
@@ -345,8 +345,8 @@ impl<'a, R: Files + Processes + Clock> RunnerDir<'a, R> {
         Ok(send_kept(self.rt, self.alloc, known))
     }
 
-    /// Whether a number of which so much is known runs, as it did when it was looked at last: no signal waits for its pid, and nothing may have
-    /// come since its files were read. So it is with most, and nothing is to be done for them.
+    /// Whether a number with these known facts runs, as it did when it was looked at last: no signal waits for its pid,
+    /// and no file may have arrived since its files were read. So it is with most, and nothing is to be done for them.
     fn runs_on(&self, known: Known) -> bool {
         known.is_settled() && known.changes == Some(self.watch.changes()) && self.foreign.is_none()
     }
@@ -472,7 +472,7 @@ impl<'a, R: Files + Processes + Clock> RunnerDir<'a, R> {
 }
 
 impl<'a, R: Files + Processes + Clock> Children for RunnerDir<'a, R> {
-    // No clause reads it, since nothing is claimed of what files and processes do.
+    // No clause reads it, since nothing is claimed of files and processes.
     ghost past = { λ _. [] };
 
     ghost whole = { λ _. true };

@@ -1,4 +1,4 @@
-//! How long nobody has claimed a number that was started.
+//! Numbers that were started and that nobody has claimed, and for how long.
 
 use crate::standing::Standing;
 use std::collections::BTreeMap;
@@ -9,7 +9,7 @@ use um_model::ProcessNumber;
 /// reported.
 const PATIENCE: u64 = 10;
 
-/// That nobody has claimed a number.
+/// The silence of a number that nobody has claimed.
 #[derive(Clone, Copy)]
 pub enum Silence {
     /// It was found so first at this moment.

@@ -1,4 +1,4 @@
-//! Whether anything came into the folder since the last look.
+//! Whether any file arrived in the folder since the last look.
 
 use std::fs::Files;
 use std::io::ErrorKind;
@@ -72,7 +72,7 @@ impl Watch {
         is_gone: false,
     };
 
-    /// How often anything may have come into the folder.
+    /// How often a file may have arrived in the folder.
     pub fn changes(&self) -> u64 {
         self.changes
     }
@@ -90,10 +90,10 @@ impl Watch {
         }
     }
 
-    /// Whether anything may have come since the last look. Where the folder's time can't be seen, it may.
+    /// Whether a file may have arrived since the last look. If the folder's time can't be seen, one may have.
     pub fn has_changed<R: Files + Clock>(&self, rt: &R, folder: &str) -> bool {
         match (self.time, folder_time(rt, folder)) {
-            // it wasn't young at that look, and so whatever came since has a later time, if the file system's times are fine
+            // it wasn't young at that look, so each file since has a later time, if the file system's times are fine
             (Some(seen), Ok(time)) => time != seen || self.is_overdue(rt, time),
             _ => true,
         }

@@ -16,7 +16,7 @@ use Rattle.um_state.specs.declared.input.Input as declared
 abbrev pub inputs_in : List declared.Input → List Input
 inputs_in inputs = map input_of inputs
 
--- what happens at this moment, as an input of the current profile
+-- a happening at this moment, as an input of the current profile
 abbrev pub happens_at : ℕ → Happening → Input
 happens_at moment happening = record { profile = current; moment = moment; event = Happened happening }
 
@@ -24,7 +24,7 @@ happens_at moment happening = record { profile = current; moment = moment; event
 abbrev pub unexecuted : End
 unexecuted = Code 203
 
--- the end of a process of which nobody knows
+-- the end of a process whose end nobody knows
 abbrev pub lost : End
 lost = Lost
 

@@ -1,4 +1,4 @@
-//! What became of processes, as inputs.
+//! The fates of processes, as inputs.
 
 ghost use Rattle.std.specs.Prelude.{◌≡◌, ◌+◌, ◌*◌, ◌≤◌, ◌++◌, ◌∷◌, [], ℕ, true, length, vec_len, vec_capacity};
 ghost use Rattle.um_children.specs.Frames.{KeepsChildren};

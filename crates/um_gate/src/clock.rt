@@ -1,4 +1,4 @@
-//! Where moments come from.
+//! The source of moments.
 
 ghost use Rattle.std.specs.Prelude.{◌≡◌, ◌∷◌, [], List, ℕ, Bool, IsTrue, not, true, false};
 ghost use Rattle.um_gate.specs.Events.{Ticks};
@@ -31,7 +31,7 @@ pub trait Moments {
 #[derive(Drop)]
 pub struct FakeMoments {
     given: Vec<Moment>,
-    /// What it gives next.
+    /// The moment that it gives next.
     next: Moment,
     /// The microseconds from one moment to the next.
     step: u64,

@@ -17,7 +17,7 @@ use std::marker::Model;
 struct Client {
     /// The number of its connection.
     number: usize,
-    /// What it sends, a part a read; an empty part is a moment of silence.
+    /// The bytes it sends, a part a read; an empty part is a moment of silence.
     parts: Vec<Vec<u8>>,
     /// It leaves once all is sent.
     leaves: bool,
@@ -252,7 +252,7 @@ fn take_client(places: &mut Vec<Option<Client>>, client: Client)
 }
 
 impl FakeGate {
-    /// A gate to which no client came yet.
+    /// A gate to which no client has connected yet.
     pub fn new(alloc: Global) -> Result<FakeGate, AllocError>
         ensures past { IfOk result (λ gate. gate.past ≡ []) }
         ensures whole { IfOk result (λ gate. gate.is_whole ≡ true) }
@@ -296,21 +296,22 @@ impl FakeGate {
         Ok(())
     }
 
-    /// Fails the `fails`-th accept from now on: it takes nobody, and who waits goes on waiting. With 0 none fails.
+    /// Fails the `fails`-th accept from now on: it takes nobody, and each client that waits goes on waiting. With 0
+    /// none fails.
     pub fn fuse(&mut self, fails: usize)
         ensures { self.new ≡ record self.old { clients = record self.old.clients { fuse = fails } } }
     {
         self.fuse = fails;
     }
 
-    /// What it did so far, the oldest first.
+    /// Its events so far, the oldest first.
     pub fn notes(&self) -> &[Note]
         ensures { events_of result.now ≡ self.now.past }
     {
         self.notes.as_slice()
     }
 
-    /// Takes the client that came first, where its number is free.
+    /// Takes the client that connected first, if its number is free.
     fn take_first(&mut self)
         ensures clients { self.new.clients ≡ first_taken self.old.clients.waiting self.old.clients }
         ensures past { self.new.past ≡ self.old.past }

@@ -1,4 +1,4 @@
-//! Sockets that are listened at, made so that nobody but their owner connects.
+//! Sockets that are listened at, made so that only their owner connects.
 
 use mio::net::{UnixListener, UnixStream};
 use std::alloc::Global;
@@ -72,8 +72,8 @@ fn make_folder<R: Files>(rt: &R, folder: &str) -> io::Result<()> {
     }
 }
 
-/// A listener at the path inside a folder of its own, to which nobody else comes before its mode is set; then it is moved to its path, over a
-/// socket at which nobody answers.
+/// A listener at the path inside a folder of its own, to which nobody else connects before its mode is set; then it is
+/// moved to its path, over a socket at which nobody answers.
 fn listener_by<R: Files + Net>(
     rt: &R,
     folder: &str,

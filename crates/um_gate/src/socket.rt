@@ -23,7 +23,7 @@ const LISTENER: usize = CONNECTIONS;
 /// And those of the socket of news this one.
 const NEWS: usize = CONNECTIONS + 1;
 
-/// What stands under the number of a connection.
+/// The place under the number of a connection.
 #[derive(Drop)]
 enum Place {
     Free,
@@ -49,7 +49,7 @@ pub struct SocketGate {
     /// A descriptor that is released if none is left to accept a connection to that socket, so that files can be read
     /// after the wake.
     spare: Option<Poll>,
-    /// Why nobody could be let go at that socket while the spare descriptor was there.
+    /// Why no connection to that socket could be closed while the spare descriptor was there.
     fault: Option<io::Error>,
     places: Vec<Place>,
     /// Where a read puts its bytes first.
@@ -246,7 +246,7 @@ impl SocketGate {
         self.take_news() | has_event
     }
 
-    /// The next client, if one waits. It doesn't get what the spare descriptor has left.
+    /// The next client, if one waits. It doesn't get the descriptor that the spare one leaves.
     fn next_client(&mut self) -> Option<UnixStream> {
         if self.news.is_some() && self.spare.is_none() {
             return None;
@@ -255,7 +255,7 @@ impl SocketGate {
         Some(stream)
     }
 
-    /// Takes a client under a free number; without one it is let go, which closes its connection.
+    /// Takes a client under a free number; if none is free its connection is closed.
     fn take_client(&mut self, mut stream: UnixStream) {
         let Some(number) = free_number(self.places.as_slice()) else {
             return;

@@ -28,7 +28,7 @@ pub data Claimed : Type 0 where
   Taken : Claimed
   Refused : Claimed
 
--- what a runner does, with what the system answers
+-- a step of a runner, with the answer of the system
 pub data RunnerStep : Type 0 where
   -- the number is claimed
   Claims : (claimed : Claimed) → RunnerStep
@@ -47,7 +47,7 @@ not_executed = Code 203
 pub data RunnerLife (words entries : List (List ℕ)) : List RunnerStep → Bool → Type 0 where
   -- somebody has the number: nothing is started
   yields : RunnerLife words entries (Claims Taken ∷ []) true
-  -- nobody may start what can't be claimed
+  -- nobody may start a number that can't be claimed
   fails : RunnerLife words entries (Claims Refused ∷ []) false
   -- the command can't be executed: there is no pid
   refuses : (told : Bool) → RunnerLife words entries (Claims Ours ∷ Starts words entries None ∷ Writes Status (status_text not_executed) told ∷ []) told

@@ -39,7 +39,7 @@ impl Beginning {
     }
 }
 
-/// Reads into the buffer until it is full or the file ends, and gives how many bytes came.
+/// Reads into the buffer until it is full or the file ends, and returns the number of bytes read.
 fn fill<F: Read>(file: &mut F, buffer: &mut [u8]) -> io::Result<usize>
     ensures within { IfOk result (λ size. size ≤ length buffer.old) }
     ensures same { length buffer.new ≡ length buffer.old }
@@ -96,7 +96,7 @@ const TRIES: u32 = 8;
 /// A draft holds nothing that isn't shown to anyone who may look into the folder.
 const DRAFT_MODE: u32 = 0o666;
 
-/// Removes what stands at the path of a draft: a file, or a link and not what it leads to.
+/// Removes the file at the path of a draft, or a link and not the file that it leads to.
 fn remove_draft<R: Files>(rt: &R, path: &str) -> io::Result<()> {
     match fs::remove_file(rt, path) {
         Err(e) if e.kind() != ErrorKind::NotFound => Err(e),
@@ -104,7 +104,8 @@ fn remove_draft<R: Files>(rt: &R, path: &str) -> io::Result<()> {
     }
 }
 
-/// Makes a new file of this mode in place of what stood there: never one that was there before, nor one that a link leads to.
+/// Makes a new file of this mode in place of the one there: never one that was there before, nor one that a link leads
+/// to.
 pub fn make_new<R: Files>(rt: &R, path: &str, mode: u32) -> io::Result<R::File> {
     let mut how = OpenOptions::new();
     how.write(true).create_new(true).mode(mode);
@@ -186,7 +187,7 @@ pub enum Creation {
     New,
     /// One stood there, which is left as it was.
     Stands,
-    /// Its draft was taken away meanwhile by someone who makes the same file.
+    /// Its draft was removed meanwhile by another maker of the same file.
     DraftTaken,
 }
 

@@ -130,7 +130,7 @@ impl<'a, R: Files + Net + Processes + Clock> Folder<'a, R> {
 }
 
 impl<'a, R: Files + Net + Processes + Clock> Host for Folder<'a, R> {
-    // No clause reads it, since nothing is claimed of what the folder holds and the process does.
+    // No clause reads it, since nothing is claimed of the folder and the process.
     ghost past = { λ _. [] };
 
     ghost honest = { λ _. false };

@@ -15,7 +15,7 @@ use um_model::ProcessNumber;
 /// The entries are read by the manager's user alone: they may be secrets.
 const MODE: u32 = 0o600;
 
-/// Makes the file at the path with its text, in place of what stood there.
+/// Makes the file at the path with its text, in place of the one there.
 fn make_file<R: Files>(rt: &R, path: &str, text: &[u8]) -> io::Result<()> {
     make_new(rt, path, MODE)?.write_all(text)
 }

@@ -58,7 +58,7 @@ fn parts_of(entry: &str) -> (&str, &str)
     }
 }
 
-/// Sets a variable as the entry says.
+/// Sets the variable of the entry.
 fn set_entry(command: &mut Command, entry: &str) -> Result<(), AllocError>
     ensures sets { OnOk result (SetsTo (before_first is_entry_sign entry.now) (after_first is_entry_sign entry.now) command.old command.new) }
     ensures call { OnOk result (SameProgramAndArgs command.old command.new) }

@@ -1,4 +1,4 @@
-//! What the definitions say together, as functions that do nothing.
+//! Laws of the definitions of a runner's files, as functions that do nothing.
 
 ghost use Rattle.std.specs.Prelude.{◌≡◌, ◌<◌, ◌^◌, ℕ, List, Some, true, false};
 ghost use Rattle.std.specs.List.{list_all, list_any};

@@ -35,7 +35,7 @@ taken_of k events = flat_map (taken_in k) events
 pub data HasGot (k : ℕ) : (bytes out took : List ℕ) → Served → Type 0 where
   -- nothing waits for it yet
   opens : {x : Served} → HasHad k [] [] x.now → slice_get x.waits k ≡ Some nothing → HasGot k [] [] [] x
-  -- a round heard that it closed, and another may come
+  -- a round heard that it closed, and another may connect
   closes : {trust : Trust} {place : Place} {result : Result Unit Refusal} {r : Round} {bytes out took : List ℕ} {x y : Served} → HasGot k bytes out took x
       → result ≢ Err NoMemory → IsRound trust place result r x y → slice_get r.pieces k ≡ Some Closed → HasGot k [] [] [] y
   -- a round took its piece, and handed out its output

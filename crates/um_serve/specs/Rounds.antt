@@ -1,5 +1,5 @@
--- Rounds over a gate: each an accept, a read of each open connection, ascending, a turn of the manager, and the writes of what it put out for
--- each client.
+-- Rounds over a gate: each an accept, a read of each open connection, ascending, a turn of the manager, and the writes
+-- of its output for each client.
 -- No manual page has this: it is the project's own (docs/FORMATS.md, "The socket").
 -- `serve` stands on this file.
 use Rattle.std.specs.Prelude.{◌≡◌, ◌≢◌, ◌⊎◌, ◌↔◌, ◌≤◌, ◌<◌, ◌||◌, ◌&&◌, not, ⊤, ℕ, zero, suc, List, [], ◌∷◌, ◌++◌, Bool, true, false, IsTrue, Option, Some, None, Result, Ok, Err, slice_get}
@@ -16,7 +16,7 @@ use Rattle.um_serve.specs.Sleep.{has_changed}
 use Rattle.um_wire.specs.declared.refusal.Refusal.{Refusal}
 use Rattle.um_wire.specs.declared.refusal.Refusal.TheVariants.{NoMemory}
 
--- what a read gave
+-- the bytes that a read gave
 abbrev pub came_of : Piece → Option (List ℕ)
 came_of Nothing = Some []
 came_of (Bytes bytes) = Some bytes.items
@@ -49,7 +49,7 @@ reads_below (suc n) which held pieces = reads_below n which held pieces ++ reads
 abbrev pub OnlyOpen : List Bool → List Piece → Type 0
 OnlyOpen which pieces = (n : ℕ) → n < 64 → slice_get which n ≡ Some false → slice_get pieces n ≡ Some Nothing
 
--- no bytes came
+-- no bytes arrived
 abbrev pub IsSilent : Option Piece → Type 0
 IsSilent (Some (Bytes bytes)) = ⊥
 IsSilent other = ⊤
@@ -58,7 +58,7 @@ IsSilent other = ⊤
 abbrev pub NoneOfHeld : List Bool → List Piece → Type 0
 NoneOfHeld held pieces = (n : ℕ) → n < 64 → slice_get held n ≡ Some true → IsSilent (slice_get pieces n)
 
--- what a round heard of the connections
+-- a round: the connections that are open and held back, their pieces, and its moment
 pub record Round : Type 0 where
   pub which : List Bool  -- the connections that are open
   pub held : List Bool  -- the clients that are held back
@@ -97,7 +97,7 @@ abbrev pub trust : (children calls gate events clock moments : Bool) → Trust
 trust children calls gate events clock moments =
     record { children = children; calls = calls; gate = gate; events = events; clock = clock; moments = moments }
 
--- who trusts the one trusts the other
+-- trust in the one is trust in the other
 pub record IsWithin (less more : Trust) : Type 0 where
   pub children : IsTrue less.children → IsTrue more.children
   pub calls : IsTrue less.calls → IsTrue more.calls

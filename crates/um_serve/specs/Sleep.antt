@@ -1,6 +1,6 @@
--- How long is slept between rounds in which nothing came, and until which deadline.
+-- The length of a sleep between rounds in which nothing arrived, and its deadline.
 -- No manual page has this: it is the project's own (docs/ARCHITECTURE.md, "The way of one input").
--- The pace of the loop, and what it waits for, stand on this file.
+-- The pace of the loop, and its waits, stand on this file.
 use Rattle.std.specs.Prelude.{◌≡◌, ◌<◌, ◌≤◌, ◌-◌, min, nat_lt, ℕ, List, Bool, if◌then◌else◌, Option, Some, None, MatchOption}
 use Rattle.um_model.specs.Machine.{State}
 use Rattle.um_model.specs.Service.{ByUnit, state_of_unit}

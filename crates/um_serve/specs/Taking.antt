@@ -24,7 +24,8 @@ took_in_rounds k took (and_round {r = r} round found out rest) =
 took_in_rounds k took (last_round {r = r} refused round found out) = since_closed (slice_get r.pieces k) took ++ taken_of k round.said
 took_in_rounds k took (lost_round untaken out) = took
 
--- between two rounds nothing is left in the session of a connection, and what wasn't taken waits, unless its client was given up
+-- between two rounds nothing is left in the session of a connection, and the output that wasn't taken waits, unless its
+-- client was given up
 pub record WaitsAt (k : ℕ) (x : Served) (rest : List ℕ) : Type 0 where
   pub session : Session
   pub at : slice_get x.now.sessions k ≡ Some session
@@ -33,7 +34,8 @@ pub record WaitsAt (k : ℕ) (x : Served) (rest : List ℕ) : Type 0 where
   pub there : slice_get x.waits k ≡ Some waits
   pub are : waits.is_over ≡ false → waits.bytes ≡ rest
 
--- What the gate took for a connection is a beginning of the frames that its manager put out for it; the rest waits, unless a read was lost.
+-- The bytes that the gate took for a connection are a beginning of the frames that its manager put out for it; the rest
+-- waits, unless a read was lost.
 pub record IsTakenBy (k : ℕ) (took : List ℕ) (x : Served) {disk : Past} {before : List Call} (past : History disk before x.now) : Type 0 where
   pub rest : List ℕ
   pub all : took ++ rest ≡ frames_of (put_out_of k past)

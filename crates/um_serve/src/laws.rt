@@ -1,4 +1,4 @@
-//! What rounds and sleeps say together, as functions that do nothing.
+//! Laws of rounds and sleeps, as functions that do nothing.
 ghost use Rattle.std.specs.Prelude.{◌≡◌, ◌≢◌, ◌<◌, ◌≤◌, ◌+◌, ◌-◌, ◌++◌, ℕ, List, [], length, Bool, true, false, IsTrue, Option, Some, Result, Ok, Err, slice_get};
 ghost use Rattle.um_backlog.specs.Backlog.{Waits, nothing};
 ghost use Rattle.um_manager.specs.Clients.{HasHad, IsServed};
@@ -71,8 +71,8 @@ pub fn a_blocked_deadline_wakes_nobody()
     ensures { (s : State) (turned deadline : ℕ) (next : Option ℕ) → IsSleptFor s turned next → next ≡ Some deadline → turned < deadline }
 {}
 
-/// No other deadline is slept past, however long the pace would let it: each unit whose deadline lies past the moment of the last turn is looked
-/// at when it comes.
+/// No other deadline is slept past, however long the pace would let it: each unit whose deadline lies past the moment
+/// of the last turn is looked at when it is due.
 pub fn no_deadline_is_slept_past()
     ensures { (s : State) (turned deadline wait now : ℕ) (is_live : Bool) (next : Option ℕ) (unit : List ℕ) → IsSleptFor s turned next
         → (state_of_unit s.units unit).deadline ≡ Some deadline → turned < deadline → slept wait is_live now next ≤ deadline - now }

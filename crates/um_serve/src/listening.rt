@@ -1,4 +1,4 @@
-//! What a round hears of the gate.
+//! The accept and the reads of a round.
 
 ghost use Rattle.std.specs.Prelude.{◌≡◌, ◌≢◌, ◌↔◌, ◌+◌, ◌<◌, ◌≤◌, ◌∷◌, [], ℕ, true, false, vec_len, slice_get, Some};
 ghost use Rattle.um_gate.specs.Frames.{KeepsGate};
@@ -117,7 +117,7 @@ pub fn listen<G: Gate>(
     }
 }
 
-/// Whether anything came.
+/// Whether anything arrived.
 pub fn has_come(pieces: &Pieces) -> bool
     ensures { result ≡ has_come pieces.now }
 {

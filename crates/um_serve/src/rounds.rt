@@ -128,7 +128,7 @@ fn speak<D: Disk, C: Children, G: Gate>(
 }
 
 impl<G: Gate + Drop> Buffered<G> {
-    /// The gate, before its first round: nothing waits for anybody. Where memory is wanting the gate is let go.
+    /// The gate, before its first round: no bytes wait for any client. If there is no memory the gate is dropped.
     pub fn new(alloc: Global, gate: G) -> Result<Buffered<G>, AllocError>
         ensures gate { IfOk result (λ buffered. buffered.gate ≡ gate) }
         ensures waits { IfOk result (λ buffered. buffered.backlog ≡ replicate 64 nothing) }
