@@ -9,7 +9,7 @@ use um_gate::Gate;
 /// whether it was given up.
 type Put = (&'static [u8], bool, &'static [u8], usize, bool);
 
-/// Clients, how many bytes each takes of a write, and what is put for it, one behind the other.
+/// Clients, how many bytes each takes of a write, and the bytes put for it, in order.
 const CLIENTS: &[(usize, usize, &[Put])] = &[
     // one gets all in order
     (

@@ -69,7 +69,7 @@ fn put_odd(rt: &(impl AllocGlobal + Files<File = File> + Abort), folder: &str) {
     put(rt, folder, "7.status", [b'7'; 1_000_000].as_slice());
 }
 
-/// Asserts what these files tell, and that the number whose pid is none can be killed.
+/// Asserts the reports of these files, and that the number whose pid is none can be killed.
 fn tell_no_error<C: Children>(rt: &impl Abort, children: &mut C) {
     for n in [1, 2, 3, 6, 7, 8] {
         told(rt, children, n, true, Fate::Ended(End::Lost));
@@ -230,7 +230,7 @@ fn lets_none_go<C: Children>(rt: &impl Abort, children: &mut C) {
     same!(rt, refused, Err(ChildFault::Device));
 }
 
-/// Asserts that no fate can be asked.
+/// Asserts that no fate can be queried.
 fn tells_nothing<C: Children>(rt: &impl Abort, children: &mut C) {
     let refused = children.fate(number(rt, 1), true);
     same!(rt, refused, Err(ChildFault::Device));

@@ -1,4 +1,4 @@
-//! Managers over a disk and children in memory, and what is sent to them.
+//! Managers over a disk and children in memory, and the requests sent to them.
 use std::process::Abort;
 use um_asserts::{same, text};
 use um_children::{Call, Children, FakeChildren};
@@ -69,7 +69,7 @@ pub fn frames(rt: &(impl AllocGlobal + Abort), texts: &[&str]) -> Vec<u8> {
     um_asserts::frames(rt.alloc(), texts).expect(rt, "no memory")
 }
 
-/// What comes of connections, by their numbers.
+/// The pieces of connections, by their numbers.
 pub fn pieces(rt: &(impl AllocGlobal + Abort), sent: &[(usize, &[u8])]) -> Pieces {
     let mut pieces = Pieces::none(rt.alloc()).expect(rt, "no memory");
     for (number, bytes) in sent {
@@ -80,7 +80,7 @@ pub fn pieces(rt: &(impl AllocGlobal + Abort), sent: &[(usize, &[u8])]) -> Piece
     pieces
 }
 
-/// The turns in each of which one of these comes of connection 0.
+/// The turns in each of which one of these arrives on connection 0.
 fn steps(rt: &(impl AllocGlobal + Abort), sent: &[&[u8]]) -> Vec<Step> {
     let mut steps = Vec::new(rt.alloc());
     for bytes in sent {
@@ -93,7 +93,7 @@ fn steps(rt: &(impl AllocGlobal + Abort), sent: &[&[u8]]) -> Vec<Step> {
     steps
 }
 
-/// A turn for each of these, in which it comes of connection 0.
+/// A turn for each of these, in which it arrives on connection 0.
 pub fn turns<D: Disk, C: Children>(
     rt: &(impl AllocGlobal + Abort),
     manager: &mut Manager<D, C>,
@@ -102,7 +102,7 @@ pub fn turns<D: Disk, C: Children>(
     manager.run_script(&steps(rt, sent))
 }
 
-/// Plays a turn for each of these, in which it comes of connection 0.
+/// Plays a turn for each of these, in which it arrives on connection 0.
 pub fn play<D: Disk, C: Children>(
     rt: &(impl AllocGlobal + Abort),
     manager: &mut Manager<D, C>,

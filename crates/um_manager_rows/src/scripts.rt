@@ -93,7 +93,7 @@ fn shows_what_starts<D: Disk, C: Children>(
     has_output(rt, manager, 2, &[DONE]);
 }
 
-/// Asserts that the first of them is answered its second query in the turn behind it.
+/// Asserts that the first of them has its second query answered in the next turn.
 fn lists_no_job<D: Disk, C: Children>(
     rt: &(impl AllocGlobal + Abort),
     manager: &mut Manager<D, C>,

@@ -20,7 +20,7 @@ pub fn sector_at<D: Disk>(rt: &impl Abort, disk: &mut D, k: usize) -> Sector {
     sector
 }
 
-/// A sector with these bytes in front and zeros behind them.
+/// A sector with these bytes in front and zeros after them.
 pub fn filled(bytes: &[u8]) -> Sector {
     let mut sector: Sector = [0; 512];
     for (place, byte) in sector.iter_mut().zip(bytes) {

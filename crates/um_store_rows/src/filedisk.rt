@@ -56,7 +56,7 @@ fn marked() -> Sector {
     sector
 }
 
-/// Makes a file of so many sectors.
+/// Makes a file of this many sectors.
 fn created<'a, R: Files<File = File> + Abort>(
     rt: &'a R,
     path: &'a str,
@@ -88,7 +88,7 @@ fn says_read_only(
     says(rt, FileDisk::open_read_only(rt, path), wanted);
 }
 
-/// Asserts that no file of two sectors is made, which is told so.
+/// Asserts that no file of two sectors is made, for the wanted cause.
 fn is_not_made(rt: &(impl AllocGlobal + Files<File = File> + Abort), path: &str, wanted: &str) {
     says(rt, FileDisk::create(rt, path, 2), Some(wanted));
 }
@@ -337,7 +337,7 @@ fn cut(rt: &(impl Files<File = File> + Abort), path: &str, size: u64) {
     file.set_len(size).expect(rt, "not cut");
 }
 
-/// Asserts that the file has so many bytes.
+/// Asserts that the file has the wanted length, in bytes.
 fn has_length(rt: &(impl Files + Abort), path: &str, wanted: u64) {
     let metadata = fs::metadata(rt, path).expect(rt, "no file");
     same!(rt, metadata.len(), wanted);

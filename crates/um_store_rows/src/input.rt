@@ -1,4 +1,4 @@
-//! The canonical bytes of inputs: each of the 18, typed from the format, and what is no input.
+//! The canonical bytes of inputs: each of the 18, typed from the format, and bytes that spell none.
 use crate::spelled::{hex, is_not_read, is_read, is_spelled, read_from};
 use std::process::Abort;
 use um_asserts::{same, text, unit};
@@ -220,7 +220,7 @@ fn the_longest_input_that_is_accepted_has_66078_bytes(rt: HostRuntime) {
     same!(&rt, length_of(&rt, put), 66_078);
 }
 
-/// What is no input, and why.
+/// Bytes that spell no input, and why.
 const NONE: &[(&str, &str)] = &[
     ("profile 0", "00 11 000000000010c8e0"),
     ("profile 3", "03 11 000000000010c8e0"),

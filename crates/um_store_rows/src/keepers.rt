@@ -6,7 +6,7 @@ use um_keeper::{Keeper, create};
 use um_model::Layout;
 use um_sector::{Disk, Fuse, MemDisk, Sector};
 
-/// Asserts that a sector has these bytes in front and zeros behind them.
+/// Asserts that a sector has these bytes in front and zeros after them.
 pub fn has_layout<D: Disk>(rt: &impl Abort, disk: &mut D, k: usize, bytes: &[u8]) {
     let mut wanted: Sector = [0; 512];
     for (place, byte) in wanted.iter_mut().zip(bytes) {
@@ -63,7 +63,7 @@ pub fn calls_of_open(rt: &(impl AllocGlobal + Abort), disk: MemDisk) -> u64 {
     disk_of(over(rt, Fuse::new(disk, 0))).calls()
 }
 
-/// The keeper of a new store, over a disk whose call of that number behind the open fails; with 0 none.
+/// The keeper of a new store, over a disk whose call of that number after the open fails; with 0 none.
 pub fn opened(rt: &(impl AllocGlobal + Abort), call: u64) -> Box<Keeper<Fuse<MemDisk>>> {
     let fails = match call {
         0 => Some(0),

@@ -81,7 +81,7 @@ fn interval(row: &Row) -> Option<Span> {
     row.interval.map(Span::from_micros)
 }
 
-/// Asserts that the window of the row lets its starts through as they tell, and what it has counted then.
+/// Asserts that the window of the row lets its starts through as the row says, and its count then.
 fn counts(rt: &impl Abort, row: &Row) {
     let label = (row.burst, row.starts);
     let mut counting = window(rt, row.before);
