@@ -4,7 +4,7 @@
 use Rattle.std.specs.Prelude.{◌≡◌, ◌≢◌, ◌⊎◌, ℕ, List, [], ◌∷◌, ◌++◌, length, nat_lt, Bool, true, false, if◌then◌else◌, Option, Some, None}
 use Rattle.um_gate.specs.Events.{Event, wrote, dropped}
 
--- what waits for a client
+-- the bytes that wait for a client
 pub record Waits : Type 0 where
   pub bytes : List ℕ  -- the bytes put out for it and not taken yet
   pub is_last : Bool  -- none follow them
@@ -14,12 +14,12 @@ pub record Waits : Type 0 where
 abbrev pub nothing : Waits
 nothing = record { bytes = []; is_last = false; is_over = false }
 
--- another client may come: what waited for the one before it is gone
+-- another client may connect: the bytes that waited for the one before it are gone
 abbrev pub gone : Option Waits → Option Waits
 gone (Some waits) = Some nothing
 gone None = None
 
--- a client that was given up: nothing waits for it, and nothing comes
+-- a client that was given up: no bytes wait for it, and none follow
 abbrev pub given_up : Waits
 given_up = record { bytes = []; is_last = true; is_over = true }
 
@@ -40,7 +40,7 @@ is_behind_at None = false
 abbrev pub most_waiting : ℕ
 most_waiting = 67108864
 
--- a client is given up for which more than that waits, or nothing does and nothing comes any more
+-- a client is given up if more bytes than that wait for it, or none do and no more follow
 abbrev pub is_given_up : Bool → List ℕ → Bool
 is_given_up is_last [] = is_last
 is_given_up is_last (b ∷ bs) = nat_lt most_waiting (length (b ∷ bs))
@@ -55,7 +55,7 @@ abbrev pub drops : ℕ → Bool → List Event
 drops number true = dropped number ∷ []
 drops number false = []
 
--- what waits then
+-- the bytes that wait then
 abbrev pub waits_then : Bool → List ℕ → Waits
 waits_then is_last left = if is_given_up is_last left then given_up else record { bytes = left; is_last = is_last; is_over = false }
 

@@ -17,7 +17,7 @@ const MOST_UNREAD: usize = 4 << 20;
 /// Room past this many bytes is given back once nothing waits in it.
 const KEPT_ROOM: usize = 64 << 10;
 
-/// What waits for one client.
+/// The bytes that wait for one client.
 #[derive(Drop)]
 pub struct Waiting {
     alloc: Global,
@@ -52,7 +52,7 @@ impl Waiting {
         }
     }
 
-    /// Its client is gone, and another one may come.
+    /// Its client is gone, and another one may connect.
     pub fn forget(&mut self)
         ensures { self.new ≡ nothing }
     {
@@ -114,7 +114,7 @@ impl Waiting {
         self.is_over = true;
     }
 
-    /// Hands to the gate what it takes.
+    /// Hands to the gate as many bytes as it takes.
     fn write<G: Gate>(&mut self, gate: &mut G, number: usize)
         ensures taken { (taken : List ℕ) × (taken ++ self.new.bytes ≡ self.old.bytes)
             × Logs (G.honest gate.old) (G.whole gate.new) (G.past gate.old) (G.past gate.new) (writes number self.old.bytes taken) }

@@ -1,4 +1,4 @@
--- What each call adds to the history of calls, and what the history says of a number.
+-- The entry of each call in the history of calls, and the facts of a number in it.
 use Rattle.std.specs.Prelude.{◌≡◌, ◌&&◌, ◌==◌, ◌++◌, ◌∷◌, [], ℕ, List, Bool, true, false, not, Option, Result}
 use Rattle.std.specs.List.{list_any}
 use Rattle.std.specs.Option.{option_map_or}

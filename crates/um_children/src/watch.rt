@@ -21,7 +21,7 @@ const AGED_MILLIS: u128 = 60_000;
 pub struct Watch {
     /// At the last look; None where it was too young, or couldn't be seen.
     time: Option<SystemTime>,
-    /// How often anything may have come.
+    /// How often a file may have arrived.
     changes: u64,
     /// When the files were to be read last.
     read: Option<Instant>,
@@ -45,7 +45,7 @@ fn settled_time<R: Files + Clock>(rt: &R, folder: &str) -> io::Result<Option<Sys
     Ok(if is_old { Some(time) } else { None })
 }
 
-/// Whether the time is one of whole seconds: the folder's may be so again while files come.
+/// Whether the time is one of whole seconds: the folder's may be the same again after more files arrived.
 fn is_coarse(time: SystemTime) -> bool {
     match time.duration_since(SystemTime::UNIX_EPOCH) {
         Ok(since) => since.subsec_nanos() == 0,

@@ -162,7 +162,7 @@ has_dedup n (x ∷ ns) = has_from n x ns
 
 -- ---- look-ups
 
--- a look-up finds the unit just where the number is live
+-- a look-up finds the unit exactly if the number is live
 pub looked_up : (units : ByUnit UnitState) (n : ℕ) {A : Type 0} (found : Option A) (name : A → List ℕ) → MatchOption found (IsOver units n) (λ a. IsProcessOf units n (name a)) → is_some found ≡ is_live units n
 looked_up units n None name over = sym (over_dead units n over)
 looked_up units n (Some a) name process = sym (process_live units n (name a) process.has)

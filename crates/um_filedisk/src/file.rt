@@ -104,7 +104,7 @@ fn fill<R: Files<File = File>>(
     ensures { IfErr result (λ fault. fault ≢ FileFault.TooLarge) }
 {
     file.try_lock()?;
-    // the mode that it was made with lacks what the umask takes
+    // the mode that it was made with lacks the bits that the umask takes
     file.set_permissions(Permissions::from_mode(MODE))?;
     // a length that the system doesn't grant is refused here, before anything is written
     file.set_len(length)?;

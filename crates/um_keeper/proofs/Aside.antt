@@ -122,7 +122,7 @@ module _ (layout : Layout) (newest generation : ℕ) (a b : Image) (above_a : Is
       (sym (split layout newest generation b (inr next) above_b) ∙ same ∙ split layout newest generation a (inr next) above_a) long in
       both
 
--- ---- what stands beside the log
+-- ---- the sectors beside the log
 
 -- this many sectors of a body that fits have room in its slot
 pub written_room : (layout : Layout) (kept : List ℕ) (written : ℕ) → (0 < length kept → written < sector_count (length kept)) → (length kept ≡ 0 → written ≡ 0)
@@ -144,7 +144,7 @@ pub all_written : (layout : Layout) (image : Image) (slot : Slot) (kept : List �
     → IsWritten layout image slot kept (min (from + count) (sector_count (length kept))) → IsWritten layout image slot kept (sector_count (length kept))
 all_written layout image slot kept from count enough is i below = is i (omega (arith, below, enough))
 
--- what changes in the log alone leaves them
+-- a change in the log alone leaves them
 pub written_apart : (layout : Layout) (a b : Image) (slot : Slot) (kept : List ℕ) (written : ℕ) → written < layout.slot_sectors → ((j : ℕ) → j < first_log_sector layout → b j ≡ a j)
     → IsWritten layout a slot kept written → IsWritten layout b slot kept written
 written_apart layout a b slot kept written room same is i below = same (slot_start layout slot + 1 + i) (before slot) ∙ is i below
@@ -153,7 +153,7 @@ written_apart layout a b slot kept written room same is i below = same (slot_sta
     before A = omega (arith, below, room)
     before B = omega (arith, below, room)
 
--- what changes in the place of the log's generation alone leaves the records before them
+-- a change in the place of the log's generation alone leaves the records before them
 pub before_same : (layout : Layout) (newest generation : ℕ) (a b : Image) → generation ≡ newest + 1
     → ((j : ℕ) → first_log_sector layout ≤ j → (j < log_start layout generation) ⊎ (log_end layout generation ≤ j) → b j ≡ a j)
     → records_of current layout newest b ≡ records_of current layout newest a

@@ -226,7 +226,7 @@ module _ {next end before now : ℕ} {size : ℕ} {s : State} {inputs : List Inp
     pub fell_told : HasFault told
     fell_told = subst HasFault (sym are) (some_told size s stopped.u stopped.judged stopped.rest meant stopped.fails)
 
-    -- a crash leaves a beginning of what isn't turned away
+    -- a crash leaves a beginning of the inputs that aren't turned away
     all_taken : taken inputs told ≡ taken stopped.judged meant ++ stopped.rest
     all_taken = ap (λ l. taken l told) stopped.parts ∙ ap (taken (stopped.judged ++ stopped.rest)) are ∙ taken_denied stopped.judged stopped.rest meant (same_length stopped.were)
 

@@ -1,4 +1,4 @@
--- What the inputs of a list need and are answered while they are taken.
+-- The calls that the inputs of a list need, and their answers while they are taken.
 use Rattle.std.proofs.Common.{◌≡◌, ◌⊎◌, ℕ, ◌<◌, ◌≤◌, Bool, true, false, List, [], ◌∷◌, ◌++◌, length, refl, sym, ap, subst, inl, inr, ⊎_elim, arith, append-nil}
 use Rattle.std.specs.Prelude.{Err, if◌then◌else◌}
 use Rattle.std.proofs.lemmas.Bool.{false≢true, cases_Bool}
@@ -21,7 +21,7 @@ use Rattle.um_keeper.specs.Underway.{IsUnderway, MayRise, owed, finish_ahead, is
 use Rattle.um_keeper.specs.declared.ahead.Ahead.{Ahead}
 use Rattle.um_keeper.proofs.Underway.{underway_stayed}
 
--- ---- what the calls need
+-- ---- the calls needed
 
 -- a state that may be held may be held by a store of the layout
 pub may_hold : {layout : Layout} {size : ℕ} {s : State} → MayHold layout size s → IsServable (body_limit layout) s

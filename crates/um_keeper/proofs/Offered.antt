@@ -1,4 +1,5 @@
--- Inputs that were offered as a part of a life: what a crash leaves of them, a life may leave whose last offers they are.
+-- Inputs that were offered as a part of a life: an image that a crash leaves of them is one that a life may leave whose
+-- last offers they are.
 use Rattle.std.proofs.Common.{⊎_elim, IfOk, IfErr, OnErr, ◌≡◌, ◌≢◌, ◌⊎◌, ◌∙◌, ◌++◌, inl, inr, ℕ, zero, suc, List, [], ◌∷◌, length, map, replicate, take, Bool, true, false, if◌then◌else◌, Result, Ok, Err, append_assoc, refl, sym, ap, subst, true≢false}
 use Rattle.std.proofs.lemmas.Bool.{false≢true}
 use Rattle.um_engine.specs.OfStore.{is_of_store}
@@ -109,7 +110,7 @@ pub come_on : (layout : Layout) (s t u : State) (first more : List Offer) → Ha
 come_on layout s t u first more come further later image m =
     subst (λ l. MayLeave layout s l image) (sym (append_assoc first more later)) (come (more ++ later) image (further later image m))
 
--- what stands in the state to which a life has come, it may leave
+-- a store of the state that a life has reached is one that it may leave
 pub come_leaves : (layout : Layout) (s t : State) (offered : List Offer) (image : Image) → HasCome layout s offered t → IsStoreOf layout image t
     → MayLeave layout s offered image
 come_leaves layout s t offered image come store = subst (λ l. MayLeave layout s l image) (ends_so offered) (come [] image (holds store none))
@@ -270,7 +271,7 @@ still_leaves layout s t (offer ∷ offered) from image stands same (takes {t = u
     takes reply actions may step (still_leaves layout u t offered from image stands same more)
 still_leaves layout s t (offer ∷ offered) from image stands same (turns_away more) = turns_away (still_leaves layout s t offered from image stands same more)
 
--- Opening adds nothing to what a life may have left.
+-- Opening adds nothing to the images that a life may have left.
 pub opening_leaves : (layout : Layout) (s : State) (before : List Offer) (old new : Past) → Images old (MayLeave layout s before)
     → During old new (IsAsBefore layout old) → During old new (MayLeave layout s before)
 opening_leaves layout s before old new left = weaker old new (IsAsBefore layout old) (MayLeave layout s before)

@@ -1,4 +1,4 @@
--- What opening makes of what it reads.
+-- The store that an opening makes of the one it reads.
 use Rattle.std.proofs.Common.{◌≡◌, ◌⊎◌, ◌∙◌, inl, inr, ⊎_elim, ℕ, ◌+◌, ◌-◌, ◌^◌, ◌<◌, ◌≤◌, Bool, true, false, List, [], ◌∷◌, ◌++◌, length, take, refl, sym, ap, subst, Option, Some, None, arith}
 use Rattle.std.specs.Prelude.{Result, Ok, Err}
 use Rattle.std.proofs.lemmas.Bool.{cases_Bool, false≢true}
@@ -112,7 +112,7 @@ pub taken_comes : {count : ℕ} {image : Image} {layout : Layout} {slot : Slot} 
     → (inputs : List Input) × ComesTo (body_limit layout) t.body (all_records t.has.format layout generation image) t.start inputs s
 taken_comes t = let (inputs, are, run) = replayed t.replays in (inputs, record { start_is = t.starts.read; inputs_are = are; servable = t.starts.servable; run = run })
 
--- what the newest slot and the records beside it hold
+-- the content of the newest slot and of the records beside it
 contents_told : (format : Format) (layout : Layout) (image : Image) {slot : Slot} {generation : ℕ} {body : List ℕ} {start s : State} {inputs : List Input}
     → sectors.newest_of layout image ≡ Some (record { slot = slot; generation = generation; body = body })
     → ComesTo (body_limit layout) body (all_records format layout generation image) start inputs s → contents_of format layout image ≡ Some (contents slot generation start inputs)
@@ -191,7 +191,7 @@ anew_stores {format} {layout} {slot} {newest} {last} {body} {image} {s} above ha
       none_later = above_later layout (let low = below_top format newest in omega (arith, low, above)) has.none_later;
     })) (state_back s fits) may
 
--- and what a keeper holds
+-- and the invariant of a keeper
 pub keeps_anew : {past : Past} {count : ℕ} {layout : Layout} {slot : Slot} {newest last : ℕ} {body : List ℕ} {s : State} → IsImage past (seen past) → last < newest
     → Images past (HasNewest current layout slot newest body last) → body ≡ state_spelling s → FitState s → IsServable (body_limit layout) s → store_sectors layout ≤ count
     → Keeps past count layout slot newest [] 0 newest 0 (log_start layout newest) s
@@ -285,7 +285,7 @@ module _ (past : Past) (count : ℕ) (format : Format) (layout : Layout) (slot :
   pub renewed : (new : Past) → During past new (WasOrStores format layout past slot generation taken.body s) → During past new (IsStill layout (seen past) s)
   renewed new run = weaker past new _ _ still_either run
 
--- ---- what a crash leaves of an opening
+-- ---- images that a crash leaves of an opening
 
 -- an image of before is as before
 as_before : (layout : Layout) (past : Past) → Images past (IsSomeStore layout) → Images past (IsAsBefore layout past)

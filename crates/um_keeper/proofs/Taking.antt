@@ -184,7 +184,7 @@ unsynced_still {trusted} {first} {last} {synced} {size} {old} {log} {new} {befor
 one_behind : (before now made sectors x : ℕ) → now ≤ before + sectors + x → made ≤ now + 1 → made ≤ before + sectors + 1 + x
 one_behind before now made sectors x few one = omega (arith, few, one)
 
--- what all of them take
+-- the calls that all of them take
 pub takes_all : {size : ℕ} {old new : Ahead} {before now : ℕ} {s t : State} {inputs : List Input} {answers : List Answer} (w : Takes size old new before now s inputs answers t)
     (made : ℕ) → made ≤ now + 1 → TakesCalls old.log.layout old.log.next old.log.generation new.log.generation before made size s inputs answers t
 takes_all {old = old} {before = before} {now = now} w made one = record {

@@ -73,7 +73,7 @@ underway_kept unsynced here k =
 
 module _ {layout : Layout} {s : State} {taken : List Input} {past : Past} {slot : Slot} {newest : ℕ} {kept : List ℕ} {written generation number next : ℕ} {unsynced : Bool} {state : State}
     (under : IsUnderway layout s taken past slot newest kept written generation number next unsynced state) where
-  -- ---- what a crash leaves
+  -- ---- images that a crash leaves
 
   some_begun : (image : Image) → HasSome layout slot newest under.body under.records under.more image → IsBegun layout s taken image
   some_begun image has =

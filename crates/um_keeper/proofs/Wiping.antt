@@ -1,4 +1,4 @@
--- What a crash leaves while a store is made.
+-- The images that a crash leaves while a store is made.
 use Rattle.std.proofs.Common.{◌≡◌, ◌⊎◌, inl, inr, ⊎_elim, ℕ, ◌+◌, ◌-◌, ◌<◌, ◌≤◌, List, [], ◌∷◌, length, refl, sym, ◌∙◌, ap, subst, arith}
 use Rattle.std.specs.Prelude.{Result, Ok, Err, OnOk, OnErr, replicate, take, codes, cond}
 use Rattle.std.proofs.lemmas.List.Sums.{sum_by-cons}

@@ -67,7 +67,7 @@ abbrev pub taken : List Input → List Answer → List Input
 taken (input ∷ inputs) (answer ∷ answers) = where_step answer input ++ taken inputs answers
 taken inputs answers = []
 
--- what the answers ask of processes, in their order
+-- the actions that the answers want, in their order
 abbrev pub asked_by : Answer → List Action
 asked_by (Ok (reply, actions)) = actions
 asked_by (Err e) = []
@@ -124,8 +124,8 @@ pub record NeedsRecord (size : ℕ) (s : State) (input : Input) : Type 0 where
   pub effect : ¬ IsIdle s input
 
 -- The answers to the inputs that are left if a call on the disk failed after the judged ones: none is judged, and the
--- failure was at the sync of what was recorded; or it was at the first of them, at its record or at the calls before it
--- where it has no room.
+-- failure was at the sync of the records; or it was at the first of them, at its record or at the calls before it where
+-- it has no room.
 pub data FailsAt (size : ℕ) (s : State) (judged : List Input) (meant : List Answer) (u : State) : List Input → Type 0 where
   at_sync : ¬ HaveNoRecord s judged meant → FailsAt size s judged meant u []
   at_record : {input : Input} {behind : List Input} → NeedsRecord size u input → FailsAt size s judged meant u (input ∷ behind)
@@ -201,8 +201,9 @@ pub data AreSpentAsMeant (layout : Layout) (generation size from : ℕ) (s : Sta
 abbrev pub most_snapshot_calls : Layout → ℕ
 most_snapshot_calls layout = sector_count (body_limit layout) + 3
 
--- What a list takes of the disk that was answered without a fault: the sectors of its records, a sync, and a snapshot and a sync for each generation by which
--- the log rose, from a generation to another one. It doesn't rise where the records have room in it from this sector on.
+-- The disk calls of a list that was answered without a fault: the sectors of its records, a sync, and a snapshot and a
+-- sync for each generation by which the log rose, from a generation to another one; it doesn't rise if the records have
+-- room in it from this sector on.
 pub record TakesCalls (layout : Layout) (next generation risen before now : ℕ) (size : ℕ) (s : State) (inputs : List Input) (answers : List Answer) (t : State)
     : Type 0 where
   pub sectors : ℕ

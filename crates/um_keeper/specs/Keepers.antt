@@ -1,4 +1,5 @@
--- What clauses say of a keeper: its disk, the layout of its store, where it stands on the disk, and its state.
+-- The parts of a keeper that clauses use: its disk, the layout of its store, where it stands on the disk, and its
+-- state.
 -- No manual page has it: it is the project's own.
 -- The keeper's calls stand on this file.
 use Rattle.std.specs.Prelude.{◌≡◌, ◌≢◌, ◌≤◌, ◌-◌, ◌^◌, ℕ, Bool, if◌then◌else◌}
@@ -20,7 +21,7 @@ use Rattle.um_keeper.specs.declared.keeper.OpenedStore.{OpenedStore}
 abbrev pub disk_in : {D : Type 0} {g : _} → Keeper D g → D
 disk_in k = k.disk
 
--- what its engine stands on
+-- the standing of its engine
 abbrev pub standing_in : {D : Type 0} {g : _} → Keeper D g → Standing
 standing_in k = engine.standing_in k.engine
 

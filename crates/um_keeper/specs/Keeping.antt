@@ -1,4 +1,5 @@
--- What a keeper holds of its disk: whichever image a crash leaves, it is a store of the engine's state, and the log goes on at its place.
+-- The invariant of a keeper's disk: whichever image a crash leaves, it is a store of the engine's state, and the log
+-- goes on at its place.
 -- No manual page has it: it is the project's own format (docs/FORMATS.md, "The store on its disk").
 -- The keeper and its opening stand on this file.
 use Rattle.std.specs.Prelude.{◌≡◌, ◌+◌, ◌-◌, ◌≤◌, ℕ, length, Bool, true, false, if◌then◌else◌, List, [], ◌∷◌, take, Some, is_some}
@@ -33,22 +34,24 @@ finish_calls kept written = if has_bytes kept then left_of kept written + 3 else
 abbrev pub log_generation : ℕ → List ℕ → ℕ
 log_generation newest kept = newest + (if has_bytes kept then 1 else 0)
 
--- ---- what always holds
+-- ---- facts that always hold
 
--- What always holds of a keeper's state: a store of this layout may hold it, and it has bytes, from which it is read again.
+-- Facts that always hold of a keeper's state: a store of this layout may hold it, and it has bytes, from which it is
+-- read again.
 pub record MayHold (layout : Layout) (size : ℕ) (s : State) : Type 0 where
   pub size_is : size ≡ body_limit layout
   pub servable : IsServable size s
   pub fits : ∥ FitState s ∥₁
 
 -- Facts that always hold of the disk of a keeper that hasn't failed, if the disk does what it answers. They depend on
--- what is read alone, without saying of any state or input that there is one, so that each is the same fact however it
--- was established.
+-- the image that is read alone, without saying of any state or input that there is one, so that each is the same fact
+-- however it was established.
 pub record Keeps (past : Past) (sectors : ℕ) (layout : Layout) (slot : Slot) (newest : ℕ) (kept : List ℕ) (written generation number next : ℕ) (s : State)
     : Type 0 where
   -- the log takes records of the newest snapshot's generation, or of the next, with a snapshot under way
   pub same : generation ≡ log_generation newest kept
-  -- each image that a crash may leave is a store of this layout, with what a read gives as its newest snapshot and as the records of both generations
+  -- each image that a crash may leave is a store of this layout, with the newest snapshot and the records of both
+  -- generations that a read gives
   pub first : Images past (λ image. image 0 ≡ superblock current layout)
   pub newest_is : Images past (λ image. newest_of layout image ≡ newest_of layout (seen past))
   pub front : Images past (λ image. records_of current layout newest image ≡ records_of current layout newest (seen past))

@@ -1,4 +1,4 @@
--- What opening reads of a disk, and why it isn't taken up.
+-- The opening's reading of a disk, and why a disk isn't taken up.
 -- No manual page has it: it is the project's own format (docs/FORMATS.md, "The store on its disk").
 -- `Keeper::open` stands on this file.
 use Rattle.std.specs.Prelude.{◌≡◌, ◌⊎◌, ◌+◌, ◌-◌, ◌^◌, ◌<◌, ◌≤◌, ℕ, List, [], ◌∷◌, ◌++◌, length, take, Option, Some, None}
@@ -187,7 +187,7 @@ TellsDamaged format layout slot generation image (Some damaged) =
     × HaveLater format layout generation image damaged.records
 
 -- The findings in an image: the generation of its newest header, the number of records that count beside it, which are
--- replayed, and what doesn't count.
+-- replayed, and those that don't count.
 pub record IsRead (layout : Layout) (image : Image) (opened : OpenedStore) : Type 0 where
   pub format : Format
   pub first : image 0 ≡ superblock format layout
@@ -212,13 +212,13 @@ RemainBehind One layout newest image (Some remains) = ⊥
 RemainBehind Two layout newest image None = 2 ^ 64 - 1 < newest + 1
 RemainBehind Two layout newest image (Some remains) = Remain Two layout (newest + 1) image remains
 
--- The number of records that count, all of which were read, with what remains after them.
+-- The number of records that count, all of which were read, with the remains after them.
 pub record AreRead (format : Format) (layout : Layout) (newest : ℕ) (image : Image) (records : ℕ) (here : Remains) (behind : Option Remains) : Type 0 where
   pub count : records ≡ length (all_records format layout newest image)
   pub here_is : Remain format layout newest image here
   pub behind_is : RemainBehind format layout newest image behind
 
--- what a store of this layout may hold
+-- the states that a store of this layout may hold
 pub record IsKept (layout : Layout) (size : ℕ) (s : State) : Type 0 where
   pub size_is : size ≡ body_limit layout
   pub servable : IsServable size s
@@ -228,7 +228,7 @@ pub record IsSomeStore (layout : Layout) (image : Image) : Type 0 where
   pub state : State
   pub stands : StandsFor layout image state
 
--- The image stands for this state; and if the one that it came from was an image that a store of the state leaves, so is this one.
+-- The image stands for this state; and if the image before was one that a store of the state leaves, so is this one.
 pub record IsStill (layout : Layout) (from : Image) (s : State) (image : Image) : Type 0 where
   pub stands : StandsFor layout image s
   pub store : IsStoreOf layout from s → IsStoreOf layout image s
@@ -241,12 +241,13 @@ pub record IsAsBefore (layout : Layout) (past : Past) (image : Image) : Type 0 w
   pub before : StandsFor layout from state
   pub now : IsStill layout from state image
 
--- What a read gave stands for the state; the first call was a sync, and from then on each image stands for that state.
+-- The image that a read gave stands for the state; the first call was a sync, and from then on each image stands for
+-- that state.
 pub record StaysFor (layout : Layout) (s : State) (old new : Past) : Type 0 where
   pub stands : StandsFor layout (seen old) s
   pub during : During (after synced old) new (IsStill layout (seen old) s)
 
--- what a read gave stands for a state, and each image still does from the first sync on
+-- the image that a read gave stands for a state, and each image still does from the first sync on
 pub record StaysForOne (old new : Past) : Type 0 where
   pub layout : Layout
   pub state : State

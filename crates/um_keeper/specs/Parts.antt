@@ -26,7 +26,7 @@ pub record ArePartsOfLives : Type 0 where
   -- a life that has reached a state, and from there another, has reached the other
   pub further : (layout : Layout) (s t u : State) (first more : List Offer) → HasCome layout s first t → HasCome layout t more u
       → HasCome layout s (first ++ more) u
-  -- a store of the state to which it has come it may leave
+  -- it may leave a store of the state that it has reached
   pub stored : (layout : Layout) (s t : State) (offered : List Offer) (image : Image) → HasCome layout s offered t → IsStoreOf layout image t
       → MayLeave layout s offered image
   -- where the answers aren't given yet, none of the inputs was answered

@@ -1,4 +1,4 @@
--- What stands on a keeper's disk while a list of inputs is taken: its records may be written ahead of the last sync.
+-- A keeper's disk while a list of inputs is taken: its records may be written ahead of the last sync.
 -- No manual page has it: it is the project's own.
 -- The taking of lists stands on this file.
 use Rattle.std.specs.Prelude.{◌≡◌, ◌⊎◌, ◌+◌, ◌-◌, ◌*◌, ◌^◌, ◌≤◌, ◌≢◌, ℕ, Bool, true, false, IsTrue, if◌then◌else◌, List, [], ◌++◌, length, take, Some}
@@ -35,7 +35,7 @@ pub record Spells (layout : Layout) (body : List ℕ) (records : List (List ℕ)
   pub servable : IsServable (body_limit layout) start
   pub run : Run (body_limit layout) start inputs s
 
--- A body and records spell what a beginning of these inputs leads to.
+-- A body and records spell the state to which a beginning of these inputs leads.
 pub record Begins (layout : Layout) (s : State) (taken : List Input) (body : List ℕ) (records : List (List ℕ)) : Type 0 where
   pub count : ℕ
   pub state : State
@@ -124,8 +124,8 @@ MayRise old new finish most now =
     ((new.log.generation ≡ old.log.generation) × (is_renewing new ≡ is_renewing old) × (now ≤ most))
     ⊎ ((new.log.generation ≡ old.log.generation + 1) × (now ≤ most + finish + 1) × (is_renewing old ≡ false → now ≤ most + 1))
 
--- What inputs take that are judged from a state on, of a log and of the disk, as far as they were taken: the sectors of their records, and a snapshot and a
--- sync for each generation by which the log rose.
+-- The sectors and disk calls of inputs that are judged from a state on, as far as they were taken: the sectors of their
+-- records, and a snapshot and a sync for each generation by which the log rose.
 pub record Takes (size : ℕ) (old new : Ahead) (before now : ℕ) (s : State) (inputs : List Input) (answers : List Answer) (t : State) : Type 0 where
   pub sectors : ℕ
   pub recorded : Recorded size s inputs answers sectors t

@@ -87,7 +87,7 @@ pub fn create<D: Disk>(alloc: Global, disk: &mut D, layout: Layout) -> Result<()
     ensures size { D.size disk.new ≡ D.size disk.old }
     ensures honest { D.honest disk.new ≡ D.honest disk.old }
 {
-    // All that takes memory comes before the first write.
+    // All memory is taken before the first write.
     let empty = State::empty(alloc);
     let spelled = spell(alloc, &empty);
     drop(empty);

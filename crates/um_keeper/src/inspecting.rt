@@ -1,4 +1,4 @@
-//! A reader of stores: what the image of a disk stands for, with nothing written.
+//! A reader of stores: the state that the image of a disk stands for, with nothing written.
 
 ghost use Rattle.std.specs.Prelude.{◌≡◌, ◌⊎◌, IfOk, IfErr, IsTrue};
 ghost use Rattle.um_engine.specs.Engine.{state_in};

@@ -40,7 +40,7 @@ pub struct Uncounted {
     pub records: usize,
 }
 
-/// The findings of an opening: what its reading of the store found.
+/// The findings of an opening.
 #[derive(Clone, Copy, Debug, PartialEq, Eq)]
 pub struct OpenedStore {
     /// The generation of its newest header.
@@ -61,7 +61,7 @@ pub struct Keeper<D: Disk> {
     pub(crate) disk: D,
     pub(crate) engine: Engine,
     pub(crate) ahead: Ahead,
-    /// A call on the disk failed, so that it isn't known what stands there.
+    /// A call on the disk failed, so that the sectors on it aren't known.
     pub(crate) failed: bool,
     pub(crate) opened: OpenedStore,
     ghost holds: { MayHold ahead.log.layout (machine.size_in engine) (machine.state_in engine) },
@@ -226,7 +226,7 @@ impl<D: Disk> Keeper<D> {
         }
     }
 
-    /// Takes a planned step, with the receipt of what it answers, once its record is on the disk.
+    /// Takes a planned step once its record is on the disk, and returns the receipt of its answer.
     fn append(&mut self, input: &Input, next: Next, bytes: &[u8]) -> Result<Receipt, Refusal>
         requires working { self.old.failed ≡ false }
         requires step { IsPlanned self.old input.now next }

@@ -53,7 +53,7 @@ struct Replayed {
     behind: Option<Remains>,
 }
 
-/// What a keeper needs beside its disk.
+/// The parts of a keeper beside its disk.
 #[derive(Drop)]
 pub(crate) struct Held {
     pub(crate) engine: Engine,
@@ -164,8 +164,7 @@ fn replay<D: Disk>(
     Ok(())
 }
 
-/// Takes the steps of the inputs that the records of a generation spell, and returns what remains in the log after
-/// them.
+/// Takes the steps of the inputs that the records of a generation spell, and returns the remains in the log after them.
 ///
 /// E18 with the first sector of the first record that spells none; E15; E16 where a read fails.
 fn replay_all<D: Disk>(

@@ -77,8 +77,8 @@ pub enum Handed {
     },
 }
 
-/// What an accepted input answers: the reply, and the actions that are still to be done. It can't be copied or dropped: each action
-/// must be taken out, and then `finish` gives the reply.
+/// The answer to an accepted input: the reply, and the actions that are still to be done. It can't be copied or
+/// dropped: each action must be taken out, and then `finish` gives the reply.
 pub struct Receipt {
     reply: Reply,
     actions: vec::IntoIter<Action>,
@@ -139,7 +139,7 @@ impl Receipt {
         reply
     }
 
-    /// Lets go of a receipt that nobody was given.
+    /// Drops a receipt that was given to nobody.
     pub(crate) fn let_go(self) {
         let Receipt { reply, actions } = self;
         drop(reply);

@@ -17,8 +17,8 @@ use um_slot::{Home, finish, write_part};
 use um_state::State;
 use um_wire::{Refusal, spell};
 
-/// The snapshot that comes next: the bytes of its state, and how many of their sectors stand in the slot beside the newest one. Without
-/// bytes there is none.
+/// The next snapshot: the bytes of its state, and how many of their sectors stand in the slot beside the newest one.
+/// Without bytes there is none.
 #[derive(Drop)]
 pub(crate) struct NextSnapshot {
     pub(crate) body: Vec<u8>,
@@ -57,7 +57,7 @@ impl NextSnapshot {
         self.body.len().div_ceil(SECTOR_BYTES) - self.written
     }
 
-    /// Lets go of it, so that there is none. It takes no memory.
+    /// Drops the snapshot, so that there is none. It takes no memory.
     pub(crate) fn clear(&mut self)
         ensures body { self.new.body.items ≡ [] }
         ensures written { self.new.written ≡ 0 }

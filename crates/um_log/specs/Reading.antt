@@ -1,4 +1,4 @@
--- What the reading of one record finds.
+-- The reading of one record.
 -- No manual page has it: it is the project's own format.
 -- um_log's functions stand on this file.
 use Rattle.std.specs.Prelude.{ℕ, ◌<◌, ◌≤◌, ◌+◌, List, [], map, Option, Some, None, Vec}

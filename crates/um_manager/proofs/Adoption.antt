@@ -54,7 +54,7 @@ signalled_it units sub signal n a b is e = record { chosen = n ∷ []; are = cho
 pub signalled_not : (units : ByUnit UnitState) (sub : SubState) (signal : Signal) (n : ℕ) (a : List Call) → ¬ IsIn units sub n → Signalled units sub signal (n ∷ []) a a
 signalled_not units sub signal n a isnt = record { chosen = []; are = passed_over isnt none; past_is = sym (append-nil a) }
 
--- ---- what signals are in the history
+-- ---- signals in the history
 
 sent_orders : (signal : Signal) (ns : List ℕ) → orders (map (λ n. sent n signal) ns) ≡ signals signal ns
 sent_orders signal [] = refl
@@ -87,7 +87,7 @@ grew_signals units signal ns a b marks is = record {
   marks_are = λ few n live. sym (ap (λ l. has n marks || has n l) (sent_refusals signal ns) ∙ or_false (has n marks));
 }
 
--- marks of just the live numbers, and those beside them
+-- marks of exactly the live numbers, and those beside them
 marked_live : {units : ByUnit UnitState} {a b : List Call} {live marks marked : List ℕ} {actions : List Action} → ((n : ℕ) → has n marks ≡ has n live) → Grew units a b marks marked actions
     → Grew units a b live marked actions
 marked_live same grew = record {

@@ -108,7 +108,7 @@ is_answered size moment boot s t r actions step = isnt_done (done size s t (happ
     isnt_done : Refusal r ≡ Done → ⊥
     isnt_done e = cc
 
--- so what refuses a boot of a store that didn't fail before is want of memory, the disk, or that it has no room
+-- so a boot of a store that didn't fail before is refused for want of memory, by the disk, or because it has no room
 pub boot_refused : {T : Type 0} {r : Result T declared.Refusal} {failed : Bool} (size moment : ℕ) (boot : List ℕ) (s : State) (e : declared.Refusal) → r ≡ Err e → failed ≡ false
     → ((r ≡ Err Reopen) ↔ (failed ≡ true))
     → (IsLost e ⊎ (e ≡ Reopen) ⊎ (e ≡ GenerationsSpent) ⊎ ((is_of_store e ≡ false) × Step size s (happens_at moment (Booted boot)) (Refusal (refused_of e)) [] s))

@@ -101,7 +101,7 @@ new_tail a b x xs new = record {
   once = λ i j n e f. let same = new.once (suc i) (suc j) n e f in omega (arith, same);
 }
 
--- what stands in one list stands in the other
+-- numbers that stand in one list stand in the other
 stands_at : (xs ys : List ℕ) → StandIn xs ys → (i n : ℕ) → slice_get xs i ≡ Some n → (j : ℕ) × (slice_get ys j ≡ Some n)
 stands_at xs ys no_others i n e = absurd (none-some n e)
 stands_at xs ys (too {some = some} {all = all} rest) zero n e = (0, e)

@@ -1,4 +1,4 @@
--- What one client has of turns that follow each other.
+-- One client over turns that follow each other.
 use Rattle.std.proofs.Common.{◌≡◌, ◌≢◌, inl, inr, ◌∙◌, ◌+◌, ℕ, zero, suc, List, [], ◌∷◌, ◌++◌, map, take, drop, length, Bool, true, false, Option, Some, None, Result, Ok, Err, slice_get, append_assoc, append-nil, refl, sym, ap, subst, arith, true≢false}
 use Rattle.std.specs.List.{flat_map}
 use Rattle.std.proofs.lemmas.List.{length-append}
@@ -171,7 +171,7 @@ reads_failed (waits cause e) failed = (refl, ap (λ x. x.failed) e ∙ failed)
 reads_failed (takes working begins e) failed = absurd (true≢false (sym failed ∙ working))
 reads_failed (refuses working begins e) failed = absurd (true≢false (sym failed ∙ working))
 
--- bytes come, or none
+-- bytes arrive, or none
 record Fed (t : Session) (p : Piece) (fed : Session) : Type 0 where
   deed : Deed
   does : Does t deed fed

@@ -94,7 +94,7 @@ module _ (layout : Layout) {disk : Past} {before : List Call} where
       none true false turned refused sure known = absurd (false≢true known)
       none false whole turned refused sure known = absurd (false≢true sure)
 
-  -- a life goes on with a turn by what its store answers
+  -- a life goes on with a turn by the answer of its store
   pub turned_continues : {at : Place} (honest whole : Bool) (result : Result Unit Refusal) {moment : ℕ} {pieces : List Piece} {a b : Now} (past : History disk before a)
       (turned : Turned at honest whole result moment pieces a b) (store : Result Unit Refusal) → turned.store ≡ store → HasGoneOn layout past → at ≡ place_on layout
       → Continues layout past (turns past turned) (offers_told turned.store (offers_of_turn turned)) result
@@ -236,7 +236,7 @@ all_dropped [] (y ∷ ys) same = absurd (omega (arith, same))
 all_dropped (x ∷ xs) [] same = refl
 all_dropped (x ∷ xs) (y ∷ ys) same = all_dropped xs ys (omega (arith, same))
 
--- what a borrow of a whole list puts back
+-- a borrow of a whole list puts it back
 pub put_back : {X : Type 0} (n : ℕ) (xs ys : List X) → length xs ≡ n → length ys ≡ n → xs ≡ take n (xs ++ drop (length xs) ys)
 put_back n xs ys is was = sym
     (ap (λ l. take n (xs ++ l)) (all_dropped xs ys (was ∙ sym is)) ∙ ap (λ k. take k (xs ++ [])) (sym is) ∙ all_taken xs)

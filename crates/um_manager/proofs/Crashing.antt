@@ -1,4 +1,4 @@
--- What a crash leaves of turns that follow each other.
+-- The images that a crash leaves of turns that follow each other.
 use Rattle.std.proofs.Common.{◌≡◌, ℕ, List, [], ◌∷◌, length, map, Bool, Result, refl, ap, subst, arith}
 use Rattle.std.specs.Bool.{IsTrue}
 use Rattle.um_keeper.specs.Answering.{Answer, AreAnswered, taken}

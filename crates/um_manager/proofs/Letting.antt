@@ -54,6 +54,6 @@ nothing_of : {X : Type 0} (xs : List X) → length xs ≡ 0 → xs ≡ []
 nothing_of [] e = refl
 nothing_of (x ∷ xs) e = absurd (omega (arith, e))
 
--- where the history is as before nothing came
+-- if the history is as before nothing was added
 pub nothing_came : {X : Type 0} (xs ys : List X) → xs ≡ xs ++ ys → ys ≡ []
 nothing_came xs ys e = nothing_of ys (omega (arith, ap length e, length-append xs ys))

@@ -343,7 +343,7 @@ module _ (offering : ArePartsOfLives) (layout : Layout) where
             (subst (λ l. StandIn l had) (sym (ap (λ l. starts_in (orders l)) are ∙ none_more life.before more empty)) so);
       }
 
-  -- what the disk held before
+  -- the image that the disk held before
   as_before : (disk : Past) (untold : List Offer) (image : Image) → AreUnanswered untold → HasStores layout disk → IsAsBefore layout disk image
       → (from : Image) × IsImage disk from × (s : State) × IsStoreOf layout from s × MayLeave layout s untold image
   as_before disk untold image untold_are_so stores so =

@@ -43,7 +43,7 @@ pub record Carries (size : ℕ) (life : ManagerLife) (s : State) (here : List In
   pub starts : IsByChildren life.way life.calls → (before : List Action) → StandIn (starts_in (orders life.before)) before
       → StandIn (starts_in (orders life.calls)) (before ++ starts_in (actions_in run))
 
--- where an image that the stop of a life leaves comes from
+-- the source of an image that the stop of a life leaves
 pub record ComesFrom (layout : Layout) (life : ManagerLife) (image : Image) : Type 0 where
   pub from : Image
   pub was : IsImage life.disk from
@@ -137,7 +137,7 @@ all_come layout disk (life ∷ lives) stop stores follow lead last there =
     let leads = lead.0 (λ image is. stores image (found.no_other image is)) found.read in
     one_more layout disk life lives last found leads (all_come layout life.stop lives stop (left_stores layout life leads) follow.1 lead.1 last there)
 
--- ---- what outlives all stops
+-- ---- the facts that outlive all stops
 
 in_order : (some all : List Input) → HasInOrder some all → StandIn some all
 in_order some all HasInOrder.no_others = StandIn.no_others
@@ -164,7 +164,7 @@ pub each_in_turn : {size : ℕ} {s t : State} {inputs : List Input} (run : Run s
 each_in_turn Run.rests = tt
 each_in_turn (goes reply actions step run) = (λ k d lt. in_turn _ (begun_next step k d lt), each_in_turn run)
 
--- what um_keeper's laws say of an image that is opened
+-- the facts of an image that is opened, by um_keeper's laws
 pub record Opens : Type 0 where
   pub stands : (count : ℕ) (layout : Layout) (image : Image) (slot : Slot) (generation : ℕ) (s : State) → IsTakenUp count image layout slot generation s → StandsFor layout image s
   pub spent : (count : ℕ) (layout : Layout) (image : Image) (s : State) (e : Refusal) → store_sectors layout ≤ count → StandsFor layout image s → IsUntaken count image e → e ≡ GenerationsSpent

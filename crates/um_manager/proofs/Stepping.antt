@@ -89,7 +89,7 @@ fewer_behind place at store result s t inputs answers old a b writes fewer none_
       few = two_calls old.calls a.log.calls b.log.calls first.sectors first.few writes.calls;
     }
 
--- ---- what the whole answers
+-- ---- the answer of the whole
 
 -- the frame of a store's call and of the writes after it
 pub store_kept : {D : Type 0} {g : disk.Ghosts D} (d : disk.Ghosts D) (store result : Result Unit declared.Refusal) (old mid new : Keeper D g) → KeepsStore d store old mid

@@ -81,7 +81,7 @@ at_request moment (q ∷ requests) (suc k) r input at is =
     ∙ at_behind (inputs_asked moment q) (flat_map (inputs_asked moment) requests) (length (flat_map (inputs_asked moment) (take k requests)))
     ∙ at_request moment requests k r input at is
 
--- what the answer to one of the inputs did stands among what all did
+-- the command that the answer to one input did stands among those of all
 done_at : (inputs : List Input) (answers : List Answer) (i : ℕ) (input : Input) (answer : Answer) → slice_get inputs i ≡ Some input → slice_get answers i ≡ Some answer
     → StandIn (done_by input answer) (all_done inputs answers)
 done_at [] answers i input answer at told = absurd (none_some at)

@@ -20,7 +20,7 @@ pub record Grew (units : ByUnit UnitState) (old new : List Call) (marks marked :
   pub kept : list_any lets_any given ≡ false
   pub marks_are : HasFewLive units → (n : ℕ) → is_live units n ≡ true → has n marked ≡ (has n marks || has n (refused given))
 
--- the same of children who are honest, and whose history is whole
+-- the same of children that are honest, and whose history is whole
 abbrev pub Carries : Bool → Bool → ByUnit UnitState → List Call → List Call → List ℕ → List ℕ → List Action → Type 0
 Carries honest whole units old new marks marked actions = IsTrue honest → IsTrue whole → Grew units old new marks marked actions
 

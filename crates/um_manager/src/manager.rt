@@ -232,8 +232,9 @@ impl<D: Disk, C: Children> Manager<D, C> {
         }
     }
 
-    /// Whether a whole frame of a connection is held. The next turn takes its request, whatever bytes come; so who serves the manager can leave
-    /// further bytes where they are until then, and no client makes it hold more than a frame and one piece.
+    /// Whether a whole frame of a connection is held. The next turn takes its request, whatever bytes arrive. So the
+    /// server can leave further bytes where they are until then, and no client makes the manager hold more than a frame
+    /// and one piece.
     pub fn holds_frame(&self, connection: Connection) -> bool
         ensures { (result ≡ true) ↔ HoldsFrameAt (slice_get self.now.sessions.items connection) }
     {

@@ -1,4 +1,4 @@
-//! Gates in memory, and what they took.
+//! Gates in memory, and the bytes that they took.
 use std::process::Abort;
 use um_asserts::same;
 use um_gate::{FakeGate, Gate, MOST_BYTES, Note};
@@ -8,7 +8,7 @@ pub fn bytes(rt: &(impl AllocGlobal + Abort), text: &[u8]) -> Vec<u8> {
     Vec::from_slice(rt.alloc(), text).expect(rt, "no memory")
 }
 
-/// A gate to which no client came yet.
+/// A gate to which no client has connected yet.
 pub fn new_gate(rt: &(impl AllocGlobal + Abort)) -> FakeGate {
     FakeGate::new(rt.alloc()).expect(rt, "no memory")
 }
@@ -43,7 +43,7 @@ pub struct Taken {
     pub is_dropped: bool,
 }
 
-/// What the gate took for the connection of this number.
+/// The bytes that the gate took for the connection of this number.
 pub fn what_was_taken(rt: &(impl AllocGlobal + Abort), gate: &FakeGate, number: usize) -> Taken {
     let mut bytes = Vec::new(rt.alloc());
     let mut writes: usize = 0;
@@ -108,7 +108,7 @@ fn read_of(
     read
 }
 
-/// Reads of a client that sends `abcde`, one after another: of how many bytes at most, and what they give.
+/// Reads of a client that sends `abcde`, one after another: of how many bytes at most, and the bytes they give.
 const READS: &[(usize, &[u8])] = &[(0, b""), (2, b"ab"), (0, b""), (4096, b"cde"), (4096, b"")];
 
 #[test]

@@ -131,7 +131,7 @@ fn opening(
     }
 }
 
-/// What both lives and the opening leave.
+/// The disk and the children that both lives and the opening leave.
 fn lived(rt: &(impl AllocGlobal + Abort), picks: &[usize]) -> (MemDisk, FakeChildren) {
     let children = FakeChildren::new(rt.alloc());
     let (disk, children) = life(
@@ -178,7 +178,7 @@ fn three_lives_are_one_run(rt: HostRuntime) {
     }
 }
 
-/// What shows `b.service` where the end of its process is lost.
+/// The text that shows `b.service` if the end of its process is lost.
 const B_LOST: &str =
     r#"{"ok":true,"value":{"ActiveState":"failed","Description":"","Id":"b.service","LoadState":"loaded","MainNumber":0,"Result":"lost","SubState":"failed","Warnings":[]}}"#;
 

@@ -42,7 +42,7 @@ pub fn new_store(rt: &(impl AllocGlobal + Abort)) -> MemDisk {
     disk
 }
 
-/// The manager that is opened over a disk, with these children, in a box, which a row lets go in one call.
+/// The manager that is opened over a disk, with these children, in a box, which a row drops in one call.
 pub fn over_children<D: Disk, C: Children>(
     rt: &(impl AllocGlobal + Abort),
     disk: D,
@@ -111,7 +111,7 @@ pub fn play<D: Disk, C: Children>(
     turns(rt, manager, sent).expect(rt, "refused");
 }
 
-/// A turn in which this comes.
+/// A turn in which these pieces arrive.
 pub fn turn<D: Disk, C: Children>(
     manager: &mut Manager<D, C>,
     sent: &Pieces,
@@ -119,7 +119,7 @@ pub fn turn<D: Disk, C: Children>(
     manager.turn(Moment::FIRST, sent)
 }
 
-/// Asserts that just the frames of these texts were put out for a connection, and that its session hasn't failed.
+/// Asserts that exactly the frames of these texts were put out for a connection, and that its session hasn't failed.
 pub fn has_output<D: Disk, C: Children>(
     rt: &(impl AllocGlobal + Abort),
     manager: &mut Manager<D, C>,

@@ -21,7 +21,7 @@ pub fn told<C: Children>(rt: &impl Abort, children: &mut C, n: u64, claim: bool,
     same_at!(rt, children.fate(number(rt, n), claim), Ok(wanted), n);
 }
 
-/// The keeper that is opened over a disk, in a box, which a row lets go in one call.
+/// The keeper that is opened over a disk, in a box, which a row drops in one call.
 pub fn keeper_over<D: Disk>(rt: &(impl AllocGlobal + Abort), disk: D) -> Box<Keeper<D>> {
     match Keeper::open(rt.alloc(), disk) {
         Ok(keeper) => Box::new(rt.alloc(), keeper).expect(rt, "no memory"),

@@ -12,7 +12,7 @@ fn words_of<'a>(rt: &(impl AllocGlobal + Abort), line: &'a str) -> Vec<&'a str> 
     words
 }
 
-/// What becomes of a line with this standard input: the text of a request, or the status of its fault.
+/// The result of a line with this standard input: the text of a request, or the status of its fault.
 fn prepared(
     rt: &(impl AllocGlobal + Abort),
     line: &str,
@@ -107,7 +107,7 @@ fn words_become_requests(rt: HostRuntime) {
     }
 }
 
-/// A line whose text comes on the input.
+/// A line whose text is read from the input.
 const PUT: &str = "put-file lib/a.service";
 
 #[test]

@@ -51,7 +51,7 @@ struct Served {
     clock: FakeMoments,
 }
 
-/// What this manager serves over this gate.
+/// A server of this manager over this gate.
 fn served_by(rt: &(impl AllocGlobal + Abort), gate: FakeGate, manager: Box<InMemory>) -> Served {
     Served {
         gate: buffered(rt, gate),
@@ -84,7 +84,7 @@ fn two_clients(rt: &(impl AllocGlobal + Abort)) -> FakeGate {
     gate
 }
 
-/// Asserts what the first of them has by now, and what the second.
+/// Asserts the bytes that the first of them has by now, and the second.
 fn have(rt: &(impl AllocGlobal + Abort), gate: &FakeGate, first: &[u8], second: &[u8]) {
     for (number, wanted) in [(0, first), (1, second)] {
         let got = what_was_taken(rt, gate, number);
@@ -131,7 +131,7 @@ const OFFERS: &[(usize, &[&[u8]])] = &[
     ),
 ];
 
-/// Asserts that the gate was offered just these for the client, a part a write.
+/// Asserts that the gate was offered exactly these for the client, a part a write.
 fn was_offered(rt: &(impl AllocGlobal + Abort), gate: &FakeGate, number: usize, wanted: &[&[u8]]) {
     let offered = what_was_offered(rt, gate, number);
     same!(rt, offered.len(), wanted.len());

@@ -64,12 +64,12 @@ fn both(rt: &(impl AllocGlobal + Abort), manager: &mut Counted) -> Result<(), Re
     turn(manager, &pieces(rt, &[(0, &first), (1, &second)]))
 }
 
-/// A turn in which nothing comes.
+/// A turn in which nothing arrives.
 fn idle(rt: &(impl AllocGlobal + Abort), manager: &mut Counted) -> Result<(), Refusal> {
     turn(manager, &pieces(rt, &[]))
 }
 
-/// Asserts what both clients are answered.
+/// Asserts the answer to both clients.
 fn answered(rt: &(impl AllocGlobal + Abort), manager: &mut Counted, reply: &str) {
     has_output(rt, manager, 0, &[reply]);
     has_output(rt, manager, 1, &[reply]);

@@ -22,11 +22,11 @@ stands_in {image = image} {layout = layout} {s = s} mine l t store =
 
 -- ---- disks in memory
 
--- what a read gives of a disk in memory is a store, where each image is
+-- the image that a read gives of a disk in memory is a store, if each image is
 pub seen_store : (d : MemDisk) (layout : Layout) (s : State) → Images (history d) (λ image. IsStoreOf layout image s) → IsStoreOf layout (seen (history d)) s
 seen_store d layout s each = each (seen (history d)) (seen_is_image d.start.items d.noted.items)
 
--- a settled disk shows what it showed
+-- a read of a settled disk gives the same as before
 pub same_seen : (d e : MemDisk) → e.start.items ≡ d.held.items → e.noted.items ≡ [] → seen (history e) ≡ seen (history d)
 same_seen d e start none =
     ap (λ (n : List Noted). seen (past_of e.start.items n)) none ∙ ap (λ (s : List Sector). seen (past_of s [])) start ∙ (λ i k. d.shown k i)

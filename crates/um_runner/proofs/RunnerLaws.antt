@@ -122,7 +122,7 @@ ending_found Entries = refl
 one_ending : (a b : RunnerFile) → ending_of a ≡ ending_of b → a ≡ b
 one_ending a b e = same_Some a b (sym (ending_found a) ∙ ap with_ending e ∙ ending_found b)
 
--- what stands before the first dot
+-- the part before the first dot
 abbrev before_dot : List ℕ → List ℕ
 before_dot [] = []
 before_dot (b ∷ bs) = cond (b == 46) [] (b ∷ before_dot bs)

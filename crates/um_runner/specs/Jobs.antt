@@ -36,6 +36,6 @@ pub record IsCommandOf {A : Type 0} (words entries : List (List ℕ)) (command :
   pub inherits : clears_env command ≡ false
   pub sets : (name : List ℕ) → command_var command name ≡ option_map Some (entry_value entries name)
 
--- the command sets this variable to this value, and all others to what they were
+-- the command sets this variable to this value, and leaves all others as they were
 abbrev pub SetsTo : {A : Type 0} → (name value : List ℕ) → Command A → Command A → Type 0
 SetsTo name value old new = (command_var new name ≡ Some (Some value)) × SameOtherVars old new name

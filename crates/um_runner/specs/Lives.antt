@@ -1,4 +1,4 @@
--- The life of a runner in what its host notes.
+-- The life of a runner in the notes of its host.
 -- The contracts of Host and run cite it.
 use Rattle.std.specs.Prelude.{◌≡◌, ℕ, Bool, true, false, List, ◌++◌, Result, Ok, Err}
 use Rattle.um_runner.specs.RunnerSteps.{Claimed, RunnerStep, RunnerLife, Ours, Taken, Refused}

@@ -1,5 +1,6 @@
--- What a runner does, and the names and texts that it alone deals with.
--- Follows systemd.exec(5) in the code of a command that can't be executed; the files are this project's own (docs/FORMATS.md, "The files of a process").
+-- The steps of a runner, and the names and texts that it alone deals with.
+-- Follows systemd.exec(5) in the code of a command that can't be executed; the files are this project's own
+-- (docs/FORMATS.md, "The files of a process").
 use Rattle.std.specs.Prelude.{◌==◌, ◌&&◌, ◌++◌, ◌∷◌, [], ℕ, Bool, true, false, List, reverse, Option, Some, None, codes}
 use Rattle.std.specs.List.{find, before_first, after_first}
 use Rattle.std.specs.Option.{option_map}

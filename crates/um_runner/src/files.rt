@@ -123,9 +123,10 @@ fn make_draft<R: Files>(rt: &R, path: &str, text: &str) -> io::Result<()> {
     make_new(rt, path, DRAFT_MODE)?.write_all(text.as_bytes())
 }
 
-/// Makes the draft of a file with room for the longest text, and gives it open: a disk that is full later doesn't refuse the file.
+/// Makes the draft of a file with room for the longest text, and returns it open: a disk that is full later doesn't
+/// refuse the file.
 ///
-/// `NoMemory` where memory is wanting, before the folder is touched; `System` where the folder or its disk refuses the draft.
+/// `NoMemory` if memory is wanting, before the folder is touched; `System` if the folder or its disk refuses the draft.
 pub fn reserve<R: Files>(
     rt: &R,
     alloc: Global,

@@ -138,7 +138,7 @@ all_picked past picks list n long each =
     ext_get_or [] list (map (picked past picks) (range_with_len 0 n)) (long ∙ sym (length-map-range_with_len (picked past picks) 0 n))
     (λ k below. each k below ∙ sym (get_or-map-range_with_len (picked past picks) 0 n k k [] (omega (arith, below, long)) (zero-add k)))
 
--- what a read gives after some calls and then others
+-- the image that a read gives after some calls and then others
 seen_onto : (start : Image) (late early : List Call) → seen_after start (late ++ early) ≡ seen_after (seen_after start early) late
 seen_onto start [] early = refl
 seen_onto start (wrote k v kept ∷ late) early = ap (λ image. with_sector image k kept) (seen_onto start late early)
@@ -171,7 +171,7 @@ without_last notes note since le =
     ap (take (length notes - since)) (drop-append-le since notes (note ∷ []) le)
     ∙ subst (λ n. take n (drop since notes ++ note ∷ []) ≡ drop since notes) (length-drop since notes) (take-append_seam (drop since notes) (note ∷ []))
 
--- a sync changes nothing of what a read gives
+-- a sync changes nothing of the image that a read gives
 pub seen_synced : (start : List Sector) (notes : List Noted) (k : ℕ) → seen (past_of start (notes ++ Sync ∷ [])) k ≡ seen (past_of start notes) k
 seen_synced start notes k = ap (λ calls. seen_after (image_of start) (map call_of calls) k) (reverse-append notes (Sync ∷ []))
 

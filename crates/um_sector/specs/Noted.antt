@@ -1,4 +1,4 @@
--- What the notes of a disk in memory stand for.
+-- The history that the notes of a disk in memory stand for.
 -- No manual page has it: it is the disk model of um_model, kept as a list.
 -- MemDisk stands on this file.
 use Rattle.std.specs.Prelude.{ℕ, Bool, false, nat_lt, List, [], ◌∷◌, map, reverse, replicate, slice_index_or}

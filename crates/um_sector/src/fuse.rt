@@ -1,4 +1,4 @@
-//! A disk that fails one call, for tests of what a failure leaves.
+//! A disk that fails one call, for tests of failures.
 ghost use Rattle.std.specs.Prelude.{◌≡◌, ◌≢◌, ◌+◌, ◌<◌, ◌==◌, true, false, OnOk, IsErr, IsTrue};
 ghost use Rattle.um_model.specs.Disk.{seen, Wrote, Synced};
 ghost use Rattle.um_sector.specs.Runs.{CountsFailure};

@@ -1,4 +1,4 @@
--- What one client has of rounds.
+-- One client over rounds.
 use Rattle.std.proofs.Common.{◌≡◌, ◌≢◌, ◌<◌, ◌≤◌, ◌++◌, ◌∷◌, ◌∙◌, ℕ, zero, suc, List, [], Bool, true, false, Option, Some, None, Ok, IsTrue, refl, ap, sym, subst, append_assoc, append-nil, slice_get, arith, inl, inr, true≢false, if◌then◌else◌}
 use Rattle.std.proofs.lemmas.Bool.{cases_lt, eq-eqb, ne_eqb}
 use Rattle.std.proofs.lemmas.List.Concat.{flat_map-append}

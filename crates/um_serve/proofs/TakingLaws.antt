@@ -1,4 +1,4 @@
--- What the gate takes for a client is a beginning of what its manager put out for it.
+-- The bytes that the gate takes for a client are a beginning of its manager's output for it.
 use Rattle.std.proofs.Common.{◌≡◌, ◌≢◌, ◌<◌, ◌∙◌, inl, inr, ℕ, List, [], ◌∷◌, ◌++◌, Bool, true, false, Option, Some, None, Result, Ok, Err, slice_get, refl, sym, ap, subst, true≢false, arith}
 use Rattle.std.proofs.lemmas.List.Concat.{flat_map-append}
 use Rattle.um_backlog.specs.Backlog.{Waits, nothing}

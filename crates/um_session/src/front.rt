@@ -1,4 +1,4 @@
-//! What stands at the front of a stream.
+//! The front of a stream: a frame, less than one, or a length past the limit.
 
 ghost use Rattle.um_session.specs.Fronts.{IsFront};
 
@@ -10,7 +10,7 @@ pub const HEADER: usize = 4;
 /// The longest frame of a request, in bytes.
 const FRAME_LIMIT: usize = 524_288;
 
-/// What stands at the front of a stream.
+/// The front of a stream.
 #[derive(Clone, Copy, Debug, PartialEq, Eq)]
 pub enum FrameFront {
     /// Less than a whole frame.
@@ -21,7 +21,7 @@ pub enum FrameFront {
     Frame(usize),
 }
 
-/// What stands at the front of these bytes.
+/// The front of these bytes.
 pub fn front_of(bytes: &[u8]) -> FrameFront
     ensures { IsFront bytes.now result }
 {

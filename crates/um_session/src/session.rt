@@ -38,7 +38,7 @@ impl Model for Session {
 }
 
 impl Session {
-    /// A session of which nothing came yet. It takes no memory.
+    /// A session to which no bytes were fed yet. It takes no memory.
     pub fn new(alloc: Global) -> Session
         ensures rest { result.rest ≡ [] }
         ensures output { result.output ≡ [] }
@@ -53,7 +53,7 @@ impl Session {
         }
     }
 
-    /// Whether it has failed: a length past the limit came, or a reply found no memory.
+    /// Whether it has failed: a length past the limit was read, or a reply found no memory.
     pub fn failed(&self) -> bool
         ensures { result ≡ self.now.failed }
     {
@@ -87,7 +87,7 @@ impl Session {
         self.at = 0;
     }
 
-    /// Bytes come. A session that has failed takes none.
+    /// Takes these bytes after those before. A session that has failed takes none.
     pub fn feed(&mut self, bytes: &[u8]) -> Result<(), AllocError>
         ensures ok { OnOk result (model.Does self.old (model.Feed bytes.now) self.new) }
         ensures err { OnErr result (model.Does self.old model.Room self.new) }
@@ -185,7 +185,7 @@ impl Session {
         Ok(())
     }
 
-    /// Fails the session, where a reply finds no memory before it comes here.
+    /// Fails the session, if a reply finds no memory before it gets here.
     pub fn give_up(&mut self)
         ensures { model.Does self.old model.GiveUp self.new }
     {

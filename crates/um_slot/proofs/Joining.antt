@@ -21,7 +21,7 @@ pub long_more : (size i : ℕ) (body more sector : List ℕ) → i < sector_coun
 long_more size i body more sector below long so_far grown =
     omega (arith, below, long, so_far, ap length grown, length-append body (take (size - 512 * i) sector), length-take (size - 512 * i) sector)
 
--- one sector more of what a body has
+-- one sector more of a body
 pub body_more : (size i : ℕ) (image : Image) (at : ℕ) (body more sector all : List ℕ) → i < sector_count size → length sector ≡ 512 → sector ≡ image (at + i)
     → body ++ take (size - 512 * i) (joined (sector_count size - i) image (at + i)) ≡ all → more ≡ body ++ take (size - 512 * i) sector
     → more ++ take (size - 512 * (i + 1)) (joined (sector_count size - (i + 1)) image (at + (i + 1))) ≡ all

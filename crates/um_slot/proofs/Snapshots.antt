@@ -91,7 +91,7 @@ first_newest {layout} {old} {image} nothing first last fits maybe snapshot = rec
   body_is = written_body snapshot;
 }
 
--- No later generation comes into the log.
+-- No later generation is added to the log.
 pub kept_above : {layout : Layout} {old image : Image} {slot : Slot} {generation last : ℕ} {body : List ℕ} → MaybeSnapshot layout old slot generation body image
     → IsNoneAbove layout old last → IsNoneAbove layout image last
 kept_above {layout} {slot} maybe none = same_above layout (λ j low high. maybe.outside j (inr (behind_slot layout slot j low))) none
@@ -143,7 +143,8 @@ module _ {format : Format} {layout : Layout} {old image : Image} {slot : Slot} {
         none_later = above_later layout (let low = below_top format (last + 1) in omega (arith, low)) next_above;
       }
 
-  -- What a crash leaves meanwhile has the newest snapshot and the log of before, or the new snapshot and no record.
+  -- An image that a crash leaves meanwhile has the newest snapshot and the log of before, or the new snapshot and no
+  -- record.
   either_newest : {past : Past} → IsImage past old → last + 1 < 2 ^ 64 → length body ≤ body_limit layout → EitherNewest format layout past slot newest before last body image
   either_newest {past} was small fits = ⊎_elim {C = EitherNewest format layout past slot newest before last body image}
       (λ same. inl (record { from = old; was = was; first = first_same slot maybe format has.first; snapshot = snapshot_same slot maybe has.snapshot same; log = log_same slot maybe }))

@@ -1,4 +1,4 @@
-//! Inputs, and what a keeper makes of one.
+//! Inputs, and the results of a keeper for them.
 use std::process::Abort;
 use um_asserts::text;
 use um_keeper::{Handed, Keeper, Receipt};

@@ -4,8 +4,8 @@ use um_asserts::{same, same_at};
 use um_limit::{Counted, Window};
 use um_model::{Moment, Span};
 
-/// What a window has counted before and after these starts: since which moment, and how many. Of each start its moment, and whether
-/// the window lets it through.
+/// The count of a window before and after these starts: since which moment, and how many. Of each start its moment, and
+/// whether the window lets it through.
 struct Row {
     before: Option<(u64, u32)>,
     starts: &'static [(u64, bool)],

@@ -11,7 +11,7 @@ use um_state::{Command, Event, Happening, Input};
 use um_tree::Tree;
 use um_wire::Refusal;
 
-/// What comes in: an empty file at the path, a start of the unit, or a tick at the moment.
+/// An input: an empty file at the path, a start of the unit, or a tick at the moment.
 enum Coming {
     Put(&'static str),
     Start(&'static str),
@@ -29,7 +29,7 @@ fn start(rt: &(impl AllocGlobal + Abort), unit: &str) -> Input {
     input(rt, 0, Event::Commanded(command))
 }
 
-/// The input that comes in.
+/// The input by its texts.
 fn input_of(rt: &(impl AllocGlobal + Abort), coming: &Coming) -> Input {
     match coming {
         Coming::Put(path) => put(rt, path, ""),
@@ -282,7 +282,7 @@ const IDLE: &[Coming] = &[
     Coming::Tick(10),
 ];
 
-/// What they are answered.
+/// The answers to them.
 const IDLE_DONE: &str = "done; done; done; done; done; done; done; done; done; done; done; ";
 
 #[test]

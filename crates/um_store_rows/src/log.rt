@@ -1,4 +1,4 @@
-//! The log of a store: its records and what a crash leaves of them.
+//! The log of a store: its records and the disks that a crash leaves of them.
 use crate::answers::{change, filled, sector_at};
 use std::fmt::Debug;
 use std::process::Abort;

@@ -166,7 +166,8 @@ const BEFORE: (u64, usize) = (3, 256);
 
 const BEHIND: (u64, usize) = (4, 2);
 
-/// Asserts what a crash leaves at the disk call of this number of a step of three sectors: each sector, a sync, the header, a sync.
+/// Asserts which store a crash leaves at the disk call of this number of a step of three sectors: each sector, a sync,
+/// the header, a sync.
 fn crashes_at(rt: &(impl AllocGlobal + Abort), call: u64) {
     let calls = calls_since(rt, &disk_of(restarted(rt, 0)));
     let fails = calls.checked_add(call).expect(rt, "too many");

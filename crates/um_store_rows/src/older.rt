@@ -78,7 +78,7 @@ fn stands(rt: &(impl AllocGlobal + Abort), disk: MemDisk) {
     same!(rt, bytes.as_slice(), hex(rt, STATE).as_slice());
 }
 
-/// What a crash leaves of an open that a failing call ends.
+/// The disk that a crash leaves of an open that a failing call ends.
 pub fn crashed(rt: &(impl AllocGlobal + Abort), disk: Fuse<MemDisk>, pick: usize) -> MemDisk {
     match Keeper::open(rt.alloc(), disk) {
         Ok(_) => rt.abort(),

@@ -87,7 +87,7 @@ fn a_new_store_has_its_layout_and_one_snapshot(rt: HostRuntime) {
     refuses(&rt, made_on(&rt, 0), "E19 NotFormatted");
 }
 
-/// What a sector of the log holds that spells no input: generation 3, record 0, part 0 of 1, a length of 1, and that byte.
+/// A sector of the log that spells no input: generation 3, record 0, part 0 of 1, a length of 1, and that byte.
 const NO_INPUT: &[u8] = &[
     0x55, 0x4d, 0x4c, 0x47, 0, 0, 0, 0, 0, 0, 0, 3, 0, 0, 0, 0, 0, 0, 0, 0, 0, 0, 0, 0, 0, 0, 0, 1,
     0, 0, 0, 1, 9,
@@ -99,7 +99,7 @@ const NO_NEXT_INPUT: &[u8] = &[
     0, 0, 0, 1, 9,
 ];
 
-/// What a sector of the log holds that says generation 5, of no whole record.
+/// A sector of the log that says generation 5, of no whole record.
 const LATER: &[u8] = &[0x55, 0x4d, 0x4c, 0x47, 0, 0, 0, 0, 0, 0, 0, 5];
 
 /// The generation before the last one.
@@ -167,7 +167,7 @@ fn what_is_refused_is_named_and_left_as_it_was(rt: HostRuntime) {
     }
 }
 
-/// Asserts that such a store is opened in the state that it stands for, and what its slot A holds then.
+/// Asserts that such a store is opened in the state that it stands for, and the content of its slot A then.
 fn opens_above(rt: &(impl AllocGlobal + Abort), changes: &[Damage], header: &[u8]) {
     let mut disk = disk_of(over(rt, changed(rt, changes)));
     has_layout(rt, &mut disk, 1, header);
@@ -234,7 +234,7 @@ fn half_checkpointed(rt: &(impl AllocGlobal + Abort)) -> MemDisk {
     disk_of(keeper).into_inner()
 }
 
-/// What a crash leaves of an open that a failing call ends.
+/// The disk that a crash leaves of an open that a failing call ends.
 fn crashed(rt: &(impl AllocGlobal + Abort), disk: Fuse<MemDisk>, pick: usize) -> MemDisk {
     let disk = refuses(rt, disk, "E16 Device");
     crash(rt, disk, &[pick])
@@ -278,7 +278,7 @@ fn crashes_inside_an_open_add_no_state(rt: HostRuntime) {
     adds_no_state(&rt, true, 1);
     adds_no_state(&rt, true, 2);
     same!(&rt, files_on(&rt, half_checkpointed(&rt)), 1);
-    // and an open that begins on what such a crash left
+    // and an open that begins on the disk that such a crash left
     let fails = call_before_last(&rt, calls, 2);
     let left = crashed(&rt, Fuse::new(filed(&rt), fails), 1);
     let disk = crashed(&rt, Fuse::new(left, fails), 1);

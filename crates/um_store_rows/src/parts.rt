@@ -87,7 +87,8 @@ fn leaves_one(
     leaves(rt, disk, &others, lost, (k, 0));
 }
 
-/// Asserts what a crash leaves where all writes that weren't synced are lost, where all are there, and where one alone is lost or there.
+/// Asserts which store a crash leaves if all writes that weren't synced are lost, if all are there, and if one alone is
+/// lost or there.
 fn leaves_each(
     rt: &(impl AllocGlobal + Abort),
     disk: &MemDisk,

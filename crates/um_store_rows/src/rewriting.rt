@@ -118,7 +118,7 @@ fn is_renewed(back: u64, is_made: bool, pick: usize) -> bool {
     }
 }
 
-/// Asserts what a crash leaves at that call, with the write that wasn't synced or without it: the same state.
+/// Asserts which state a crash leaves at that call, with the write that wasn't synced or without it: the same.
 fn crashes_at(
     rt: &(impl AllocGlobal + Abort),
     generation: u8,

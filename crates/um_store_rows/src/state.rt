@@ -302,7 +302,7 @@ fn put_jobs(rt: &(impl AllocGlobal + Abort), state: &mut State) {
     jobs.expect(rt, "no memory");
 }
 
-/// The empty state, in a box, which is let go in one call.
+/// The empty state, in a box, which is dropped in one call.
 fn empty(rt: &(impl AllocGlobal + Abort)) -> Box<State> {
     Box::new(rt.alloc(), State::empty(rt.alloc())).expect(rt, "no memory")
 }

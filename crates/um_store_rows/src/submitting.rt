@@ -1,4 +1,4 @@
-//! Inputs that a keeper takes: what it writes of them, what a crash leaves, what it refuses.
+//! Inputs that a keeper takes: their records, the disks that a crash leaves, and the refusals.
 use crate::answers::sector_at;
 use crate::inputs::{A, B, input, put, put_long, submit, take};
 use crate::keepers::{
@@ -214,7 +214,7 @@ fn a_failed_checkpoint_wants_the_store_opened_again(rt: HostRuntime) {
     has_layout(&rt, &mut disk_of(again), 65, &header);
 }
 
-/// What a crash within the record of 481 bytes leaves, opened again.
+/// The keeper after a crash within the record of 481 bytes, opened again.
 fn left(rt: &(impl AllocGlobal + Abort), picks: &[usize]) -> Box<Keeper<MemDisk>> {
     // the record's sync: two sectors are written before it
     let mut keeper = opened(rt, 3);

@@ -19,7 +19,7 @@ use Rattle.um_keeper.proofs.Kept.{on_disk_at}
 use Rattle.um_wire.specs.declared.refusal.Refusal.TheVariants.{Device}
 use Rattle.um_keeper.proofs.batch.record_all.Goals as goal
 
--- what wasn't recorded leaves nothing to be synced
+-- an input without a record leaves nothing to sync
 still_clean : (s : State) (inputs : List Input) (answers : List Answer) (rest : ℕ) → length answers ≡ length inputs → NeedNoRecord s inputs (map denied answers ++ replicate rest (Err Device)) → HaveNoRecord s inputs answers
 still_clean s inputs answers rest same none =
     no_record_front s inputs answers (replicate rest (Err Device)) (need_no_record s inputs (answers ++ replicate rest (Err Device)) (unrecorded_meant s inputs answers (replicate rest (Err Device)) none)) same
