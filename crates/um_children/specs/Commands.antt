@@ -9,10 +9,10 @@ use Rattle.um_model.specs.declared.service.Signal.{Signal}
 use Rattle.um_model.specs.declared.service.Signal.TheVariants.{Term, Kill}
 use Rattle.um_runner.specs.RunnerLines.{handed_words}
 
--- the shell's program: its words after the first become a command of its own, which goes on by itself, with no stream
--- of the manager; if the second word names no file that it can execute, it ends with 126 and runs nothing; the
+-- The shell's program: its words after the first become a command of its own, which goes on by itself, with no stream
+-- of the manager. If the second word names no file that it can execute, it ends with 126 and runs nothing. The
 -- command's output is appended to the file of the first word, if that is a regular file which can be written, and else
--- goes to /dev/null
+-- goes to /dev/null.
 abbrev pub detaching : List ℕ
 detaching =
     codes "o=$1; shift; case $1 in */*) p=$1;; *) p=$(command -v \"$1\");; esac && test -f \"$p\" && test -x \"$p\" || exit 126; "

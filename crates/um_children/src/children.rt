@@ -13,8 +13,8 @@ use um_model::{Fate, NextNumber, ProcessNumber, Signal};
 ///
 /// The clauses on the history stand under `honest`, and under `whole`, since children that keep their history may find
 /// no memory for a call. The others always stand. A call that isn't done answers `NoMemory` where a growth was refused,
-/// `TooLong` where no process can be started with this many words, and `Device` where the children failed: then, and
-/// only then, the count of failures rises by one, up to the last value of a `u64`.
+/// `TooLong` where no process can be started with this many words, and `Device` where the children failed. At `Device`,
+/// and only then, the count of failures rises by one, up to the last value of a `u64`.
 pub trait Children {
     /// The calls, the oldest first.
     ghost past: { Self → List Call };

@@ -198,21 +198,21 @@ impl<'a, R: Files + Processes + Clock> RunnerDir<'a, R> {
         self.failures
     }
 
-    /// Whether a round of fates may report or do anything that the last one didn't: a file may have arrived, a number
-    /// is starting or has an end or an absence that is reported again, a signal waits for its pid, a call of the last
-    /// round failed, or a process was started or signalled after it. It costs one look at the folder's time, and none
-    /// if one of the others is known.
+    /// Whether a round of fates may report or do anything that the last one didn't. That is so if a file may have
+    /// arrived, a number is starting or has an end or an absence that is reported again, or a signal waits for its pid.
+    /// It is also so if a call of the last round failed, or a process was started or signalled after it. It costs one
+    /// look at the folder's time, and none if one of the others is known.
     ///
-    /// The records of the last round have to be those of all numbers whose fate is queried.
+    /// The known facts of the last round have to be those of all numbers whose fate is queried.
     pub fn has_news(&self) -> bool
         ensures { self.now.is_restless ≡ true → result ≡ true }
     {
         self.is_restless || self.watch.has_changed(self.rt, self.folder.as_str())
     }
 
-    /// Whether the next round of fates should follow soon, though no runner may wake the manager: a call of the last
-    /// round failed, a signal waits for its pid, an end or an absence is reported again, or a process was started or
-    /// signalled after it.
+    /// Whether the next round of fates should follow soon, though no runner may wake the manager. That is so if a call
+    /// of the last round failed, a signal waits for its pid, an end or an absence is reported again, or a process was
+    /// started or signalled after it.
     pub fn is_pressed(&self) -> bool
         ensures { result ≡ self.now.is_pressed }
     {

@@ -297,8 +297,8 @@ impl<'a, R: Files<File = File>> Disk for FileDisk<'a, R> {
         self.count(is_done)
     }
 
-    /// A write that the system refuses is a fault too, and so is each one to a file that was opened to be read alone, and one to a file that isn't
-    /// at its path any more or was cut, which it would make longer again.
+    /// A write that the system refuses is a fault too. So is each write to a file that was opened to be read alone, and
+    /// to one that isn't at its path any more or was cut, which the write would make longer again.
     fn write(&mut self, k: usize, sector: &Sector) -> Result<(), Fault> {
         let is_done = match self.place_of(k) {
             Some(place) => self.takes_writes() && self.file.write_all_at(sector, place).is_ok(),

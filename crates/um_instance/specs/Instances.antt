@@ -13,8 +13,7 @@ use Rattle.um_model.specs.Stands.{StandsFor}
 use Rattle.um_model.specs.declared.layout.Layout.{Layout}
 
 -- A life so far, over a disk and children as they were before it: if the disk did what it answers (`Sure`) it goes on,
--- and was opened on a store; and if the children did, and no call is missing of them (`Known`), their history has all
--- its calls.
+-- and was opened on a store; if the children did, and no call is missing (`Known`), its history is trusted.
 pub record SoFar (layout : Layout) (disk : Past) (before : List Call) (Sure Known : Type 0) (b : Now) : Type 0 where
   pub past : History disk before b
   pub gone : Sure → HasGoneOn layout past

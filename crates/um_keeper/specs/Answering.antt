@@ -123,9 +123,8 @@ pub record NeedsRecord (size : ℕ) (s : State) (input : Input) : Type 0 where
   pub accepted : (r : Refused) → reply ≢ Refusal r
   pub effect : ¬ IsIdle s input
 
--- The answers to the inputs that are left if a call on the disk failed after the judged ones: none is judged, and the
--- failure was at the sync of the records; or it was at the first of them, at its record or at the calls before it where
--- it has no room.
+-- A call on the disk failed after the judged inputs: at the sync of their records, with no input left, or at the first
+-- that is left, at its record or at the calls that make room for it.
 pub data FailsAt (size : ℕ) (s : State) (judged : List Input) (meant : List Answer) (u : State) : List Input → Type 0 where
   at_sync : ¬ HaveNoRecord s judged meant → FailsAt size s judged meant u []
   at_record : {input : Input} {behind : List Input} → NeedsRecord size u input → FailsAt size s judged meant u (input ∷ behind)
@@ -201,9 +200,8 @@ pub data AreSpentAsMeant (layout : Layout) (generation size from : ℕ) (s : Sta
 abbrev pub most_snapshot_calls : Layout → ℕ
 most_snapshot_calls layout = sector_count (body_limit layout) + 3
 
--- The disk calls of a list that was answered without a fault: the sectors of its records, a sync, and a snapshot and a
--- sync for each generation by which the log rose, from a generation to another one; it doesn't rise if the records have
--- room in it from this sector on.
+-- The disk calls of a list answered without a fault: its records' sectors, a sync, and a snapshot and a sync for each
+-- generation that the log rose, none if the records have room from this sector on.
 pub record TakesCalls (layout : Layout) (next generation risen before now : ℕ) (size : ℕ) (s : State) (inputs : List Input) (answers : List Answer) (t : State)
     : Type 0 where
   pub sectors : ℕ

@@ -39,9 +39,8 @@ untold_offers inputs answers = []
 abbrev pub HasCome : Layout → State → List Offer → State → Type 0
 HasCome layout s offered t = (more : List Offer) (image : Image) → MayLeave layout t more image → MayLeave layout s (offered ++ more) image
 
--- A call in such a life that offers these inputs and gives these answers: meanwhile each image is one that the life may
--- leave whose last offers weren't answered, and afterwards, if no call on the disk failed, one that it may leave whose
--- offers were answered, in the state that it then has reached.
+-- A call in such a life, with these inputs and answers: meanwhile the life may leave each image with its last offers
+-- unanswered, and afterwards, if no disk call failed, with them answered, and has reached the state.
 pub record GoesOn (layout : Layout) (s : State) (before : List Offer) (inputs : List Input) (answers : List Answer) (old new : Past) (failed : Bool) (t : State)
     : Type 0 where
   pub meanwhile : During old new (MayLeave layout s (before ++ untold_offers inputs answers))

@@ -33,10 +33,10 @@ pub fn an_input_has_room_in_a_record()
     ensures { (layout : Layout) (generation : ℕ) → input_limit ≤ record_limit layout generation }
 {}
 
-/// Over any number of lives of a store, each opened on the image that the crash before it left: from an image of a
-/// store on, as a new one, the last image is a store of the state that a run from the first one's state reaches over
-/// the inputs that were kept. Each input that was answered got its reply in that run. The inputs that were kept include
-/// all that were answered, in their order.
+/// A store may have any number of lives, each opened on the image that the crash before it left. The first image is a
+/// store of some state, as that of a new store is. Then the last image is a store of the state that one run reaches
+/// from there over the inputs that were kept. Each input that was answered got its reply in that run. The inputs that
+/// were kept include all that were answered, in their order.
 pub fn lives()
     ensures state { (layout : Layout) (first last : Image) (lives : List Life) (s : State) → IsStoreOf layout first s → Lived layout first lives last
         → (kept : List Input) × AreKept lives kept × (t : State) × Run (body_limit layout) s kept t × RunsThrough (body_limit layout) s lives kept t

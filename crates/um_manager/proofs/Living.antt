@@ -108,8 +108,8 @@ untold_are (input ∷ inputs) (answer ∷ answers) = ap (λ l. record { input = 
 
 -- ---- a life so far
 
--- A life so far: the state that the store had when it found it, that it got from there to the manager's, that each
--- image since its store answered last is a store of that one, and the actions wanted and commands done on the way.
+-- A life so far: the state of the store that it found, the way from there to the manager's state, and the actions
+-- wanted and commands done on it; each image since its store answered last is a store of the manager's state.
 record Stood (layout : Layout) (disk : Past) (before : List Call) (offered : List Offer) (told : ℕ → List Told) (answered : Past) (trusted : Type 0) (b : Now) : Type 0 where
   s : State
   found : StandsFor layout (seen disk) s

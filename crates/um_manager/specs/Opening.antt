@@ -37,9 +37,8 @@ adoptions moment told = flat_map (inputs_of_tale lost moment) told
 abbrev pub boot_at : ℕ → List ℕ → Input
 boot_at moment boot = happens_at moment (Booted boot)
 
--- The children's calls: all but the live numbers were forgotten, of those below the next number, and each fate that was
--- reported was queried; then the orders were given, which are these actions, then TERM to the adopted numbers whose
--- unit is in stop-sigterm, and KILL to those whose unit is in stop-sigkill.
+-- The children's calls: all but the live numbers below the next one were forgotten, the fates reported were queried,
+-- these actions were ordered, and adopted numbers got TERM if their unit is in stop-sigterm, KILL if in stop-sigkill.
 pub record Ended (units : ByUnit UnitState) (live : List ℕ) (next : ℕ) (told : List Tale) (actions : List Action) (old new : List Call)
     (marked : List ℕ) : Type 0 where
   pub termed : List ℕ
@@ -54,9 +53,8 @@ abbrev pub CallsOf : Result Unit Refusal → ByUnit UnitState → List ℕ → �
 CallsOf (Ok done) units live next told actions old new marked = Ended units live next told actions old new marked
 CallsOf (Err e) units live next told actions old new marked = new ≡ old ++ (ForgotOthers live next ∷ map asks_for told)
 
--- Adoption forgot all but the live numbers, below the next number of the state that it found, queried the fate of each
--- live one once, ascending, with a claim, and offered the fates reported; an absent number is lost, and marked are the
--- numbers that were live and those whose start was refused.
+-- Adoption forgot all but the live numbers below the next one, queried each live number's fate once, ascending, with a
+-- claim, offered the fates, an absent number as lost, and marked the live numbers and those whose start was refused.
 pub record Adopted (place : Place) (honest whole : Bool) (store : Result Unit Refusal) (moment : ℕ) (a b : Now) : Type 0 where
   pub live : List ℕ
   pub are_live : AreLive a.state.units live

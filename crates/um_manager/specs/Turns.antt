@@ -126,9 +126,8 @@ abbrev pub first_refusal : Result Unit Refusal → Result Unit Refusal → Resul
 first_refusal (Ok done) behind = behind
 first_refusal (Err e) behind = Err e
 
--- The writes of a turn after the answer of its store, if that was Ok: the next sectors of a snapshot under way; each
--- image meanwhile is a store of the state, which stays as it is, as does the place of the next record, and a fault on
--- the disk is returned.
+-- The writes of a turn after its store's Ok: the next sectors of a snapshot under way, while each image is a store of
+-- the state, which stays, as does the next record's place; a fault on the disk is returned.
 pub record WritesOn (place : Place) (store result : Result Unit Refusal) (a b : Now) : Type 0 where
   pub behind : Result Unit Refusal
   pub result_is : result ≡ first_refusal store behind
@@ -140,9 +139,8 @@ pub record WritesOn (place : Place) (store result : Result Unit Refusal) (a b : 
   pub still : (e : Refusal) → store ≡ Err e → b.disk ≡ a.disk
   pub steady : IsTrue place.trusted → store ≡ Ok tt → During a.disk b.disk (λ image. IsStoreOf place.layout image a.state)
 
--- The children's calls: each fate that was reported was queried, and then the orders were given, which are these
--- actions; the record of a live number isn't dropped, and if the store failed none is; of the live numbers those whose
--- start was refused are marked beside the others.
+-- The children's calls: each fate reported was queried, then these actions were ordered; no live number is forgotten,
+-- none at all if the store failed, and live numbers whose start was refused are marked beside the others.
 pub record Called (units : ByUnit UnitState) (store : Result Unit Refusal) (told : List Tale) (actions : List Action) (old new : List Call)
     (marks marked : List ℕ) : Type 0 where
   pub given : List Call

@@ -26,9 +26,11 @@ ghost use Rattle.um_wire.specs.declared.refusal.Refusal.{Refusal};
 /// Each connection is served from its opening on, over any calls and whatever they answer, with its output taken at any
 /// moment. The requests taken of it are those of the frames of all its bytes, in their order. The output for it, taken
 /// or not, is the frames of the replies to exactly these, one each, in their order. Only the last may be missing, if
-/// the session failed for want of memory. The same holds of the history of a manager, for each of its connections since
-/// that was opened last: the output for it is the frames of the replies that its history names, each beside the command
-/// that it answers, and those of commands that were done are the ones reported to it last.
+/// the session failed for want of memory.
+///
+/// The same holds of the history of a manager, for each of its connections since that was opened last. The output for
+/// it is the frames of the replies that its history names, each beside the command that it answers. Those of commands
+/// that were done are the ones reported to it last.
 pub fn each_connection_is_served()
     ensures served { (k : ℕ) (bytes taken : List ℕ) (a : Now) (had : HasHad k bytes taken a)
         → (t : Session) × (slice_get a.sessions k ≡ Some t) × IsServed had t }

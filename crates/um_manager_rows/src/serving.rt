@@ -241,8 +241,9 @@ fn a_client_that_holds_back_a_byte_and_one_that_never_reads_hold_up_nobody(rt: H
     }
 }
 
-/// Rounds one by one, of a client that sends two requests in one part and then a third: how many bytes are to be read of it at most, how many
-/// bytes of replies it has then, each of 26, and whether the round was busy.
+/// Rounds one by one, of a client that sends two requests in one part and then a third. Of each round: how many bytes
+/// are to be read of the client at most, how many bytes of replies it has then, each of 26, and whether the round was
+/// busy.
 const ONE_BY_ONE: &[(usize, usize, bool)] = &[
     (4096, 26, true),
     // the second request waits for its turn

@@ -20,10 +20,12 @@ fn make_file<R: Files>(rt: &R, path: &str, text: &[u8]) -> io::Result<()> {
     make_new(rt, path, MODE)?.write_all(text)
 }
 
-/// Hands the entries over to the runner that is started next for the number: in a file of mode 600, of 16,384 bytes at least.
+/// Hands the entries over to the runner that is started next for the number: in a file of mode 600, of 16,384 bytes at
+/// least.
 ///
-/// `NoMemory` where memory is wanting, and `System` of the kind InvalidInput where an entry has a zero byte, as no process can be given one, both
-/// before the folder is touched; `System` where the folder or its disk refuses the file, of which nothing is left then.
+/// `NoMemory` if memory is wanting, and `System` of the kind InvalidInput if an entry has a zero byte, as no process
+/// can be given one. Both are returned before the folder is touched. `System` if the folder or its disk refuses the
+/// file, of which nothing is left then.
 pub fn hand_over<R: Files>(
     rt: &R,
     alloc: Global,
