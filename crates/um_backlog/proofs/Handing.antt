@@ -1,4 +1,4 @@
--- What is handed to the gate, and what is left.
+-- The bytes handed to the gate, and those that are left.
 use Rattle.std.proofs.Common.{◌≡◌, ◌≢◌, ◌<◌, ◌+◌, ◌++◌, ◌∷◌, [], ℕ, List, Bool, true, false, length, take, drop, nat_lt, refl, sym, ap, ◌∙◌, append_assoc, IsTrue, if◌then◌else◌, inl, subst, arith}
 use Rattle.std.proofs.lemmas.List.{take-append-drop, drop-drop}
 use Rattle.um_backlog.specs.Backlog.{Waits, given_up, is_given_up, most_waiting, writes, drops, HandsOut, HandsWhere, Hands}
@@ -18,7 +18,7 @@ offers_all number (b ∷ bs) taken some = refl
 pub cut : (at n : ℕ) (bytes : List ℕ) → take n (drop at bytes) ++ drop (at + n) bytes ≡ drop at bytes
 cut at n bytes = ap (λ rest. take n (drop at bytes) ++ rest) (sym (drop-drop n at bytes)) ∙ take-append-drop n (drop at bytes)
 
--- a client that is given up behind a write
+-- a client that is given up after a write
 pub gives_up : {h w g f : Bool} (p q r : List Event) (number : ℕ) (old : Waits) (bytes : List ℕ) (is_last : Bool) (taken left all : List ℕ)
     → old.is_over ≡ false → all ≡ old.bytes ++ bytes → taken ++ left ≡ all → is_given_up is_last left ≡ true
     → Logs h w p q (writes number all taken) → Logs g f q r (dropped number ∷ []) → (IsTrue h → IsTrue g) → (IsTrue f → IsTrue w)

@@ -1,3 +1,4 @@
+//! The backlog of the clients of a gate.
 ghost use Rattle.std.specs.Prelude.{◌≡◌, ◌≢◌, ℕ, List, length, replicate, slice_get, IfOk};
 ghost use Rattle.um_gate.specs.Frames.{KeepsGate};
 ghost use Rattle.um_backlog.specs.Backlog.{Waits, nothing, gone, is_behind_at, HandsAt};
@@ -23,7 +24,7 @@ impl Model for Backlog {
 }
 
 impl Backlog {
-    /// Nothing waits for anybody.
+    /// A backlog in which no bytes wait for any client. Refused only for want of memory.
     pub fn new(alloc: Global) -> Result<Backlog, AllocError>
         ensures { IfOk result (λ backlog. backlog ≡ replicate 64 nothing) }
     {
@@ -54,7 +55,7 @@ impl Backlog {
         }
     }
 
-    /// Bytes come for a client; with `is_last` nothing comes behind them. The gate is handed as many as it takes.
+    /// Puts bytes out for a client; with `is_last` none follow them. The gate is handed as many as it takes.
     pub fn put<G: Gate>(&mut self, gate: &mut G, number: usize, bytes: Vec<u8>, is_last: bool)
         ensures hands { (events : List Event) × HandsAt number (slice_get self.old number) bytes.items is_last events (slice_get self.new number)
             × Logs (G.honest gate.old) (G.whole gate.new) (G.past gate.old) (G.past gate.new) events }

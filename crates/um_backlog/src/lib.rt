@@ -1,4 +1,4 @@
-//! What is put out for the clients of a gate and not taken by them yet.
+//! The bytes that are put out for the clients of a gate and not taken by them yet.
 #![tactic(auto)]
 
 mod backlog;

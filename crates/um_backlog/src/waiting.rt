@@ -1,3 +1,4 @@
+//! The bytes that wait for one client.
 ghost use Rattle.std.specs.Prelude.{◌≡◌, ◌≤◌, ◌++◌, ◌∷◌, [], List, ℕ, drop, take, length, true, false, OnErr, OnOk, ◌≢◌};
 ghost use Rattle.um_gate.specs.Frames.{KeepsGate};
 ghost use Rattle.um_backlog.specs.Backlog.{Waits, nothing, given_up, is_behind, is_given_up, writes, Hands};
@@ -7,25 +8,25 @@ use std::alloc::{AllocError, Global};
 use std::marker::Model;
 use um_gate::Gate;
 
-/// More than so many bytes wait for nobody: then the connection is given up.
+/// The most bytes that wait for a client: with more the connection is given up.
 const MOST_WAITING: usize = 64 << 20;
 
-/// While more than so many bytes wait for a client, nothing is read of it.
+/// While more bytes than this wait for a client, nothing is read of it.
 const MOST_UNREAD: usize = 4 << 20;
 
-/// Room past so many bytes is given back once nothing waits in it.
+/// Room past this many bytes is given back once nothing waits in it.
 const KEPT_ROOM: usize = 64 << 10;
 
-/// What waits for one client.
+/// The bytes that wait for one client.
 #[derive(Drop)]
 pub struct Waiting {
     alloc: Global,
     bytes: Vec<u8>,
-    /// So many of them are taken.
+    /// The number of them that are taken.
     at: usize,
-    /// Nothing comes behind them.
+    /// No bytes follow them.
     is_last: bool,
-    /// The connection was given up: nothing more is written to it, until it is told to be closed.
+    /// The connection was given up: nothing more is written to it, until it is reported closed.
     is_over: bool,
 }
 
@@ -38,7 +39,7 @@ impl Model for Waiting {
 }
 
 impl Waiting {
-    /// Nothing waits for it.
+    /// No bytes, and no memory taken.
     pub fn new(alloc: Global) -> Waiting
         ensures { result ≡ nothing }
     {
@@ -51,7 +52,7 @@ impl Waiting {
         }
     }
 
-    /// Its client is gone, and another one may come.
+    /// Its client is gone, and another one may connect.
     pub fn forget(&mut self)
         ensures { self.new ≡ nothing }
     {
@@ -72,7 +73,8 @@ impl Waiting {
         self.at = 0;
     }
 
-    /// What is taken gives its place back, once it is half of what is held: so no more bytes are moved than were taken.
+    /// Gives back the place of the bytes taken, once they are half of those held: so no more bytes are moved than were
+    /// taken.
     fn pack(&mut self)
         ensures { self.new ≡ self.old }
     {
@@ -82,7 +84,7 @@ impl Waiting {
         }
     }
 
-    /// Bytes come behind those that wait; where they find no memory none of them does.
+    /// Adds bytes after those that wait; if they find no memory none of them is added.
     fn push(&mut self, mut bytes: Vec<u8>) -> Result<(), AllocError>
         ensures ok { OnOk result (self.new ≡ record self.old { bytes = self.old.bytes ++ bytes.items }) }
         ensures err { OnErr result ((self.old.bytes ≢ []) × (bytes.items ≢ [])) }
@@ -100,7 +102,7 @@ impl Waiting {
         self.bytes.append(&mut bytes)
     }
 
-    /// Gives the connection up.
+    /// Gives the connection up: drops the bytes that wait, and has the gate drop the connection.
     fn give_up<G: Gate>(&mut self, gate: &mut G, number: usize)
         ensures value { self.new ≡ given_up }
         ensures past { Logs (G.honest gate.old) (G.whole gate.new) (G.past gate.old) (G.past gate.new) (dropped number ∷ []) }
@@ -112,7 +114,7 @@ impl Waiting {
         self.is_over = true;
     }
 
-    /// Hands to the gate what it takes.
+    /// Hands to the gate as many bytes as it takes.
     fn write<G: Gate>(&mut self, gate: &mut G, number: usize)
         ensures taken { (taken : List ℕ) × (taken ++ self.new.bytes ≡ self.old.bytes)
             × Logs (G.honest gate.old) (G.whole gate.new) (G.past gate.old) (G.past gate.new) (writes number self.old.bytes taken) }
@@ -153,8 +155,8 @@ impl Waiting {
         }
     }
 
-    /// Bytes come for its client; with `is_last` nothing comes behind them. The gate is handed as many as it takes. A client is given up
-    /// for which too much waits then, or nothing while nothing comes any more, and one whose bytes find no memory.
+    /// Puts bytes out for its client; with `is_last` none follow them. The gate is handed as many as it takes. A client
+    /// is given up if too many bytes wait for it then, or none while no more follow, and if its bytes find no memory.
     pub fn put<G: Gate>(&mut self, gate: &mut G, number: usize, bytes: Vec<u8>, is_last: bool)
         ensures hands { (events : List Event) × Hands number self.old bytes.items is_last events self.new
             × Logs (G.honest gate.old) (G.whole gate.new) (G.past gate.old) (G.past gate.new) events }

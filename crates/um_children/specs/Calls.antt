@@ -18,6 +18,6 @@ call_of (call.ForgotOthers live next) = model.ForgotOthers live.items next
 abbrev pub calls_of : List Call → List model.Call
 calls_of calls = map call_of calls
 
--- with one call more no number that was told absent starts
+-- with one call more no number that was reported absent starts
 abbrev pub Fits : model.Call → List model.Call → Type 0
 Fits call calls = (n : ℕ) → (was_absent calls n ≡ true → is_start n call ≡ false) × (is_absence n call ≡ true → has_started calls n ≡ false)

@@ -9,19 +9,20 @@ use Rattle.um_model.specs.declared.service.Signal.{Signal}
 use Rattle.um_model.specs.declared.service.Signal.TheVariants.{Term, Kill}
 use Rattle.um_runner.specs.RunnerLines.{handed_words}
 
--- what the shell runs: its words behind the first as a command of its own, which goes on by itself, with no stream of the manager; where the second
--- word names no file that it can execute, it ends with 126 and runs nothing. What the command prints is added to the file of the first word, where that
--- is a regular file which can be written; else it goes to /dev/null
+-- The shell's program: its words after the first become a command of its own, which goes on by itself, with no stream
+-- of the manager. If the second word names no file that it can execute, it ends with 126 and runs nothing. The
+-- command's output is appended to the file of the first word, if that is a regular file which can be written, and else
+-- goes to /dev/null.
 abbrev pub detaching : List ℕ
 detaching =
     codes "o=$1; shift; case $1 in */*) p=$1;; *) p=$(command -v \"$1\");; esac && test -f \"$p\" && test -x \"$p\" || exit 126; "
     ++ codes "test -f \"$o\" && true 2>/dev/null >>\"$o\" || o=/dev/null; exec </dev/null >>\"$o\" 2>&1; \"$@\" &"
 
--- what the shell runs: nothing, and it fails where its word names no file that it can execute
+-- the shell's program: nothing, and it fails if its word names no file that it can execute
 abbrev pub finding : List ℕ
 finding = codes "case $1 in */*) p=$1;; *) p=$(command -v \"$1\");; esac && test -f \"$p\" && test -x \"$p\""
 
--- what the shell runs: the signal of its first word to the pid of its second
+-- the shell's program: the signal of its first word to the pid of its second
 abbrev pub signalling : List ℕ
 signalling = codes "kill -s \"$1\" \"$2\""
 

@@ -10,7 +10,7 @@ use Rattle.um_runner.specs.declared.fault.FolderFault.TheVariants as folder
 use Rattle.um_wire.specs.declared.refusal.Refusal.{Refusal}
 use Rattle.um_wire.specs.declared.refusal.Refusal.TheVariants as refusal
 
--- what the folder of the runners refuses is a failure of the children
+-- a refusal of the folder of the runners is a failure of the children
 abbrev pub fault_of : FolderFault → ChildFault
 fault_of folder.NoMemory = fault.NoMemory
 fault_of (folder.System error) = fault.Device

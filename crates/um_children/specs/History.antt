@@ -1,4 +1,4 @@
--- What each call adds to the history of calls, and what the history says of a number.
+-- The entry of each call in the history of calls, and the facts of a number in it.
 use Rattle.std.specs.Prelude.{◌≡◌, ◌&&◌, ◌==◌, ◌++◌, ◌∷◌, [], ℕ, List, Bool, true, false, not, Option, Result}
 use Rattle.std.specs.List.{list_any}
 use Rattle.std.specs.Option.{option_map_or}
@@ -12,7 +12,7 @@ abbrev pub is_absent : Fate → Bool
 is_absent Absent = true
 is_absent other = false
 
--- whether absence was told
+-- whether absence was reported
 abbrev pub tells_absent : Option Fate → Bool
 tells_absent told = option_map_or is_absent told false
 
@@ -21,7 +21,7 @@ abbrev pub is_start : ℕ → Call → Bool
 is_start n (Spawned spawn is_taken starts) = starts && (spawn.number == n)
 is_start n other = false
 
--- whether a call tells that the number is absent
+-- whether a call reports that the number is absent
 abbrev pub is_absence : ℕ → Call → Bool
 is_absence n (Asked number claim told) = tells_absent told && (number == n)
 is_absence n other = false
@@ -30,11 +30,11 @@ is_absence n other = false
 abbrev pub has_started : List Call → ℕ → Bool
 has_started calls n = list_any (is_start n) calls
 
--- whether the number was told absent
+-- whether the number was reported absent
 abbrev pub was_absent : List Call → ℕ → Bool
 was_absent calls n = list_any (is_absence n) calls
 
--- no number that was told absent starts
+-- no number that was reported absent starts
 abbrev pub IsFinal : List Call → Type 0
 IsFinal calls = (n : ℕ) → was_absent calls n ≡ true → has_started calls n ≡ false
 
@@ -46,19 +46,19 @@ Spawns spawn result old new = (starts : Bool) × (new ≡ old ++ Spawned spawn (
 abbrev pub Signals : ℕ → Signal → List Call → List Call → Type 0
 Signals number signal old new = new ≡ old ++ Signalled number signal ∷ []
 
--- a fate that was asked is one call more, with what was told
+-- a fate that was queried is one call more, with its result
 abbrev pub Asks : {E : Type 0} → ℕ → Bool → Result Fate E → List Call → List Call → Type 0
 Asks number claim result old new = new ≡ old ++ Asked number claim (result_ok result) ∷ []
 
--- that what is kept of a number is let go is one call more, whatever it answered
+-- forgetting a number is one call more, whatever it answered
 abbrev pub Forgets : ℕ → List Call → List Call → Type 0
 Forgets number old new = new ≡ old ++ Forgot number ∷ []
 
--- that what is kept of all others below the next number is let go is one call more, whatever it answered
+-- forgetting all others below the next number is one call more, whatever it answered
 abbrev pub ForgetsOthers : List ℕ → ℕ → List Call → List Call → Type 0
 ForgetsOthers live next old new = new ≡ old ++ ForgotOthers live next ∷ []
 
--- whether a call lets go what is kept of the number
+-- whether a call forgets the number
 abbrev pub lets_go : ℕ → Call → Bool
 lets_go n (Forgot number) = number == n
 lets_go n (ForgotOthers live next) = not (list_any (λ m. m == n) live)
@@ -70,6 +70,6 @@ lets_any (Forgot number) = true
 lets_any (ForgotOthers live next) = true
 lets_any other = false
 
--- of no number that passes the test these calls let go what is kept
+-- these calls forget no number that passes the test
 abbrev pub Spares : (ℕ → Bool) → List Call → Type 0
 Spares test calls = (n : ℕ) → test n ≡ true → list_any (lets_go n) calls ≡ false

@@ -1,4 +1,4 @@
--- How a number stands by the files of its runner, and what is told of it.
+-- How a number stands by the files of its runner, and the fate that is reported of it.
 -- No manual page has this: the runner's files are the project's own (docs/FORMATS.md, "The files of a process").
 -- Children through runners stand on this file.
 use Rattle.std.specs.Prelude.{◌&&◌, Bool, true, false, not, Option, Some, None, Result, Ok, is_none, if◌then◌else◌}
@@ -14,7 +14,7 @@ use Rattle.um_runner.specs.declared.notes.Told.TheVariants.{Nothing, NoPid, Pid}
 use Rattle.um_children.specs.declared.standing.Standing.{Standing}
 use Rattle.um_children.specs.declared.standing.Standing.TheVariants.{Silent, Taken, Running, Ended, Barred}
 
--- what is told of a number that stands so: one that the manager has claimed is absent where it is asked with a claim
+-- the fate of a number that stands so: one that the manager has claimed is absent if it is queried with a claim
 abbrev pub fate_of : Standing → Bool → Fate
 fate_of Silent claim = fate.Starting
 fate_of Taken claim = fate.Starting
@@ -22,13 +22,13 @@ fate_of (Running pid) claim = fate.Executed
 fate_of (Ended end) claim = fate.Ended end
 fate_of Barred claim = if claim then fate.Absent else fate.Starting
 
--- who has claimed a number decides: what the manager has claimed never starts
+-- the claimant decides: a number that the manager has claimed never starts
 abbrev pub claimed : Claiming → Standing
 claimed New = Barred
 claimed (Stands Manager) = Barred
 claimed (Stands Runner) = Taken
 
--- what the pid file tells of a number that hasn't ended; where it isn't there the number stands as before
+-- the standing by the pid file of a number that hasn't ended; if it isn't there the number stands as before
 abbrev pub by_pid : Told → Standing → Standing
 by_pid (Pid pid) before = Running (Some pid)
 by_pid NoPid before = Running None
@@ -42,7 +42,7 @@ is_final (Running pid) = false
 is_final (Ended end) = true
 is_final Barred = true
 
--- it runs, and no signal waits for its pid: what is told of it changes by a file alone
+-- it runs, and no signal waits for its pid: its fate changes by a file alone
 abbrev pub is_settled : Standing → Option Signal → Bool
 is_settled (Running pid) None = true
 is_settled (Running pid) (Some signal) = false
@@ -51,11 +51,11 @@ is_settled Taken kept = false
 is_settled (Ended end) kept = false
 is_settled Barred kept = false
 
--- its runner is to tell what becomes of it, and no signal waits: nobody else changes what is told of it
+-- its runner is to report on it, and no signal waits: nobody else changes its fate
 abbrev pub waits_for_runner : Standing → Option Signal → Bool
 waits_for_runner standing kept = not (is_final standing) && is_none kept
 
--- a fate was told of which a runner is to tell more: the process is starting, or runs
+-- a fate of which a runner is to report more: the process is starting, or runs
 abbrev pub goes_on : {E : Type 0} → Result Fate E → Bool
 goes_on (Ok fate.Starting) = true
 goes_on (Ok fate.Executed) = true

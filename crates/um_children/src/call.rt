@@ -1,3 +1,4 @@
+//! The calls of children, as their history keeps them.
 ghost use Rattle.std.specs.Prelude.{◌≡◌, ◌&&◌, false, IfOk};
 ghost use Rattle.um_children.specs.History.{tells_absent, is_start, is_absence};
 ghost use Rattle.um_children.specs.Calls.{call_of};
@@ -22,25 +23,25 @@ pub enum Call {
         number: ProcessNumber,
         signal: Signal,
     },
-    /// A fate that was asked.
+    /// A fate that was queried.
     Asked {
         number: ProcessNumber,
         claim: bool,
         /// Nothing where the call failed.
         told: Option<Fate>,
     },
-    /// What is kept of a number was let go.
+    /// A number was forgotten.
     Forgot {
         number: ProcessNumber,
     },
-    /// What is kept of each other number that has ended was let go; from the next number on none was ever started.
+    /// Each other number that has ended was forgotten; from the next number on none was ever started.
     ForgotOthers {
         live: Vec<ProcessNumber>,
         next: NextNumber,
     },
 }
 
-/// Whether absence was told.
+/// Whether absence was reported.
 fn tells_absent(told: Option<Fate>) -> bool
     ensures { result ≡ tells_absent told }
 {
@@ -64,7 +65,7 @@ impl Call {
         }
     }
 
-    /// Whether it tells that the process is absent.
+    /// Whether it reports that the process is absent.
     pub fn is_absence(&self, process: ProcessNumber) -> bool
         ensures { result ≡ is_absence process (call_of self.now) }
     {
@@ -78,7 +79,7 @@ impl Call {
         }
     }
 
-    /// The call again.
+    /// A copy of the call. Refused only for want of memory.
     pub fn copy(&self, alloc: Global) -> Result<Call, AllocError>
         ensures { IfOk result (λ call. call_of call ≡ call_of self.now) }
     {

@@ -9,9 +9,10 @@ use std::process::Command;
 use um_keeper::SpawnOrder;
 use um_model::Signal;
 
-/// Its words behind the first become a command of its own, with no stream of the manager; nobody waits for it. What it prints is added to the file of
-/// the first word: to a regular file that is there and can be written, and else to nothing, and nobody is held up by a pipe. One that isn't there, or
-/// that nobody can execute, is told by the status. A path is looked at as it stands, since each `$(..)` is one process more.
+/// The words after the first become a command of its own, with no stream of the manager; nobody waits for it. Its
+/// output is appended to the file of the first word, if that is a regular file that can be written, and else goes
+/// nowhere, so no pipe holds anybody up. The status shows a command that isn't there, or that nobody can execute. A
+/// path is looked at as it stands, since each `$(..)` is one process more.
 const DETACHING: &str =
     "o=$1; shift; case $1 in */*) p=$1;; *) p=$(command -v \"$1\");; esac && test -f \"$p\" && test -x \"$p\" || exit 126; test -f \"$o\" && true 2>/dev/null >>\"$o\" || o=/dev/null; exec </dev/null >>\"$o\" 2>&1; \"$@\" &";
 
@@ -21,7 +22,7 @@ const FINDING: &str =
 
 const SIGNALLING: &str = "kill -s \"$1\" \"$2\"";
 
-/// Adds the words.
+/// Adds words as arguments, in their order.
 fn add(command: &mut Command, words: &[&str]) -> Result<(), AllocError>
     ensures program { OnOk result (command_program command.new ≡ command_program command.old) }
     ensures args { OnOk result (command_args command.new ≡ command_args command.old ++ lent words.now) }
@@ -32,7 +33,7 @@ fn add(command: &mut Command, words: &[&str]) -> Result<(), AllocError>
     Ok(())
 }
 
-/// Adds the texts.
+/// Adds texts as arguments, in their order.
 fn add_texts(command: &mut Command, texts: &[String]) -> Result<(), AllocError>
     ensures program { OnOk result (command_program command.new ≡ command_program command.old) }
     ensures args { OnOk result (command_args command.new ≡ command_args command.old ++ map string_bytes texts.now) }
@@ -71,8 +72,8 @@ fn add_place(
     add(command, &["--env-file", "--"])
 }
 
-/// The command that starts the runner at `program` for an order, in the folder, and has what it prints added to the file `output`. The order's
-/// environment isn't among its words, which any user may read.
+/// The command that starts the runner at `program` for an order, in the folder, and has its output appended to the file
+/// `output`. The order's environment isn't among its words, which any user may read.
 pub fn start_command(
     alloc: Global,
     output: &str,

@@ -1,3 +1,4 @@
+//! Children in memory, for tests.
 ghost use Rattle.std.specs.Prelude.{IfErr, ◌≡◌, ◌⊎◌, ◌||◌, ◌∷◌, ◌++◌, [], List, IsTrue, true, false, not, if◌then◌else◌, is_ok, IfOk, OnOk, OnErr};
 ghost use Rattle.um_model.specs.Children.{Spawned};
 ghost use Rattle.um_model.specs.Disk.{one_more};
@@ -16,12 +17,12 @@ use um_model::{End, Fate, NextNumber, ProcessNumber, Signal};
 
 /// Children in memory, for tests. They are honest, and keep each call.
 ///
-/// A number that was started is executed until `ends` tells its end; another one is starting, or absent under a claim. A call that
-/// finds no memory for its note fails.
+/// A number that was started is executed until `ends` sets its end; another one is starting, or absent under a claim. A
+/// call that finds no memory for its note fails.
 pub struct FakeChildren {
     calls: Vec<Call>,
     ends: Vec<(ProcessNumber, End)>,
-    /// So many calls from now on one fails: 1 is the next, 0 none.
+    /// The call that fails, counted from now on: 1 is the next, 0 none.
     fuse: u64,
     /// A call is missing from the notes.
     lost: bool,
@@ -64,7 +65,7 @@ fn was_absent(calls: &[Call], number: ProcessNumber) -> bool
     false
 }
 
-/// The end of the number that was told first.
+/// The end that was set first for the number.
 fn end_of(ends: &[(ProcessNumber, End)], number: ProcessNumber) -> Option<End>
     ensures { result ≡ end_of ends.now number }
 {
@@ -123,7 +124,7 @@ fn ends_copied(
 }
 
 impl FakeChildren {
-    /// Children of which nothing was asked yet. It takes no memory.
+    /// Children with no calls yet. It takes no memory.
     pub fn new(alloc: Global) -> FakeChildren
         ensures calls { result.calls.items ≡ [] }
         ensures ends { result.ends.items ≡ [] }
@@ -154,7 +155,7 @@ impl FakeChildren {
         self.failures
     }
 
-    /// From now on the process of this number, once it was started, has ended so. An end that was told earlier stands.
+    /// From now on the process of this number, once it was started, has ended so. An end that was set earlier stands.
     pub fn ends(&mut self, number: ProcessNumber, end: End) -> Result<(), AllocError>
         ensures ends { OnOk result (self.new.ends.items ≡ self.old.ends.items ++ (number, end) ∷ []) }
         ensures err { OnErr result (self.new.ends.items ≡ self.old.ends.items) }
@@ -243,8 +244,8 @@ impl Children for FakeChildren {
 
     ghost absence_is_final = { λ f _. f.kept };
 
-    /// The number starts unless the call fails, it was told to be absent, or the order is too long, which is noted as a start that was
-    /// refused.
+    /// The number starts unless the call fails, it was reported absent, or the order is too long, which is noted as a
+    /// start that was refused.
     fn spawn(&mut self, order: SpawnOrder) -> Result<(), ChildFault>
         ensures past { IsTrue true → IsTrue (not self.new.lost) → Spawns order result (calls_of self.old.calls.items) (calls_of self.new.calls.items) }
         ensures bound { OnOk result (is_too_long order.words order.environment ≡ false) }

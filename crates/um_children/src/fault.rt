@@ -1,3 +1,4 @@
+//! Why a call to the children isn't done.
 ghost use Rattle.std.specs.Prelude.{◌≡◌};
 ghost use Rattle.um_children.specs.Faults.{fault_of, refusal_of};
 

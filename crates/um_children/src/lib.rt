@@ -1,4 +1,5 @@
-//! Processes under numbers: what is asked of them and what they tell, in memory for tests, and through a runner for each process.
+//! Processes under numbers: the calls on them and the fates they report, in memory for tests, and through a runner for
+//! each process.
 #![tactic(auto)]
 
 mod call;

@@ -1,4 +1,4 @@
-//! The file of what a process prints.
+//! The file of a process's output.
 
 use std::alloc::Global;
 use std::fs::{Files, OpenOptions};
@@ -13,8 +13,8 @@ pub(crate) const NOWHERE: &str = "/dev/null";
 /// Its owner alone reads and writes it.
 const MODE: u32 = 0o600;
 
-/// The name in the folder of an empty file that the next start takes. It is made behind a start: a new file takes a disk its time, and a start is waited
-/// for until it is ordered.
+/// The name in the folder of an empty file that the next start takes. It is made after a start: a disk takes its time
+/// to make a new file, and a start is waited for until it is ordered.
 const AHEAD: &str = "next";
 
 fn path_ahead(alloc: Global, folder: &str) -> io::Result<String> {
@@ -34,7 +34,7 @@ fn try_ahead<R: Files>(rt: &R, alloc: Global, folder: &str) -> io::Result<()> {
     make_new(rt, path_ahead(alloc, folder)?.as_str())
 }
 
-/// The same; where it can't be made the next start makes its file itself, and tells why that fails.
+/// The same; if it can't be made the next start makes its file itself, and reports why that fails.
 pub(crate) fn make_ahead<R: Files>(rt: &R, alloc: Global, folder: Option<&str>) {
     if let Some(folder) = folder {
         let _made = try_ahead(rt, alloc, folder);
@@ -46,7 +46,7 @@ fn try_drop_ahead<R: Files>(rt: &R, alloc: Global, folder: &str) -> io::Result<(
     fs::remove_file(rt, path_ahead(alloc, folder)?.as_str())
 }
 
-/// Makes the first file ahead, in place of what an earlier manager left.
+/// Makes the first file ahead, in place of the one that an earlier manager left.
 pub(crate) fn begin_ahead<R: Files>(rt: &R, alloc: Global, folder: &str) {
     let _gone = try_drop_ahead(rt, alloc, folder);
     make_ahead(rt, alloc, Some(folder));
@@ -84,7 +84,7 @@ fn make_of<R: Files>(
     Ok(path)
 }
 
-/// What was made for what a process prints.
+/// The result of making a file for the output of a process.
 #[derive(Debug, Drop)]
 pub(crate) enum Output {
     /// Nothing: no output is kept.
@@ -96,7 +96,7 @@ pub(crate) enum Output {
 }
 
 impl Output {
-    /// Makes a new file for the number in the folder, where one is told.
+    /// Makes a new file for the number in the folder, if there is one.
     pub(crate) fn of<R: Files>(
         rt: &R,
         alloc: Global,
@@ -131,7 +131,7 @@ impl Output {
     /// Removes the file again, to which nobody has written.
     pub(crate) fn take_back<R: Files>(&self, rt: &R) {
         if let Output::New(path) = self {
-            // what is left where this fails is empty, and goes at an opening
+            // a file that is left because this fails is empty, and goes at an opening
             let _left = fs::remove_file(rt, path.as_str());
         }
     }

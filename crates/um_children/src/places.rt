@@ -16,7 +16,7 @@ use um_runner::{
 /// The folder is the manager's own.
 const MODE: u32 = 0o700;
 
-/// Others may write what has one of these.
+/// The mode bits by which others may write a file.
 const WRITABLE: u32 = 0o022;
 
 /// Why there are no children over a folder.
@@ -31,10 +31,10 @@ pub enum OpenFault {
     /// Its owner could put files there in the place of the manager's and the runners'.
     #[error("the folder of processes is another user's")]
     Owner,
-    /// Others could.
+    /// Others than the owner may write it.
     #[error("others may write the folder of processes")]
     Writable,
-    /// The system refuses it.
+    /// The system refuses the folder, for this cause.
     #[error("{0}")]
     System(io::Error),
 }
@@ -126,7 +126,7 @@ fn is_running<R: Files>(rt: &R, alloc: Global, pid: u32) -> bool {
     }
 }
 
-/// Whether the process that a pid file tells runs, and has no status.
+/// Whether the process that a pid file names runs, and has no status.
 fn runs<R: Files>(
     rt: &R,
     alloc: Global,
@@ -170,7 +170,7 @@ pub(crate) fn bar<R: Files>(
     let claiming = claim(rt, alloc, folder, number, Claimant::Manager)?;
     let standing = Standing::claimed(claiming);
     if standing == Standing::Barred {
-        // what is left where this fails goes at an opening
+        // a file that is left because this fails goes at an opening
         let _left = take_back(rt, alloc, folder, number);
     }
     Ok(standing)
@@ -191,7 +191,7 @@ pub(crate) fn greatest_from(
     ProcessNumber::new(greatest)
 }
 
-/// How many processes these files tell of that run and aren't live. What can't be read counts as none.
+/// The number of processes that run by these files and aren't live. A file that can't be read counts as none.
 pub(crate) fn count_unmanaged<R: Files>(
     rt: &R,
     alloc: Global,

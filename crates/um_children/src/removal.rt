@@ -1,4 +1,4 @@
-//! What goes of a number whose status stands in the folder of the runners' files.
+//! Removes the files of a number whose status stands in the folder of the runners' files.
 
 use crate::trouble::Trouble;
 use std::alloc::Global;
@@ -8,7 +8,7 @@ use std::{fs, io};
 use um_model::ProcessNumber;
 use um_runner::{Claimant, RunnerFile, file_path, read_claim, status_in};
 
-/// What is left of a number, the claim first and the status last.
+/// The files that are left of a number, the claim first and the status last.
 const LEFT: [RunnerFile; 8] = [
     RunnerFile::Claim,
     RunnerFile::ManagerDraft,

@@ -1,3 +1,4 @@
+//! Processes through runners, by the files of a folder.
 ghost use Rattle.std.specs.Prelude.{◌≡◌, [], true, false, Ok, IfOk};
 ghost use Rattle.std.proofs.lemmas.Bool.{false≢true};
 ghost use Rattle.um_children.specs.History.{is_absent};
@@ -27,33 +28,36 @@ use um_keeper::SpawnOrder;
 use um_model::{Fate, NextNumber, ProcessNumber, Signal};
 use um_runner::{RunnerFile, take_back};
 
-/// Processes through runners: each is started by a runner of its own, which outlives the manager and tells of it by files in a folder.
+/// Processes through runners: each is started by a runner of its own, which outlives the manager and reports on it by
+/// files in a folder.
 ///
-/// What files and processes do no contract can say. So `honest` isn't claimed of it, and of the clauses of `Children` those on counts,
-/// claims and the bound of a start alone say something here: that a runner does what its files tell is a premise of what is proved above.
+/// No contract can say what files and processes do. So `honest` isn't claimed of it, and of the clauses of `Children`
+/// only those on counts, claims and the bound of a start say something here. That a runner does what its files say is a
+/// premise of the proofs above.
 ///
-/// Fates are asked in rounds, each in ascending order: a number that isn't above the last one begins a round, and the folder is looked
-/// at once a round. Where nothing came, a fate costs no call of the system but once a second; and `has_news` tells whether a round is worth its while.
+/// Fates are queried in rounds, each in ascending order: a number that isn't above the last one begins a round, and the
+/// folder is looked at once a round. If nothing arrived, a fate costs no call of the system except once a second; and
+/// `has_news` says whether a round is worth its while.
 pub struct RunnerDir<'a, R: Files + Processes + Clock> {
     rt: &'a R,
     alloc: Global,
     /// The path of the runner's program.
     program: String,
     folder: String,
-    /// The folder of the files of what processes print; none where that isn't kept.
+    /// The folder of the output files of processes; none if output isn't kept.
     output: Option<&'a str>,
-    /// What was made for the output of the process that was started last.
+    /// The result of making a file for the output of the process that was started last.
     printed: Output,
     known: BTreeMap<u64, Known>,
     watch: Watch,
-    /// The number that was asked last.
+    /// The number that was queried last.
     last: u64,
-    /// The next round may tell or do something even where no file comes.
+    /// The next round may report or do something even if no file arrives.
     is_restless: bool,
-    /// And it should come soon, since no runner may wake the manager for that.
+    /// And it should follow soon, since no runner may wake the manager for that.
     is_pressed: bool,
     failures: u64,
-    /// What failed in the last call that did.
+    /// The cause of the last failure of a call.
     cause: Option<Cause>,
     /// How long numbers have been silent, those alone that are.
     silences: BTreeMap<u64, Silence>,
@@ -63,7 +67,7 @@ pub struct RunnerDir<'a, R: Files + Processes + Clock> {
     unsignalled: Option<ProcessNumber>,
     /// The greatest number of which the folder has a file though it was never started from this store.
     foreign: Option<ProcessNumber>,
-    /// So many processes run that aren't live.
+    /// The number of processes that run and aren't live.
     unmanaged: u64,
 }
 
@@ -101,7 +105,7 @@ fn admit(foreign: Option<ProcessNumber>) -> Result<(), Trouble> {
     }
 }
 
-/// What is known of the number.
+/// The facts known of the number.
 fn known_in(known: &BTreeMap<u64, Known>, number: ProcessNumber) -> Known {
     match known.get(&number.get()) {
         Some(known) => *known,
@@ -109,7 +113,8 @@ fn known_in(known: &BTreeMap<u64, Known>, number: ProcessNumber) -> Known {
     }
 }
 
-/// What is known of the number after so many changes of the folder; its files are read where anything may have come since they were read.
+/// The facts known of the number after `changes` changes of the folder; its files are read if anything may have arrived
+/// since they were read.
 fn look<R: Files>(
     rt: &R,
     alloc: Global,
@@ -172,8 +177,8 @@ impl<'a, R: Files + Processes + Clock> RunnerDir<'a, R> {
         })
     }
 
-    /// From now on what a process prints goes to a new file of this folder, under its number; it has mode 600, and is removed again where the start is
-    /// refused. Where none can be made it goes to nothing, and the start is no other for that.
+    /// From now on the output of a process goes to a new file of this folder, under its number; it has mode 600, and is
+    /// removed again if the start is refused. If none can be made the output goes nowhere, and the start is the same.
     pub fn keep_output(&mut self, folder: &'a str)
         ensures failures { self.new.failures ≡ self.old.failures }
     {
@@ -181,7 +186,7 @@ impl<'a, R: Files + Processes + Clock> RunnerDir<'a, R> {
         self.output = Some(folder);
     }
 
-    /// Why no file could be made for what the process prints that was started last, where none could.
+    /// Why no file could be made for the output of the process that was started last, if none could.
     pub fn output_fault(&self) -> Option<&io::Error> {
         self.printed.fault()
     }
@@ -193,26 +198,28 @@ impl<'a, R: Files + Processes + Clock> RunnerDir<'a, R> {
         self.failures
     }
 
-    /// Whether a round of fates may tell or do anything that the last one didn't: a file may have come, a number is starting or has an end
-    /// or an absence that is told again, a signal waits for its pid, a call of the last round failed, or one was started or signalled behind
-    /// it. It costs one look at the folder's time, and none where one of the others is known.
+    /// Whether a round of fates may report or do anything that the last one didn't. That is so if a file may have
+    /// arrived, a number is starting or has an end or an absence that is reported again, or a signal waits for its pid.
+    /// It is also so if a call of the last round failed, or a process was started or signalled after it. It costs one
+    /// look at the folder's time, and none if one of the others is known.
     ///
-    /// What is kept of the last round has to be that of all numbers whose fate is asked.
+    /// The known facts of the last round have to be those of all numbers whose fate is queried.
     pub fn has_news(&self) -> bool
         ensures { self.now.is_restless ≡ true → result ≡ true }
     {
         self.is_restless || self.watch.has_changed(self.rt, self.folder.as_str())
     }
 
-    /// Whether the next round of fates should come soon, though no runner may wake the manager: a call of the last round failed, a signal waits for its
-    /// pid, an end or an absence is told again, or one was started or signalled behind it.
+    /// Whether the next round of fates should follow soon, though no runner may wake the manager. That is so if a call
+    /// of the last round failed, a signal waits for its pid, an end or an absence is reported again, or a process was
+    /// started or signalled after it.
     pub fn is_pressed(&self) -> bool
         ensures { result ≡ self.now.is_pressed }
     {
         self.is_pressed
     }
 
-    /// The folder.
+    /// The path of the folder of processes.
     pub fn folder(&self) -> &str {
         self.folder.as_str()
     }
@@ -222,7 +229,7 @@ impl<'a, R: Files + Processes + Clock> RunnerDir<'a, R> {
         self.program.as_str()
     }
 
-    /// What it is that failed.
+    /// The path that a failure is about.
     fn place_of(&self, cause: &Cause) -> &str {
         match cause {
             Cause::Folder(_) | Cause::Foreign | Cause::Unsignalled => self.folder.as_str(),
@@ -231,7 +238,7 @@ impl<'a, R: Files + Processes + Clock> RunnerDir<'a, R> {
         }
     }
 
-    /// What failed in the last call that failed, and where.
+    /// The path and the cause of the last failure of a call.
     pub fn trouble(&self) -> Option<(&str, &Cause)> {
         match &self.cause {
             Some(cause) => Some((self.place_of(cause), cause)),
@@ -239,7 +246,7 @@ impl<'a, R: Files + Processes + Clock> RunnerDir<'a, R> {
         }
     }
 
-    /// Whether the runner's program is there and can be executed, as far as a shell can tell.
+    /// Whether the runner's program is there and can be executed, as far as a shell can see.
     pub fn has_runner(&self) -> bool {
         match finding_command(self.alloc, self.program.as_str()) {
             Ok(command) => has_run(self.rt, command).unwrap_or(true),
@@ -252,13 +259,14 @@ impl<'a, R: Files + Processes + Clock> RunnerDir<'a, R> {
         self.watch.is_gone()
     }
 
-    /// The number whose fate was asked last, where for ten seconds nobody has claimed it and this wasn't told of it yet.
+    /// The number whose fate was queried last, if for ten seconds nobody has claimed it and this wasn't reported of it
+    /// yet.
     pub fn silent(&self) -> Option<ProcessNumber> {
         self.silent
     }
 
-    /// The number whose fate was asked last, where a signal that was kept for it couldn't be sent though its process is there. It is kept no
-    /// longer.
+    /// The number whose fate was queried last, if a signal that was kept for it couldn't be sent though its process is
+    /// there. It is kept no longer.
     pub fn unsignalled(&self) -> Option<ProcessNumber> {
         self.unsignalled
     }
@@ -269,12 +277,13 @@ impl<'a, R: Files + Processes + Clock> RunnerDir<'a, R> {
         self.foreign
     }
 
-    /// How many processes ran at `forget_others` that aren't live, and of which nothing tells an end: those of an earlier boot.
+    /// The number of processes that ran at `forget_others`, aren't live, and have no reported end: those of an earlier
+    /// boot.
     pub fn unmanaged(&self) -> u64 {
         self.unmanaged
     }
 
-    /// Counts the call where it failed, and keeps what did.
+    /// Counts the call if it failed, and keeps the cause.
     fn count<T: Drop>(&mut self, answer: Result<T, Trouble>) -> Result<T, ChildFault>
         ensures same { IfOk result (λ value. answer ≡ Ok value) }
         ensures failures { CountsFault result self.old.failures self.new.failures }
@@ -319,8 +328,8 @@ impl<'a, R: Files + Processes + Clock> RunnerDir<'a, R> {
         self.last = number.get();
     }
 
-    /// What is known of the number, once it was claimed where it has to be, and a kept signal was sent where it can be; and whether its process
-    /// is there and can't be signalled.
+    /// The facts known of the number, once it was claimed where it has to be, and a kept signal was sent where it can
+    /// be; and whether its process is there and can't be signalled.
     fn learn(
         &self,
         number: ProcessNumber,
@@ -336,8 +345,8 @@ impl<'a, R: Files + Processes + Clock> RunnerDir<'a, R> {
         Ok(send_kept(self.rt, self.alloc, known))
     }
 
-    /// Whether a number of which so much is known runs, as it did when it was looked at last: no signal waits for its pid, and nothing may have
-    /// come since its files were read. So it is with most, and nothing is to be done for them.
+    /// Whether a number with these known facts runs, as it did when it was looked at last: no signal waits for its pid,
+    /// and no file may have arrived since its files were read. So it is with most, and nothing is to be done for them.
     fn runs_on(&self, known: Known) -> bool {
         known.is_settled() && known.changes == Some(self.watch.changes()) && self.foreign.is_none()
     }
@@ -371,7 +380,8 @@ impl<'a, R: Files + Processes + Clock> RunnerDir<'a, R> {
         Ok(known.standing.fate(claim))
     }
 
-    /// Sends the signal where the pid is there, and tells whether nothing is left to be done: false where it isn't there yet.
+    /// Sends the signal if the pid is there, and returns whether nothing is left to be done: false if it isn't there
+    /// yet.
     fn has_sent(
         &self,
         number: ProcessNumber,
@@ -425,7 +435,8 @@ impl<'a, R: Files + Processes + Clock> RunnerDir<'a, R> {
         Ok(take_back(self.rt, self.alloc, self.folder.as_str(), number)?)
     }
 
-    /// Lets go what this file of a number that isn't live tells to go: all, where it is the status, and entries that no runner has taken.
+    /// Drops the files that this file of a number that isn't live allows to drop: all, if it is the status, and entries
+    /// that no runner has taken.
     fn let_go(&mut self, number: ProcessNumber, file: RunnerFile) -> Result<(), ChildFault>
         ensures failures { CountsFault result self.old.failures self.new.failures }
     {
@@ -461,7 +472,7 @@ impl<'a, R: Files + Processes + Clock> RunnerDir<'a, R> {
 }
 
 impl<'a, R: Files + Processes + Clock> Children for RunnerDir<'a, R> {
-    // No clause reads it, since nothing is claimed of what files and processes do.
+    // No clause reads it, since nothing is claimed of files and processes.
     ghost past = { λ _. [] };
 
     ghost whole = { λ _. true };
@@ -494,10 +505,12 @@ impl<'a, R: Files + Processes + Clock> Children for RunnerDir<'a, R> {
         self.count(answer)
     }
 
-    /// Removes the files of the number, so that the folder doesn't grow with time. Its runner has ended, once its status stands there;
-    /// where it doesn't, nothing is removed. A claim of the manager stays, since a late runner must still find it.
+    /// Removes the files of the number, so that the folder doesn't grow with time. Its runner has ended, once its
+    /// status stands there; if it doesn't, nothing is removed. A claim of the manager stays, since a late runner must
+    /// still find it.
     ///
-    /// `NoMemory` where a growth was refused, `Device` where the system refuses: a later call removes what was left.
+    /// `NoMemory` where a growth was refused, `Device` where the system refuses: a later call removes the files that
+    /// were left.
     fn forget(&mut self, number: ProcessNumber) -> Result<(), ChildFault> {
         let answer = self.remove_files(number);
         if known_in(&self.known, number).standing.is_final() {
@@ -506,10 +519,12 @@ impl<'a, R: Files + Processes + Clock> Children for RunnerDir<'a, R> {
         self.count(answer)
     }
 
-    /// Removes the files of each other number whose status stands in the folder, as `forget` does, and of each the entries that no runner has
-    /// taken. Where files stand there of a number that was never started nothing is removed, and it is noted (`foreign`).
+    /// Removes the files of each other number whose status stands in the folder, as `forget` does, and of each the
+    /// entries that no runner has taken. If files stand there of a number that was never started nothing is removed,
+    /// and it is noted (`foreign`).
     ///
-    /// `NoMemory` where a growth was refused, `Device` where the folder is another store's, or the system refuses: a later call removes what was left.
+    /// `NoMemory` where a growth was refused, `Device` where the folder is another store's, or the system refuses: a
+    /// later call removes the files that were left.
     fn forget_others(
         &mut self,
         live: &[ProcessNumber],

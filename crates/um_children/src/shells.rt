@@ -32,8 +32,8 @@ fn by_shell(error: io::Error) -> Trouble {
     Trouble::Failed(Cause::Shell(error))
 }
 
-/// Starts the runner at `program` for the order, with `output` as the file of what it prints, and hands it the environment over. A runner tells nobody
-/// that it found no folder.
+/// Starts the runner at `program` for the order, with `output` as the file of the process's output, and hands it the
+/// environment over. A runner that found no folder reports that to nobody.
 pub(crate) fn start<R: Files + Processes>(
     rt: &R,
     alloc: Global,
@@ -52,7 +52,7 @@ pub(crate) fn start<R: Files + Processes>(
     match has_run(rt, command) {
         Ok(true) => Ok(()),
         Ok(false) => {
-            // what is left where this fails goes once the number is claimed
+            // a file that is left because this fails goes once the number is claimed
             let _left = take_back(rt, alloc, folder, number);
             Err(Trouble::Failed(Cause::Runner))
         }
@@ -81,8 +81,8 @@ pub(crate) fn send<R: Files + Processes>(
     }
 }
 
-/// Sends a kept signal once the pid is there; where no shell can be started it is kept on. Beside what is known then, whether the process
-/// is there and can't be signalled.
+/// Sends a kept signal once the pid is there; if no shell can be started it is kept on. Returns the facts known then,
+/// and whether the process is there and can't be signalled.
 pub(crate) fn send_kept<R: Files + Processes>(rt: &R, alloc: Global, known: Known) -> (Known, bool)
     ensures standing { result.0.standing ≡ known.standing }
     ensures changes { result.0.changes ≡ known.changes }

@@ -1,24 +1,25 @@
-//! How long nobody has claimed a number that was started.
+//! Numbers that were started and that nobody has claimed, and for how long.
 
 use crate::standing::Standing;
 use std::collections::BTreeMap;
 use std::time::{Clock, Instant};
 use um_model::ProcessNumber;
 
-/// So many seconds are waited for the claim of a runner, which takes far less where all is well, until it is told that there is none.
+/// The number of seconds that a runner's claim is waited for, which takes far less if all is well, until its absence is
+/// reported.
 const PATIENCE: u64 = 10;
 
-/// That nobody has claimed a number.
+/// The silence of a number that nobody has claimed.
 #[derive(Clone, Copy)]
 pub enum Silence {
     /// It was found so first at this moment.
     Since(Instant),
-    /// It was told.
+    /// It was reported.
     Told,
 }
 
 impl Silence {
-    /// Whether it is to be told now.
+    /// Whether it is to be reported now.
     pub fn is_long(self, now: Instant) -> bool {
         match self {
             Silence::Since(begun) => now.duration_since(begun).as_secs() >= PATIENCE,
@@ -27,7 +28,7 @@ impl Silence {
     }
 }
 
-/// Notes whether nobody has claimed the number, and since when. Whether it is to be told now.
+/// Notes whether nobody has claimed the number, and since when. Returns whether it is to be reported now.
 pub(crate) fn has_long_been<R: Clock>(
     rt: &R,
     silences: &mut BTreeMap<u64, Silence>,
@@ -48,6 +49,6 @@ pub(crate) fn has_long_been<R: Clock>(
     };
     let is_long = silence.is_long(now);
     let next = if is_long { Silence::Told } else { silence };
-    // where there is no memory for it, it is told later
+    // if there is no memory for it, it is reported later
     silences.insert(n, next).is_ok() && is_long
 }

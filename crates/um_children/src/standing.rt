@@ -10,18 +10,18 @@ use um_runner::{Claimant, Claiming, Told};
 /// How a number stands.
 #[derive(Clone, Copy, Debug, PartialEq, Eq)]
 pub enum Standing {
-    /// No file tells anything.
+    /// No file says anything.
     Silent,
-    /// A runner has claimed it, and hasn't told more.
+    /// A runner has claimed it, and hasn't reported more.
     Taken,
-    /// Its program was executed, under this pid; none where the pid file tells none, and no signal can reach it.
+    /// Its program was executed, under this pid; none if the pid file names none, and no signal can reach it.
     Running(Option<u32>),
     Ended(End),
     /// The manager has claimed it: it never starts.
     Barred,
 }
 
-/// What is known of a number.
+/// The facts known of a number.
 #[derive(Clone, Copy, Debug, PartialEq, Eq)]
 pub struct Known {
     pub standing: Standing,
@@ -32,7 +32,7 @@ pub struct Known {
 }
 
 impl Known {
-    /// What is known of a number that nobody asked for.
+    /// The facts known of a number that was never queried.
     pub fn nothing() -> Known
         ensures standing { result.standing ≡ Standing.Silent }
         ensures kept { result.kept ≡ None }
@@ -45,15 +45,15 @@ impl Known {
         }
     }
 
-    /// Whether nothing but a file can change what is told of it, or what is done for it: it runs, and no signal waits.
+    /// Whether nothing but a file can change its fate, or the next step for it: it runs, and no signal waits.
     pub fn is_settled(self) -> bool
         ensures { result ≡ is_settled self.standing self.kept }
     {
         matches!(self.standing, Standing::Running(_)) && self.kept.is_none()
     }
 
-    /// Whether all that can change what is told of it, or what is done for it, is a file that its runner is to make, and wakes the manager for: it
-    /// hasn't ended, nor has the manager claimed it, and no signal waits.
+    /// Whether all that can change its fate, or what is done for it, is a file that its runner is to make, and wakes
+    /// the manager for: it hasn't ended, nor has the manager claimed it, and no signal waits.
     pub fn waits_for_runner(self) -> bool
         ensures { result ≡ waits_for_runner self.standing self.kept }
     {
@@ -83,7 +83,7 @@ impl Standing {
         }
     }
 
-    /// What is told of a number that stands so.
+    /// The fate that is reported of a number that stands so.
     pub fn fate(self, claim: bool) -> Fate
         ensures { result ≡ fate_of self claim }
     {

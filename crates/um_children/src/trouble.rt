@@ -5,7 +5,7 @@ use std::{fmt, io};
 use thiserror::Error;
 use um_runner::FolderFault;
 
-/// What failed.
+/// The cause of a failure.
 #[derive(Debug, Drop, Error)]
 pub enum Cause {
     /// The system refused the folder, or a file in it.

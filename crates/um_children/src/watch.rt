@@ -1,26 +1,27 @@
-//! Whether anything came into the folder since the last look.
+//! Whether any file arrived in the folder since the last look.
 
 use std::fs::Files;
 use std::io::ErrorKind;
 use std::time::{Clock, Duration, Instant, SystemTime};
 use std::{fs, io};
 
-/// A folder's time that is younger than this tells nothing: the clock of the files goes on in steps of up to 10 ms, and so the next
-/// file may come at the same time.
+/// A folder's time that is younger than this doesn't count: the clock of the files goes on in steps of up to 10 ms, so
+/// the next file may have the same time.
 const YOUNG_MILLIS: u128 = 20;
 
-/// After so many milliseconds the files are read again where the folder's time is one of whole seconds, as that of some file systems is alone.
+/// The milliseconds after which the files are read again if the folder's time is one of whole seconds, as some file
+/// systems give only those.
 const OLD_MILLIS: u128 = 1_000;
 
-/// And after so many whatever that time says.
+/// The milliseconds after which they are read again whatever that time is.
 const AGED_MILLIS: u128 = 60_000;
 
-/// What was seen of the folder's time.
+/// The folder's time as it was seen.
 #[derive(Clone, Copy, Debug)]
 pub struct Watch {
     /// At the last look; None where it was too young, or couldn't be seen.
     time: Option<SystemTime>,
-    /// How often anything may have come.
+    /// How often a file may have arrived.
     changes: u64,
     /// When the files were to be read last.
     read: Option<Instant>,
@@ -44,7 +45,7 @@ fn settled_time<R: Files + Clock>(rt: &R, folder: &str) -> io::Result<Option<Sys
     Ok(if is_old { Some(time) } else { None })
 }
 
-/// Whether the time is one of whole seconds: the folder's may be so again while files come.
+/// Whether the time is one of whole seconds: the folder's may be the same again after more files arrived.
 fn is_coarse(time: SystemTime) -> bool {
     match time.duration_since(SystemTime::UNIX_EPOCH) {
         Ok(since) => since.subsec_nanos() == 0,
@@ -71,7 +72,7 @@ impl Watch {
         is_gone: false,
     };
 
-    /// How often anything may have come into the folder.
+    /// How often a file may have arrived in the folder.
     pub fn changes(&self) -> u64 {
         self.changes
     }
@@ -89,10 +90,10 @@ impl Watch {
         }
     }
 
-    /// Whether anything may have come since the last look. Where the folder's time can't be seen, it may.
+    /// Whether a file may have arrived since the last look. If the folder's time can't be seen, one may have.
     pub fn has_changed<R: Files + Clock>(&self, rt: &R, folder: &str) -> bool {
         match (self.time, folder_time(rt, folder)) {
-            // it wasn't young at that look, and so whatever came since has a later time, if the file system's times are fine
+            // it wasn't young at that look, so each file since has a later time, if the file system's times are fine
             (Some(seen), Ok(time)) => time != seen || self.is_overdue(rt, time),
             _ => true,
         }

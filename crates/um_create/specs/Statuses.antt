@@ -16,12 +16,13 @@ status_of (File fault) = 5
 status_of (Store NoMemory) = 1
 status_of (Store refusal) = 5
 
--- a file that is there is told as that alone
+-- a file that is there is reported as that alone
 abbrev pub fault_of : FileFault → CreateFault
 fault_of file.Exists = Exists
 fault_of fault = File fault
 
--- what can come: something stands there, the system's own faults of a file, and of the disk want of memory or its own fault
+-- the possible faults: something stands there, the system's own faults of a file, and of the disk want of memory or its
+-- own fault
 abbrev pub IsMet : CreateFault → Type 0
 IsMet Exists = ⊤
 IsMet (File fault) = (fault ≢ file.Exists) × (fault ≢ file.TooLarge)

@@ -1,3 +1,4 @@
+//! Creates the file of a store.
 ghost use Rattle.std.specs.Prelude.{◌≡◌, IfOk, IfErr};
 ghost use Rattle.um_create.specs.Statuses.{IsMet};
 ghost use Rattle.um_filedisk.specs.Counts.{calls_in, sectors_in};
@@ -12,11 +13,11 @@ use std::fs::{File, Files};
 use um_filedisk::FileDisk;
 use um_model::Layout;
 
-/// Makes the store of the empty state in a new file, and hands it out. At Ok the store, the file and its name are durable, and on the file just
-/// those disk calls were made that a store takes.
+/// Makes the store of the empty state in a new file, and hands it out. At Ok the store, the file and its name are
+/// durable, and exactly the disk calls that a store takes were made on the file.
 ///
-/// `Exists` where something stands at the path, which is left as it was; `File` where the file can't be made; `Store` with E15 or E16
-/// where the store can't be written: then the new file is removed.
+/// `Exists` where something stands at the path, which is left as it was; `File` where the file can't be made; `Store`
+/// with E15 or E16 where the store can't be written: then the new file is removed.
 pub fn create_store<'a, R: Files<File = File>>(
     rt: &'a R,
     alloc: Global,

@@ -1,3 +1,4 @@
+//! Why a store can't be created.
 ghost use Rattle.std.specs.Prelude.{◌≡◌};
 ghost use Rattle.um_create.specs.Statuses.{fault_of, status_of};
 

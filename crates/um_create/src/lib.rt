@@ -1,4 +1,4 @@
-//! New stores: a new file of just the sectors of a layout, with the store of the empty state in it.
+//! New stores: a new file of exactly the sectors of a layout, with the store of the empty state in it.
 #![tactic(auto)]
 
 mod create;

@@ -1,4 +1,4 @@
--- What it comes to that a number is marked.
+-- A number is marked.
 use Rattle.std.proofs.Common.{◌≡◌, ◌≤◌, ◌==◌, ℕ, List, [], ◌∷◌, ◌++◌, length, filter, Bool, true, false, not, ◌||◌, ◌&&◌, nat_lt, cond, refl, sym, ap, subst, ◌∙◌, arith}
 use Rattle.std.specs.List.{list_all}
 use Rattle.std.proofs.lemmas.Bool.{eqb-true, ltb-false, true≢false}
@@ -22,7 +22,7 @@ or_right : (a b : Bool) → (a || b) ≡ false → b ≡ false
 or_right true b e = absurd (true≢false e)
 or_right false b e = e
 
--- what isn't in a list differs from each in it
+-- a number that isn't in a list differs from each in it
 pub differs : (n : ℕ) (ns : List ℕ) → has n ns ≡ false → list_all (λ m. not (m == n)) ns ≡ true
 differs n [] e = refl
 differs n (m ∷ ns) e = both_true (not (m == n)) (list_all (λ m. not (m == n)) ns) (ap not (or_left (m == n) (has n ns) e)) (differs n ns (or_right (m == n) (has n ns) e))
@@ -77,7 +77,7 @@ false_stays : (a b : Bool) → b ≡ false → (a && b) ≡ false
 false_stays true b e = e
 false_stays false b e = refl
 
--- and none comes
+-- and none is added
 pub none_comes : (keep : ℕ → Bool) (n : ℕ) (ns : List ℕ) → has n ns ≡ false → has n (filter keep ns) ≡ false
 none_comes keep n ns h = has_filter keep n ns ∙ false_stays (keep n) (has n ns) h
 

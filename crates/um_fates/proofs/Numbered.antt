@@ -60,7 +60,7 @@ first_or : (n m : ℕ) (ns : List ℕ) (b : Bool) → (m == n) ≡ b → (b || h
 first_or n m ns true e h = inl (eqb-true m n e)
 first_or n m ns false e h = inr h
 
--- a number of a list is the first of it or stands behind
+-- a number of a list is the first of it or one of the rest
 either : (n m : ℕ) (ns : List ℕ) → has n (m ∷ ns) ≡ true → (m ≡ n) ⊎ (has n ns ≡ true)
 either n m ns h = first_or n m ns (m == n) refl h
 
@@ -101,7 +101,7 @@ same_test true b there back = sym (there refl)
 same_test false true there back = back refl
 same_test false false there back = refl
 
--- what has the same numbers is asked the same
+-- lists with the same numbers answer the same
 pub same_numbers : (a b : List ℕ) → ((n : ℕ) → Contains a n ↔ Contains b n) → (n : ℕ) → has n a ≡ has n b
 same_numbers a b same n = same_test (has n a) (has n b) (λ h. has_there n b ((same n).0 (there_has n a h))) (λ h. has_there n a ((same n).1 (there_has n b h)))
 
@@ -162,7 +162,7 @@ has_dedup n (x ∷ ns) = has_from n x ns
 
 -- ---- look-ups
 
--- a look-up finds the unit just where the number is live
+-- a look-up finds the unit exactly if the number is live
 pub looked_up : (units : ByUnit UnitState) (n : ℕ) {A : Type 0} (found : Option A) (name : A → List ℕ) → MatchOption found (IsOver units n) (λ a. IsProcessOf units n (name a)) → is_some found ≡ is_live units n
 looked_up units n None name over = sym (over_dead units n over)
 looked_up units n (Some a) name process = sym (process_live units n (name a) process.has)

@@ -1,4 +1,4 @@
--- Which inputs follow from what children tell of their numbers.
+-- Which inputs follow from the fates that children report of their numbers.
 -- No manual page has this: processes under numbers are the project's own.
 -- The turn of the manager and its opening stand on this file.
 use Rattle.std.specs.Prelude.{◌≡◌, ◌==◌, ℕ, List, [], ◌∷◌, ◌++◌, flat_map, map, Bool, false, if◌then◌else◌, IsTrue, Option, Some, None, ⊤}
@@ -16,7 +16,7 @@ use Rattle.um_state.specs.declared.input.Input as declared
 abbrev pub inputs_in : List declared.Input → List Input
 inputs_in inputs = map input_of inputs
 
--- what happens at this moment, as an input of the current profile
+-- a happening at this moment, as an input of the current profile
 abbrev pub happens_at : ℕ → Happening → Input
 happens_at moment happening = record { profile = current; moment = moment; event = Happened happening }
 
@@ -24,7 +24,7 @@ happens_at moment happening = record { profile = current; moment = moment; event
 abbrev pub unexecuted : End
 unexecuted = Code 203
 
--- the end of a process of which nobody knows
+-- the end of a process whose end nobody knows
 abbrev pub lost : End
 lost = Lost
 
@@ -46,7 +46,7 @@ inputs_of_fate absent moment number Executed = happens_at moment (ProcessExecute
 inputs_of_fate absent moment number (Ended end) = inputs_of_end moment number end
 inputs_of_fate absent moment number Absent = happens_at moment (ProcessEnded number absent) ∷ []
 
--- a call that failed told nothing
+-- a call that failed gave no input
 abbrev pub inputs_told : End → ℕ → ℕ → Option Fate → List Input
 inputs_told absent moment number None = []
 inputs_told absent moment number (Some fate) = inputs_of_fate absent moment number fate
@@ -54,18 +54,18 @@ inputs_told absent moment number (Some fate) = inputs_of_fate absent moment numb
 abbrev pub inputs_of_tale : End → ℕ → Tale → List Input
 inputs_of_tale absent moment tale = inputs_told absent moment tale.number tale.told
 
--- the fate of each of these numbers was asked once, in their order, with the claims named
+-- the fate of each of these numbers was queried once, in their order, with the claims named
 abbrev pub AreTalesOf : (ℕ → Bool) → List ℕ → List Tale → Type 0
 AreTalesOf claims [] [] = ⊤
 AreTalesOf claims (n ∷ ns) (tale ∷ told) = (tale.number ≡ n) × (tale.claim ≡ claims n) × AreTalesOf claims ns told
 AreTalesOf claims ns told = ⊥
 
--- the call that asks for a fate, and what it was told
+-- the call that queries a fate, with the fate it gave
 abbrev pub asks_for : Tale → Call
 asks_for tale = Asked tale.number tale.claim tale.told
 
--- Each of these numbers' fate was asked once, and the inputs of what was told came behind the others. The history of children that are honest has
--- just these calls more, where it is whole.
+-- Each of these numbers' fate was queried once, and the inputs of the fates reported follow the others; the history of
+-- children that are honest has exactly these calls more, if it is whole.
 pub record Heard (absent : End) (moment : ℕ) (claims : ℕ → Bool) (honest whole : Bool) (old new : List Call) (live : List ℕ) (before after : List Input)
     : Type 0 where
   pub told : List Tale

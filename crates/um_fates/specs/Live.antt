@@ -22,7 +22,7 @@ pub record AreLive (units : ByUnit UnitState) (numbers : List ℕ) : Type 0 wher
   pub each : (n : ℕ) → has n numbers ≡ is_live units n
   pub ascending : AllPairs (λ m n. m < n) numbers
 
--- so many numbers are live at most: of 1,024 known units two each
+-- the most numbers that are live: of 1,024 known units two each
 abbrev pub most_live : ℕ
 most_live = 2048
 

@@ -1,4 +1,4 @@
-//! What became of processes, as inputs.
+//! The fates of processes, as inputs.
 
 ghost use Rattle.std.specs.Prelude.{◌≡◌, ◌+◌, ◌*◌, ◌≤◌, ◌++◌, ◌∷◌, [], ℕ, true, length, vec_len, vec_capacity};
 ghost use Rattle.um_children.specs.Frames.{KeepsChildren};
@@ -73,7 +73,7 @@ fn put_fate(inputs: &mut Vec<Input>, moment: Moment, number: ProcessNumber, fate
     }
 }
 
-/// Asks one number's fate; its inputs follow. A call that fails tells nothing.
+/// Queries one number's fate; its inputs follow. A call that fails gives none.
 fn hear_one<C: Children>(
     children: &mut C,
     number: ProcessNumber,
@@ -95,7 +95,7 @@ fn hear_one<C: Children>(
     }
 }
 
-/// Asks the fate of each of these numbers once, in their order, of the marked ones with a claim.
+/// Queries the fate of each of these numbers once, in their order, of the marked ones with a claim.
 pub fn hear<C: Children>(
     children: &mut C,
     live: &[ProcessNumber],
@@ -117,7 +117,7 @@ pub fn hear<C: Children>(
     }
 }
 
-/// Asks the fate of each of these numbers once, in their order, with a claim. One that is absent is lost.
+/// Queries the fate of each of these numbers once, in their order, with a claim. One that is absent is lost.
 pub fn claim_all<C: Children>(
     children: &mut C,
     live: &[ProcessNumber],

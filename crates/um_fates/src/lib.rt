@@ -1,4 +1,5 @@
-//! What became of processes, as inputs: which numbers are live, which of them are asked with a claim, and what follows from the fates told.
+//! The fates of processes, as inputs: which numbers are live, which of them are queried with a claim, and the inputs
+//! that follow from the fates reported.
 #![tactic(auto)]
 
 mod fates;

@@ -1,4 +1,4 @@
-//! The numbers whose fate is asked with a claim.
+//! The numbers whose fate is queried with a claim.
 
 ghost use Rattle.std.specs.Prelude.{◌≡◌, ◌||◌, ◌+◌, ◌≤◌, ◌++◌, ◌∷◌, [], ℕ, List};
 ghost use Rattle.std.specs.Prelude.{true, false, nat_lt, if◌then◌else◌, length, filter, vec_len, vec_capacity, IfOk, IfSome};
@@ -16,11 +16,11 @@ use std::mem;
 use um_model::ProcessNumber;
 use um_state::Units;
 
-/// So many numbers are live at most.
+/// The most numbers that are live.
 const MOST_LIVE: usize = 2048;
 
-/// The numbers whose fate is asked with a claim: those that were live when the manager was opened, and those whose start was refused
-/// since. There is room for each that is live.
+/// The numbers whose fate is queried with a claim: those that were live when the manager was opened, and those whose
+/// start was refused since. There is room for each that is live.
 #[derive(Drop)]
 pub struct Marks {
     numbers: Vec<ProcessNumber>,
@@ -107,7 +107,7 @@ fn index_of(alloc: Global, numbers: &[ProcessNumber]) -> Option<BTreeSet<u64>>
 }
 
 impl Marks {
-    /// These numbers.
+    /// Marks of exactly these numbers. Refused only for want of memory.
     pub fn of(alloc: Global, numbers: &[ProcessNumber]) -> Result<Marks, AllocError>
         ensures { IfOk result (λ marks. (n : ℕ) → has n marks ≡ has n numbers.now) }
     {

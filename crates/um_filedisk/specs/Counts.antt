@@ -1,4 +1,4 @@
--- What contracts of other crates say of a file as a disk: how many calls were made on it, and how many sectors it has.
+-- The facts of a file as a disk that contracts of other crates use: the number of calls made on it, and of its sectors.
 -- No manual page has this: it is the project's own.
 -- The making of stores stands on this file.
 use Rattle.std.specs.Prelude.{ℕ}

@@ -1,3 +1,4 @@
+//! Why the file of a disk can't be used.
 ghost use Rattle.std.specs.Prelude.{◌≢◌};
 ghost use Rattle.um_filedisk.specs.declared.fault.FileFault.{FileFault};
 
@@ -15,7 +16,7 @@ pub enum FileFault {
     /// A file was to be created where something stands.
     #[error("something stands there already")]
     Exists,
-    /// What stands at the path is no regular file.
+    /// The path names no regular file.
     #[error("what stands there is not a regular file")]
     NotAFile,
     /// Another open of the file holds its lock.
@@ -24,7 +25,7 @@ pub enum FileFault {
     /// A file was to be created with 2^54 sectors or more: its length would pass 2^63 - 1 bytes.
     #[error("no file can hold so many sectors")]
     TooLarge,
-    /// The system refused for another cause, which is told.
+    /// The system refused for another cause, which is shown.
     #[error("the system refused the file: {0}")]
     System(io::Error),
 }

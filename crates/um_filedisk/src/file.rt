@@ -1,3 +1,4 @@
+//! A disk in a regular file.
 ghost use Rattle.std.specs.Prelude.{◌≡◌, ◌≢◌, ◌↔◌, ◌*◌, ◌/◌, ◌^◌, ◌≤◌, [], false, true, IfSome, IsNone, IfOk, IsOk, IfErr, IsErrOf, IsTrue};
 ghost use Rattle.std.proofs.lemmas.Bool.{false≢true};
 ghost use Rattle.um_sector.specs.Runs.{CountsFailure};
@@ -10,19 +11,21 @@ use std::os::unix::fs::{FileExt, MetadataExt, OpenOptionsExt, PermissionsExt};
 use std::{fs, io};
 use um_sector::{Disk, Fault, Sector};
 
-/// A regular file, sector behind sector from its beginning; bytes behind the last whole sector are no part of the disk. Its
-/// exclusive lock, that of flock(2), is held until it is dropped or its process ends.
+/// A disk in a regular file, sector after sector from its beginning. Bytes past the last whole sector are no part of
+/// the disk. Its exclusive lock, that of flock(2), is held until it is dropped or its process ends.
 ///
-/// It is the file at its path for as long as it is used: once another file or none stands there, or the file was cut, each write and sync fails.
+/// It is the file at its path for as long as it is used. Once another file or none stands there, or the file was cut,
+/// each write and sync fails.
 ///
-/// No contract can say what a file gives back. So `honest` isn't claimed of it, and of the clauses of `Disk` those on counts and on
-/// which sectors are there alone say something here: that a file does what the disk model says is a premise of what is proved above.
+/// No contract can say which bytes a file gives back. So `honest` isn't claimed of it, and of the clauses of `Disk`
+/// only those on counts and on which sectors are there say something here. That a file follows the disk model is a
+/// premise of the proofs above.
 #[derive(Drop)]
 pub struct FileDisk<'a, R> {
     rt: &'a R,
     path: &'a str,
     file: File,
-    /// What the file was when it was opened.
+    /// The identity of the file when it was opened.
     identity: Identity,
     /// The whole sectors that the file had when it was opened.
     sectors: usize,
@@ -33,7 +36,7 @@ pub struct FileDisk<'a, R> {
     ghost addressed: { sectors ≤ 2 ^ 55 },
 }
 
-/// What tells a file from every other one: no other has the same as long as it is open.
+/// The identity of a file: no other file has the same as long as it is open.
 #[derive(Clone, Copy, PartialEq, Eq)]
 struct Identity {
     device: u64,
@@ -43,7 +46,7 @@ struct Identity {
 /// The bytes of a sector.
 const SECTOR_BYTES: u64 = 512;
 
-/// So many bytes are zeroed at once.
+/// The number of bytes that are zeroed at once.
 const RUN_BYTES: u64 = 4096;
 
 /// The owner alone reads and writes a store, which holds the environment of services.
@@ -56,14 +59,14 @@ fn identity_of(about: &Metadata) -> Identity {
     }
 }
 
-/// The whole sectors in so many bytes.
+/// The number of whole sectors in a length in bytes.
 fn sectors_in(length: u64) -> usize
     ensures { result ≡ length / 512 }
 {
     (length / SECTOR_BYTES) as usize
 }
 
-/// The length of a file of so many sectors, in bytes. None where it would pass the longest file, 2^63 - 1 bytes.
+/// The length in bytes of a file of this many sectors. None if it would pass the longest file, 2^63 - 1 bytes.
 fn length_of(sectors: usize) -> Option<u64>
     ensures length { IfSome result (λ length. length ≡ sectors * 512) }
     ensures too_large { IsNone result ↔ 2 ^ 54 ≤ sectors }
@@ -80,7 +83,7 @@ pub(crate) fn sync_directory<R: Files<File = File>>(rt: &R, path: &str) -> io::R
     File::open(rt, directory_of(path))?.sync_all()
 }
 
-/// Writes so many zeros from the beginning of a file on.
+/// Writes `length` zeros from the beginning of a file on.
 fn write_zeros(file: &File, length: u64) -> io::Result<()> {
     let zeros = [0; RUN_BYTES as usize];
     for run in 0..length / RUN_BYTES {
@@ -90,8 +93,8 @@ fn write_zeros(file: &File, length: u64) -> io::Result<()> {
     file.write_all_at(&zeros[..rest as usize], length - rest)
 }
 
-/// Locks a new file, which its owner alone may read and write, writes all of its zeros, and makes both the file and its name durable. Gives
-/// what the file is.
+/// Locks a new file, which its owner alone may read and write, writes all of its zeros, and makes both the file and its
+/// name durable. Returns the file's identity.
 fn fill<R: Files<File = File>>(
     rt: &R,
     path: &str,
@@ -101,7 +104,7 @@ fn fill<R: Files<File = File>>(
     ensures { IfErr result (λ fault. fault ≢ FileFault.TooLarge) }
 {
     file.try_lock()?;
-    // the mode that it was made with lacks what the umask takes
+    // the mode that it was made with lacks the bits that the umask takes
     file.set_permissions(Permissions::from_mode(MODE))?;
     // a length that the system doesn't grant is refused here, before anything is written
     file.set_len(length)?;
@@ -132,7 +135,7 @@ impl<'a, R: Files<File = File>> FileDisk<'a, R> {
         ensures counts { IfOk result (λ disk. (disk.calls ≡ 0) × (disk.failures ≡ 0)) }
         ensures never_too_large { IfErr result (λ fault. fault ≢ FileFault.TooLarge) }
     {
-        // the opening of a pipe would wait for somebody who writes it
+        // opening a pipe would wait until somebody writes it
         if !fs::metadata(rt, path)?.is_file() {
             return Err(FileFault::NotAFile);
         }
@@ -152,7 +155,7 @@ impl<'a, R: Files<File = File>> FileDisk<'a, R> {
         ensures counts { IfOk result (λ disk. (disk.calls ≡ 0) × (disk.failures ≡ 0)) }
         ensures never_too_large { IfErr result (λ fault. fault ≢ FileFault.TooLarge) }
     {
-        // read behind the lock, so that nobody who asks for it changes the length any more
+        // read with the lock held, so that nobody else who takes the lock changes the length any more
         let about = file.metadata()?;
         if !about.is_file() {
             return Err(FileFault::NotAFile);
@@ -169,12 +172,13 @@ impl<'a, R: Files<File = File>> FileDisk<'a, R> {
         })
     }
 
-    /// Makes a new file of so many sectors of zeros at `path`, which its owner alone may read and write (mode 600), and locks it. All of its
-    /// sectors are written, so that the disk has room for them. At Ok the file and its name are durable.
+    /// Makes a new file of `sectors` sectors of zeros at `path`, which its owner alone may read and write (mode 600),
+    /// and locks it. All of its sectors are written, so that the disk has room for them. At Ok the file and its name
+    /// are durable.
     ///
-    /// `Exists` where something stands there, which is left as it was; `TooLarge` from 2^54 sectors on; `Absent` where there is
-    /// no such directory; `InUse` where another open took the lock first; `System` where the system refuses it, as where the disk has no room. A
-    /// new file that can't be finished is removed.
+    /// `Exists` where something stands there, which is left as it was; `TooLarge` from 2^54 sectors on; `Absent` where
+    /// there is no such directory; `InUse` where another open took the lock first; `System` where the system refuses
+    /// it, for example if the disk has no room. A new file that can't be finished is removed.
     pub fn create(rt: &'a R, path: &'a str, sectors: usize) -> Result<FileDisk<'a, R>, FileFault>
         ensures size { IfOk result (λ disk. disk.sectors ≡ sectors) }
         ensures counts { IfOk result (λ disk. (disk.calls ≡ 0) × (disk.failures ≡ 0)) }
@@ -217,7 +221,7 @@ impl<'a, R: Files<File = File>> FileDisk<'a, R> {
         }
     }
 
-    /// Whether a write is asked of the system.
+    /// Whether a write is passed to the system.
     fn takes_writes(&self) -> bool
         ensures { self.now.is_read_only ≡ true → result ≡ false }
     {
@@ -267,7 +271,7 @@ impl<'a, R: Files<File = File>> FileDisk<'a, R> {
 }
 
 impl<'a, R: Files<File = File>> Disk for FileDisk<'a, R> {
-    // No clause reads it, since nothing is claimed of what the file holds.
+    // No clause reads it, since nothing is claimed of the bytes in the file.
     ghost past = { λ _. record { start = λ _. []; calls = [] } };
 
     ghost size = { λ disk. disk.sectors };
@@ -293,8 +297,8 @@ impl<'a, R: Files<File = File>> Disk for FileDisk<'a, R> {
         self.count(is_done)
     }
 
-    /// A write that the system refuses is a fault too, and so is each one to a file that was opened to be read alone, and one to a file that isn't
-    /// at its path any more or was cut, which it would make longer again.
+    /// A write that the system refuses is a fault too. So is each write to a file that was opened to be read alone, and
+    /// to one that isn't at its path any more or was cut, which the write would make longer again.
     fn write(&mut self, k: usize, sector: &Sector) -> Result<(), Fault> {
         let is_done = match self.place_of(k) {
             Some(place) => self.takes_writes() && self.file.write_all_at(sector, place).is_ok(),
@@ -303,8 +307,8 @@ impl<'a, R: Files<File = File>> Disk for FileDisk<'a, R> {
         self.count(is_done)
     }
 
-    /// A sync that the system refuses is a fault, and so is one of a file that isn't at its path any more or was cut: what was written to it
-    /// would be lost.
+    /// A sync that the system refuses is a fault. So is a sync of a file that isn't at its path any more or was cut:
+    /// writes to it would be lost.
     fn sync(&mut self) -> Result<(), Fault> {
         let is_done = self.file.sync_data().is_ok() && self.is_there();
         self.count(is_done)

@@ -1,17 +1,17 @@
--- What a gate does for its clients, as one list of events, the oldest first.
+-- The events of a gate for its clients, in one list, the oldest first.
 -- No manual page has this: connections are the project's own (docs/FORMATS.md, "The socket").
--- Gates, and what is served over them, stand on this file.
+-- Gates, and the servers over them, stand on this file.
 use Rattle.std.specs.Prelude.{◌≡◌, ◌++◌, ℕ, List, Bool, true, false, Option, Some, None, IsTrue}
 
--- An accept, with which connections are open after it; a read of a connection, of so many bytes at most, with those that came, or that it is
--- closed; a write, with the bytes that were offered and those of them that were taken; a connection given up.
+-- An accept, with the connections open after it; a read of a connection, of some bytes at most, with those that
+-- arrived, or that it is closed; a write, with the bytes offered and those taken; a connection given up.
 pub data Event : Type 0 where
   accepted : (is_open : List Bool) → Event
   read : (number most : ℕ) (came : Option (List ℕ)) → Event
   wrote : (number : ℕ) (offered taken : List ℕ) → Event
   dropped : (number : ℕ) → Event
 
--- what a read tells: its bytes, or that the connection is closed
+-- the result of a read: its bytes, or that the connection is closed
 abbrev pub came : Bool → List ℕ → Option (List ℕ)
 came true bytes = Some bytes
 came false bytes = None

@@ -9,13 +9,13 @@ pub record Client : Type 0 where
   pub number : ℕ  -- that of its connection
   pub parts : List (List ℕ)  -- what it sends, a part a read; an empty one is a moment of silence
   pub leaves : Bool  -- it leaves once all is sent
-  pub limit : ℕ  -- so many bytes of a write it takes at most
+  pub limit : ℕ  -- the most bytes that it takes of a write
 
 -- the clients of a gate
 pub record Clients : Type 0 where
   pub waiting : List Client  -- those that wait to be accepted, in the order in which they came
   pub places : List (Option Client)  -- those that were accepted, by the numbers of their connections
-  pub fuse : ℕ  -- so many accepts from now on one fails: 1 is the next, 0 none
+  pub fuse : ℕ  -- the accept that fails, counted from now on: 1 is the next, 0 none
 
 -- a gate in memory
 pub record InMemory : Type 0 where
@@ -61,18 +61,18 @@ first_taken (client ∷ waiting) clients = record clients { waiting = waiting; p
 abbrev pub is_due : ℕ → Bool
 is_due fuse = fuse == 1
 
--- the clients behind an accept; one that fails takes nobody, and who waits goes on waiting
+-- the clients after an accept; one that fails takes nobody, and each client that waits goes on waiting
 abbrev pub after_accept : Clients → Clients
 after_accept clients = record (if is_due clients.fuse then clients else first_taken clients.waiting clients) { fuse = clients.fuse - 1 }
 
 -- ---- reads and writes
 
--- what comes of so many bytes at most: a part or its front; nothing where all is sent; or that the client left then
+-- the bytes sent, of this many at most: a part or its front; nothing if all is sent; or that the client left then
 abbrev pub sent : ℕ → Bool → List (List ℕ) → Option (List ℕ)
 sent most leaves [] = if leaves then None else Some []
 sent most leaves (part ∷ parts) = Some (take most part)
 
--- what is to be sent behind that
+-- the parts still to be sent after that
 abbrev pub unsent : ℕ → List (List ℕ) → List (List ℕ)
 unsent most [] = []
 unsent most (part ∷ parts) = if nat_le (length part) most then parts else drop most part ∷ parts
@@ -87,17 +87,17 @@ abbrev pub unless_left : Option (List ℕ) → Client → Option Client
 unless_left None client = None
 unless_left (Some bytes) client = Some client
 
--- who is there behind a read
+-- the client that is there after a read
 abbrev pub after_read : ℕ → Option Client → Option Client
 after_read most None = None
 after_read most (Some client) = unless_left (sent most client.leaves client.parts) (record client { parts = unsent most client.parts })
 
--- so many bytes are taken of a write at most
+-- the most bytes that are taken of a write
 abbrev pub limit_of : Option Client → ℕ
 limit_of None = 0
 limit_of (Some client) = client.limit
 
--- a client that was given up sends nothing more and takes nothing, and its next read tells it closed
+-- a client that was given up sends nothing more and takes nothing, and its next read reports it closed
 abbrev pub given_up : Option Client → Option Client
 given_up None = None
 given_up (Some client) = Some (record client { parts = []; leaves = true; limit = 0 })

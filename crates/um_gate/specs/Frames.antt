@@ -1,11 +1,12 @@
--- The frame of a call over a gate and a clock: what it leaves as it was, whatever it does besides and whatever it answers.
+-- The frame of a call over a gate and a clock: the parts it leaves as they were, whatever else it does and answers.
 -- No manual page has it: it is the project's own.
--- What waits for clients, the rounds and `serve` stand on this file.
+-- Backlogs of clients, the rounds and `serve` stand on this file.
 use Rattle.std.specs.Prelude.{◌≡◌, IsTrue}
 use Rattle.um_gate.specs.declared.clock.Moments as clock
 use Rattle.um_gate.specs.declared.gate.Gate as gate
 
--- A gate behind a call is as honest as before it; and where nothing is missing from its history behind it, nothing was before.
+-- A gate after a call is as honest as before it; and if nothing is missing from its history after it, nothing was
+-- before.
 pub record KeepsGate {G : Type 0} (g : gate.Ghosts G) (old new : G) : Type 0 where
   pub honest : g.honest new ≡ g.honest old
   pub whole : IsTrue (g.whole new) → IsTrue (g.whole old)

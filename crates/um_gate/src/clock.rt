@@ -1,4 +1,4 @@
-//! Where moments come from.
+//! The source of moments.
 
 ghost use Rattle.std.specs.Prelude.{◌≡◌, ◌∷◌, [], List, ℕ, Bool, IsTrue, not, true, false};
 ghost use Rattle.um_gate.specs.Events.{Ticks};
@@ -17,7 +17,7 @@ pub trait Moments {
     /// No moment is missing from the list.
     ghost whole: { Self → Bool };
 
-    /// It does what it tells.
+    /// It does what it answers.
     ghost honest: { Self → Bool };
 
     /// The moment that it is now. It may go back, and stand still.
@@ -27,20 +27,21 @@ pub trait Moments {
         ensures honest { honest self.new ≡ honest self.old };
 }
 
-/// A clock in memory, which gives the moments that it was told. It is honest, and keeps them.
+/// A clock in memory, which gives the moments that were set. It is honest, and keeps them.
 #[derive(Drop)]
 pub struct FakeMoments {
     given: Vec<Moment>,
-    /// What it gives next.
+    /// The moment that it gives next.
     next: Moment,
-    /// So many microseconds later is each next one.
+    /// The microseconds from one moment to the next.
     step: u64,
     /// A moment is missing from those kept.
     lost: bool,
 }
 
 impl FakeMoments {
-    /// A clock that gives this moment first, and each next one so many microseconds later, up to the latest moment. It takes no memory.
+    /// A clock that gives this moment first, and each next one `step` microseconds later, up to the latest moment. It
+    /// takes no memory.
     pub fn new(alloc: Global, first: Moment, step: u64) -> FakeMoments
         ensures given { result.given.items ≡ [] }
         ensures next { result.next ≡ first }
@@ -80,12 +81,13 @@ impl Moments for FakeMoments {
     }
 }
 
-/// The moment that the system's clock tells; the first one where it tells none, as before 1970 and past 2^62 microseconds after that.
+/// The moment of the system's clock; the first one if it gives none, as before 1970 and past 2^62 microseconds after
+/// that.
 pub fn system_moment<R: Clock>(rt: &R) -> Moment {
     told(rt).unwrap_or(Moment::FIRST)
 }
 
-/// The moment that the system tells; none before 1970, past 2^62 microseconds, and where it tells none.
+/// The moment that the system gives; none before 1970, past 2^62 microseconds, and if it gives none.
 fn told<R: Clock>(rt: &R) -> Option<Moment> {
     let now = SystemTime::now(rt).ok()?;
     let since = now.duration_since(UNIX_EPOCH).ok()?;
@@ -100,7 +102,7 @@ fn told<R: Clock>(rt: &R) -> Option<Moment> {
 pub struct SystemMoments<'a, R> {
     rt: &'a R,
     start: Moment,
-    /// Where the clock that runs forward stood then; none where the system told nothing.
+    /// The reading of the clock that runs forward then; none if the system gave none.
     started: Option<Instant>,
 }
 
@@ -114,7 +116,7 @@ impl<'a, R: Clock> SystemMoments<'a, R> {
         }
     }
 
-    /// The microseconds since it started; none where the system tells nothing.
+    /// The microseconds since it started; none if the system gives none.
     fn elapsed(&self) -> Option<u64> {
         let elapsed = self.started?.elapsed(self.rt).ok()?;
         u64::try_from(elapsed.as_micros()).ok()
@@ -122,7 +124,7 @@ impl<'a, R: Clock> SystemMoments<'a, R> {
 }
 
 impl<'a, R: Clock> Moments for SystemMoments<'a, R> {
-    // No clause reads it, since nothing is claimed of what the system tells.
+    // No clause reads it, since nothing is claimed of the moments that the system gives.
     ghost given = { λ _. [] };
 
     ghost whole = { λ _. true };

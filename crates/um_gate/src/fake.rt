@@ -17,11 +17,11 @@ use std::marker::Model;
 struct Client {
     /// The number of its connection.
     number: usize,
-    /// What it sends, a part a read; an empty part is a moment of silence.
+    /// The bytes it sends, a part a read; an empty part is a moment of silence.
     parts: Vec<Vec<u8>>,
     /// It leaves once all is sent.
     leaves: bool,
-    /// It takes at most so many bytes of a write.
+    /// The most bytes that it takes of a write.
     limit: usize,
 }
 
@@ -42,7 +42,7 @@ pub struct FakeGate {
     waiting: VecDeque<Client>,
     /// Those that were accepted, by the numbers of their connections.
     places: Vec<Option<Client>>,
-    /// So many accepts from now on one fails: 1 is the next, 0 none.
+    /// The accept that fails, counted from now on: 1 is the next, 0 none.
     fuse: usize,
     /// An event is missing from the notes.
     lost: bool,
@@ -123,7 +123,7 @@ fn open_of(places: &[Option<Client>]) -> Open
     Open { is_open }
 }
 
-/// So many places, all free.
+/// As many free places as there are connections.
 fn free_places(alloc: Global) -> Result<Vec<Option<Client>>, AllocError>
     ensures { IfOk result (λ places. places.items ≡ nobody.places) }
 {
@@ -134,7 +134,7 @@ fn free_places(alloc: Global) -> Result<Vec<Option<Client>>, AllocError>
     Ok(places)
 }
 
-/// Takes the front of a part, so many bytes at most.
+/// Takes the front of a part, `most` bytes at most.
 fn take_front(part: &mut Vec<u8>, most: usize, bytes: &mut Vec<u8>)
     requires empty { bytes.old.items ≡ [] }
     requires room { most ≤ vec_capacity bytes.old }
@@ -151,7 +151,7 @@ fn take_front(part: &mut Vec<u8>, most: usize, bytes: &mut Vec<u8>)
 }
 
 impl Client {
-    /// Sends so many bytes of its next part at most.
+    /// Sends the next part, `most` bytes of it at most.
     fn send(&mut self, most: usize, bytes: &mut Vec<u8>)
         requires some { self.old.parts ≢ [] }
         requires empty { bytes.old.items ≡ [] }
@@ -168,7 +168,7 @@ impl Client {
     }
 }
 
-/// Reads what is there of a place, and tells whether it is open still.
+/// Reads the bytes that are there of a place, and returns whether it is open still.
 fn read_place(place: &mut Option<Client>, most: usize, bytes: &mut Vec<u8>) -> bool
     requires empty { bytes.old.items ≡ [] }
     requires room { most ≤ vec_capacity bytes.old }
@@ -190,7 +190,7 @@ fn read_place(place: &mut Option<Client>, most: usize, bytes: &mut Vec<u8>) -> b
     !leaves
 }
 
-/// Reads what is there of the place of a number.
+/// Reads the bytes that are there of the place of a number.
 fn read_at(
     places: &mut Vec<Option<Client>>,
     number: usize,
@@ -252,7 +252,7 @@ fn take_client(places: &mut Vec<Option<Client>>, client: Client)
 }
 
 impl FakeGate {
-    /// A gate to which no client came yet.
+    /// A gate to which no client has connected yet.
     pub fn new(alloc: Global) -> Result<FakeGate, AllocError>
         ensures past { IfOk result (λ gate. gate.past ≡ []) }
         ensures whole { IfOk result (λ gate. gate.is_whole ≡ true) }
@@ -268,8 +268,9 @@ impl FakeGate {
         })
     }
 
-    /// A client comes behind those that wait. Under its number it sends these parts: one a read, or as much of it as that reads at most.
-    /// It leaves then, if it `leaves`, and takes at most `limit` bytes of a write. Where memory is wanting it doesn't come.
+    /// A client connects, after those that wait. Under its number it sends these parts: one a read, or as much of it as
+    /// that reads at most. It leaves then, if it `leaves`, and takes at most `limit` bytes of a write. If there is no
+    /// memory for it, it doesn't connect.
     pub fn client(
         &mut self,
         number: usize,
@@ -295,21 +296,22 @@ impl FakeGate {
         Ok(())
     }
 
-    /// Fails the `fails`-th accept from now on: it takes nobody, and who waits goes on waiting. With 0 none fails.
+    /// Fails the `fails`-th accept from now on: it takes nobody, and each client that waits goes on waiting. With 0
+    /// none fails.
     pub fn fuse(&mut self, fails: usize)
         ensures { self.new ≡ record self.old { clients = record self.old.clients { fuse = fails } } }
     {
         self.fuse = fails;
     }
 
-    /// What it did so far, the oldest first.
+    /// Its events so far, the oldest first.
     pub fn notes(&self) -> &[Note]
         ensures { events_of result.now ≡ self.now.past }
     {
         self.notes.as_slice()
     }
 
-    /// Takes the client that came first, where its number is free.
+    /// Takes the client that connected first, if its number is free.
     fn take_first(&mut self)
         ensures clients { self.new.clients ≡ first_taken self.old.clients.waiting self.old.clients }
         ensures past { self.new.past ≡ self.old.past }

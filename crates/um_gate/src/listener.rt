@@ -1,4 +1,4 @@
-//! Sockets that are listened at, made so that nobody but their owner connects.
+//! Sockets that are listened at, made so that only their owner connects.
 
 use mio::net::{UnixListener, UnixStream};
 use std::alloc::Global;
@@ -19,7 +19,7 @@ fn is_answered<R: Net>(rt: &R, path: &str) -> io::Result<bool> {
     match UnixStream::connect(rt, path) {
         Ok(_) => Ok(true),
         Err(e) => match e.kind() {
-            // so many wait to be accepted that the system takes no more
+            // the queue of connections to accept is full, so somebody serves the socket
             ErrorKind::WouldBlock => Ok(true),
             ErrorKind::ConnectionRefused | ErrorKind::NotFound => Ok(false),
             _ => Err(e),
@@ -27,9 +27,11 @@ fn is_answered<R: Net>(rt: &R, path: &str) -> io::Result<bool> {
     }
 }
 
-/// Sees whether a socket may be made at the path: nothing stands there, or a socket at which nobody answers. It changes nothing.
+/// Checks whether a socket may be made at the path: nothing stands there, or a socket at which nobody answers. It
+/// changes nothing.
 ///
-/// `AddrInUse` where somebody answers, `AlreadyExists` where what stands there is no socket, or another error where the system refuses the look.
+/// `AddrInUse` where somebody answers, `AlreadyExists` where something stands there that is no socket, or another error
+/// where the system refuses the look.
 pub fn look_at_socket<R: Files + Net>(rt: &R, path: &str) -> io::Result<()> {
     match fs::symlink_metadata(rt, path) {
         Ok(about) if about.file_type().is_socket() => {}
@@ -49,7 +51,7 @@ pub fn look_at_socket<R: Files + Net>(rt: &R, path: &str) -> io::Result<()> {
 
 /// Removes the folder, with a socket in it, that is left of the making of one, as where a server was killed meanwhile.
 fn clear<R: Files>(rt: &R, folder: &str, inside: &str) {
-    // what stays is in the way when the folder is made, and told then
+    // a file that stays is in the way when the folder is made, and is reported then
     if let Ok(about) = fs::symlink_metadata(rt, inside) {
         if about.file_type().is_socket() {
             let _ = fs::remove_file(rt, inside);
@@ -70,8 +72,8 @@ fn make_folder<R: Files>(rt: &R, folder: &str) -> io::Result<()> {
     }
 }
 
-/// A listener at the path inside a folder of its own, to which nobody else comes before its mode is set; then it is moved to its path, over a
-/// socket at which nobody answers.
+/// A listener at the path inside a folder of its own, to which nobody else connects before its mode is set; then it is
+/// moved to its path, over a socket at which nobody answers.
 fn listener_by<R: Files + Net>(
     rt: &R,
     folder: &str,

@@ -4,20 +4,20 @@ use mio::net::UnixListener;
 use std::io;
 use std::io::ErrorKind;
 
-/// So many are let go at once at most.
+/// The most connections that are closed at once.
 const MOST: usize = 64;
 
-/// A socket at which a gate is woken: who connects is let go at once, and nothing is read.
+/// A socket at which a gate is woken: each connection to it is closed at once, and nothing is read.
 #[derive(Drop)]
 pub(crate) struct News {
     listener: UnixListener,
-    /// As many were let go as are at once: another one may wait behind them, of whom no event tells any more.
+    /// As many were closed as are at once: another one may wait, of which no event reports any more.
     has_more: bool,
-    /// Why nobody could be let go at the last look, whether anybody waited or not.
+    /// Why none could be closed at the last look, whether any waited or not.
     fault: Option<io::Error>,
 }
 
-/// Why nobody can be let go; None where nobody waits.
+/// Why no connection can be closed; None if none waits.
 fn fault_of(error: io::Error) -> Option<io::Error> {
     match error.kind() {
         ErrorKind::WouldBlock | ErrorKind::Interrupted | ErrorKind::ConnectionAborted => None,
@@ -26,7 +26,7 @@ fn fault_of(error: io::Error) -> Option<io::Error> {
 }
 
 impl News {
-    /// The socket, at which nobody was let go yet.
+    /// The socket, of which no connection was closed yet.
     pub fn of(listener: UnixListener) -> News {
         News {
             listener,
@@ -35,17 +35,17 @@ impl News {
         }
     }
 
-    /// Whether another one may wait of whom no event tells.
+    /// Whether another one may wait that no event reports.
     pub fn has_more(&self) -> bool {
         self.has_more
     }
 
-    /// Why nobody could be let go at the last look, whether anybody waited or not. It is told once.
+    /// Why none could be closed at the last look, whether any waited or not. It is returned once.
     pub fn take_fault(&mut self) -> Option<io::Error> {
         self.fault.take()
     }
 
-    /// Lets go who connected, 64 at most, and tells whether anybody did.
+    /// Closes the connections that wait, 64 at most, and returns whether there was any.
     pub fn take(&mut self) -> bool {
         self.has_more = false;
         self.fault = None;

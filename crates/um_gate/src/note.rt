@@ -1,21 +1,22 @@
+//! The note of an event at a gate.
 use crate::gate::Open;
 
-/// What a gate did.
+/// An event at a gate.
 #[derive(Debug, Drop)]
 pub enum Note {
     /// An accept, with which connections are open after it.
     Accepted(Open),
-    /// A read of a connection, with the bytes that came.
+    /// A read of a connection, with the bytes that it gave.
     Came {
         number: usize,
-        /// So many bytes were to be read at most.
+        /// The most bytes that were to be read.
         most: usize,
         bytes: Vec<u8>,
     },
     /// A read of a connection that is closed.
     Closed {
         number: usize,
-        /// So many bytes were to be read at most.
+        /// The most bytes that were to be read.
         most: usize,
     },
     /// A write to a connection.
@@ -23,7 +24,7 @@ pub enum Note {
         number: usize,
         /// All that was offered.
         offered: Vec<u8>,
-        /// What it took of that.
+        /// The bytes that it took of those.
         taken: Vec<u8>,
     },
     /// A connection given up.

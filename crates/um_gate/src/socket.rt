@@ -14,7 +14,7 @@ use std::net::Net;
 use std::time::Duration;
 use std::{fs, io, mem};
 
-/// As many events are told by one wait at most.
+/// The most events that one wait reports.
 const EVENTS: usize = 128;
 
 /// The listener's events have this token; those of a connection its number.
@@ -23,31 +23,33 @@ const LISTENER: usize = CONNECTIONS;
 /// And those of the socket of news this one.
 const NEWS: usize = CONNECTIONS + 1;
 
-/// What stands under the number of a connection.
+/// The place under the number of a connection.
 #[derive(Drop)]
 enum Place {
     Free,
     Open(UnixStream),
-    /// It failed in a write, or was given up: its next read tells it closed.
+    /// It failed in a write, or was given up: its next read reports it closed.
     Broken,
 }
 
 /// A gate over a Unix socket, of which no call waits but `wait`.
 ///
-/// No contract can say what a socket gives and takes. So `honest` isn't claimed of it, and of the clauses of `Gate` those on how many
-/// bytes there are alone say something here: that a socket does what the list of events says is a premise of what is proved above.
+/// No contract can say which bytes a socket gives and takes. So `honest` isn't claimed of it, and of the clauses of
+/// `Gate` only those on the number of bytes say something here. That a socket follows the list of events is a premise
+/// of the proofs above.
 #[derive(Drop)]
 pub struct SocketGate {
     poll: Poll,
     events: Events,
     listener: UnixListener,
-    /// The last accept took a client: another one may wait behind it, of which no event tells any more.
+    /// The last accept took a client: another one may wait, of which no event reports any more.
     has_accepted: bool,
     /// The socket at which the gate is woken; None before it was made.
     news: Option<News>,
-    /// A descriptor that is let go where none is left for who connects to that socket, so that files can be read behind the wake.
+    /// A descriptor that is released if none is left to accept a connection to that socket, so that files can be read
+    /// after the wake.
     spare: Option<Poll>,
-    /// Why nobody could be let go at that socket while the spare descriptor was there.
+    /// Why no connection to that socket could be closed while the spare descriptor was there.
     fault: Option<io::Error>,
     places: Vec<Place>,
     /// Where a read puts its bytes first.
@@ -55,7 +57,7 @@ pub struct SocketGate {
     ghost full: { length buffer.items ≡ 4096 },
 }
 
-/// So many places, all free.
+/// As many free places as there are connections.
 fn free_places(alloc: Global) -> Result<Vec<Place>, AllocError> {
     let mut places = Vec::with_capacity(alloc, CONNECTIONS)?;
     for _ in 0..CONNECTIONS {
@@ -78,11 +80,11 @@ fn free_number(places: &[Place]) -> Option<usize> {
     places.iter().position(|place| matches!(place, Place::Free))
 }
 
-/// What is read of a stream: how many bytes stand in the buffer, or that it is closed.
+/// Reads a stream: the number of bytes in the buffer, or none if it is closed.
 fn read_stream(stream: &mut UnixStream, buffer: &mut [u8]) -> Option<usize>
     ensures { IfSome result (λ count. count ≤ length buffer.old) }
 {
-    // the system tells a read of nothing as it tells the end
+    // the system answers a read of no bytes as it answers at the end
     if buffer.is_empty() {
         return Some(0);
     }
@@ -113,11 +115,12 @@ fn write_stream(stream: &mut UnixStream, bytes: &[u8]) -> Option<usize>
 }
 
 impl SocketGate {
-    /// Serves a socket at `path`, to which its owner alone may connect from its first moment on. It takes the place of a socket at which nobody
-    /// answers. It is made in a folder beside it, `path` with `.new` behind, which is removed again.
+    /// Serves a socket at `path`, to which its owner alone may connect from its first moment on. It takes the place of
+    /// a socket at which nobody answers. It is made in a folder beside it, at `path` with `.new` appended, which is
+    /// removed again.
     ///
-    /// `AddrInUse` and `AlreadyExists` as of `look_at_socket`, with what stands there left as it is; another error where the system refuses it, as
-    /// for a path past 101 bytes, or where memory is.
+    /// `AddrInUse` and `AlreadyExists` as of `look_at_socket`, with the file there left as it is; another error where
+    /// the system refuses it, as for a path past 101 bytes, or where memory is.
     pub fn open<R: Files + Net>(rt: &R, alloc: Global, path: &str) -> io::Result<SocketGate> {
         let poll = Poll::new(rt)?;
         let events = Events::with_capacity(alloc, EVENTS)?;
@@ -139,11 +142,12 @@ impl SocketGate {
         })
     }
 
-    /// Makes a socket at `path` as `open` does, at which the gate is woken: who connects is let go, and nothing is read. It takes the place of one
-    /// that was made before. From then on the gate has a spare descriptor: one that is there for files where it is woken and the system has no other.
+    /// Makes a socket at `path` as `open` does, which wakes the gate: each connection to it is closed, and nothing is
+    /// read. It takes the place of one that was made before. From then on the gate has a spare descriptor: one for
+    /// files if it is woken and the system has no other.
     ///
-    /// The same errors as those of `open`. Then what was made before is as it was, but where the poll takes no further socket: one at which nobody
-    /// answers stands at the path then.
+    /// The same errors as those of `open`. After one the socket made before is as it was, unless the poll takes no
+    /// further socket: then one at which nobody answers stands at the path.
     pub fn open_news<R: Files + Net>(
         &mut self,
         rt: &R,
@@ -167,8 +171,8 @@ impl SocketGate {
         Ok(())
     }
 
-    /// Makes the socket of news at `path` again, where nothing stands there any more, and takes the spare descriptor again. What stands there is left
-    /// as it is.
+    /// Makes the socket of news at `path` again if nothing stands there any more, and takes the spare descriptor again.
+    /// A file that stands there is left as it is.
     ///
     /// The same errors as those of `open_news`, or another one where the system refuses the look.
     pub fn keep_news<R: Files + Net>(
@@ -185,13 +189,13 @@ impl SocketGate {
         }
     }
 
-    /// Why nobody who connects to the socket of news can be let go, by the last look behind which the spare descriptor was there; None once that went
-    /// well again.
+    /// Why no connection to the socket of news can be closed, by the last look after which the spare descriptor was
+    /// there; None once that went well again.
     pub fn news_fault(&self) -> Option<&io::Error> {
         self.fault.as_ref()
     }
 
-    /// Whether somebody may wait at the socket of news of whom no event tells any more.
+    /// Whether a connection may wait at the socket of news that no event reports any more.
     fn has_more_news(&self) -> bool {
         match &self.news {
             Some(news) => news.has_more(),
@@ -199,14 +203,14 @@ impl SocketGate {
         }
     }
 
-    /// Lets go who connected to the socket of news, 64 at most, and tells whether anybody did. Where no descriptor is left for that the spare one goes,
-    /// until it is taken again.
+    /// Closes the connections to the socket of news, 64 at most, and returns whether there was any. If no descriptor is
+    /// left for that the spare one is released, until it is taken again.
     fn take_news(&mut self) -> bool {
         let Some(news) = &mut self.news else {
             return false;
         };
         let is_woken = news.take();
-        // behind the spare one it isn't known whether others are left
+        // once the spare one is released it isn't known whether others are left
         if self.spare.is_some() {
             self.fault = news.take_fault();
             if self.fault.is_some() {
@@ -216,17 +220,18 @@ impl SocketGate {
         is_woken
     }
 
-    /// Waits until an event comes, but no longer than this, and tells whether one did.
+    /// Waits until an event occurs, but no longer than this, and returns whether one did.
     fn wait_for_event(&mut self, longest: Duration) -> bool {
         match self.poll.poll(&mut self.events, Some(longest)) {
             Ok(()) => !self.events.is_empty(),
-            // where the system refuses to wait, a look tells what is there
+            // if the system refuses to wait, a look shows what there is
             Err(_) => true,
         }
     }
 
-    /// Waits until a client comes, bytes come, a connection takes bytes again, or the gate is woken, but no longer than this, and tells whether any of
-    /// it may be. It is a hint alone: whoever was told so looks at each open connection, and is told it of the same client or bytes no second time.
+    /// Waits until a client connects, bytes arrive, a connection takes bytes again, or the gate is woken, but no longer
+    /// than this, and returns whether any of it may be. It is a hint alone: the caller then looks at each open
+    /// connection, since the same client or bytes aren't reported a second time.
     pub fn wait(&mut self, longest: Duration) -> bool {
         if mem::replace(&mut self.has_accepted, false) {
             return true;
@@ -237,11 +242,11 @@ impl SocketGate {
             longest
         };
         let has_event = self.wait_for_event(longest);
-        // in any case, since who couldn't be let go is told by no event again
+        // in any case, since no event reports again a connection that couldn't be closed
         self.take_news() | has_event
     }
 
-    /// The next client, if one waits. It doesn't get what the spare descriptor has left.
+    /// The next client, if one waits. It doesn't get the descriptor that the spare one leaves.
     fn next_client(&mut self) -> Option<UnixStream> {
         if self.news.is_some() && self.spare.is_none() {
             return None;
@@ -250,7 +255,7 @@ impl SocketGate {
         Some(stream)
     }
 
-    /// Takes a client under a free number; without one it is let go, which closes its connection.
+    /// Takes a client under a free number; if none is free its connection is closed.
     fn take_client(&mut self, mut stream: UnixStream) {
         let Some(number) = free_number(self.places.as_slice()) else {
             return;
@@ -280,7 +285,7 @@ fn open_of(places: &[Place]) -> Open {
     Open { is_open }
 }
 
-/// Reads what is there of a place; none where it is closed.
+/// Reads the bytes that are there of a place; none where it is closed.
 fn read_place(place: &mut Place, buffer: &mut [u8]) -> Option<usize>
     ensures { IfSome result (λ count. count ≤ length buffer.old) }
 {
@@ -290,7 +295,8 @@ fn read_place(place: &mut Place, buffer: &mut [u8]) -> Option<usize>
     }
 }
 
-/// Puts what is there of a place into the vector, by way of the buffer, and tells whether it is open still.
+/// Puts the bytes that are there of a place into the vector, by way of the buffer, and returns whether it is open
+/// still.
 fn fill(place: &mut Place, buffer: &mut [u8], most: usize, bytes: &mut Vec<u8>) -> bool
     requires empty { bytes.old.items ≡ [] }
     requires few { most ≤ MOST_BYTES }

@@ -70,7 +70,7 @@ turned_so_far layout later {disk = disk} {before = before} {b = b} {Sure = Sure}
 
 -- ---- two lives
 
--- what was done by then, and a stop there
+-- the history by then, and a stop there
 abbrev ended : {disk : Past} {before : List Call} {b : Now} → History disk before b → ManagerLife
 ended {b = b} past = stopped (behind past) b.disk b.past
 

@@ -1,5 +1,5 @@
-//! An instance of what the theorem of managers that outlive crashes takes for granted: two lives over a disk and children in memory, with a crash
-//! between them.
+//! An instance of the premises of the theorem of managers that outlive crashes: two lives over a disk and children in
+//! memory, with a crash between them.
 #![tactic(auto)]
 
 mod lives;

@@ -57,9 +57,10 @@ fn life<D: Disk + Drop, C: Children + Drop>(
     }
 }
 
-/// Makes a store on a new disk in memory, opens it and makes a turn; then what a crash leaves of the disk, by these picks, is opened in the same boot or
-/// another one, with the same children, and a turn is made. Where all of it is answered Ok the manager is handed out, with its state: so it is an
-/// instance of what is taken for granted of the disk, and where the children found memory of what is of the children.
+/// Makes a store on a new disk in memory, opens it and makes a turn. The disk that a crash leaves, by these picks, is
+/// then opened in the same boot or another one, with the same children, and a turn is made. If all of it is answered Ok
+/// the manager is returned, with its state. So it is an instance of the premises on the disk, and, if the children
+/// found memory, of those on the children.
 ///
 /// Its refusals are those of the calls that it makes.
 pub fn two_lives(

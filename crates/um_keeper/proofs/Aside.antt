@@ -1,4 +1,4 @@
--- A snapshot under way: what its bytes come to, and with the records behind it.
+-- A snapshot under way: the state that its bytes spell, alone and with the records after it.
 use Rattle.std.proofs.Common.{◌≡◌, ◌⊎◌, ◌∙◌, ℕ, ◌+◌, ◌<◌, ◌≤◌, min, Bool, true, false, List, [], ◌∷◌, ◌++◌, length, refl, sym, ap, subst, inl, inr, arith, length-append}
 use Rattle.std.specs.Prelude.{Some, if◌then◌else◌}
 use Rattle.std.proofs.lemmas.Option.{same_Some}
@@ -20,9 +20,9 @@ use Rattle.um_slot.specs.Snapshots.{IsWritten}
 use Rattle.um_keeper.specs.Keeping.{has_bytes, log_generation}
 use Rattle.um_keeper.specs.Underway.{Spells, IsAside}
 
--- ---- what is spelled
+-- ---- spelled states
 
--- what is spelled is what a store comes to
+-- the spelled state is the state of a store
 pub comes_of : {layout : Layout} {body : List ℕ} {records : List (List ℕ)} {s : State} (spells : Spells layout body records s) → ComesTo (body_limit layout) body records spells.start spells.inputs s
 comes_of spells = record { start_is = spells.start_is; inputs_are = spells.inputs_are; servable = spells.servable; run = spells.run }
 
@@ -31,7 +31,7 @@ spells_of {start = start} {inputs} comes = record { start = start; inputs = inpu
 
 -- ---- the bytes of a snapshot under way
 
--- what is said of its state without saying that there is one
+-- facts of its state that don't say that there is one
 abbrev pub Told : Layout → (body : List ℕ) (records : List (List ℕ)) (kept : List ℕ) → Type 0
 Told layout body records kept = (start : State) (inputs : List Input) → nothing_left (state_at body) ≡ Some start → inputs_of records ≡ Some inputs
     → (t : State) → Run (body_limit layout) start inputs t → (nothing_left (state_at kept) ≡ Some t) × IsServable (body_limit layout) t
@@ -59,7 +59,7 @@ module _ {layout : Layout} {image : Image} {newest : ℕ} {body kept : List ℕ}
           may = both.1;
         }
 
-    -- with these bytes as its body the store comes to the state by the records behind
+    -- with these bytes as its body the store reaches the state by the records after it
     pub spells_behind : IsAside layout image newest body kept → Spells layout kept behind s
     spells_behind is =
         let p = inputs_split (records_of current layout newest image) behind all.inputs all.inputs_are in
@@ -86,7 +86,7 @@ own_generation newest generation kept is none = let same : generation ≡ newest
 
 -- ---- all records that count, by their parts
 
--- what ends alike is equal before that
+-- lists that end alike are equal before that
 pub ends_alike : (a b c d : List (List ℕ)) → a ++ b ≡ c ++ d → length b ≡ length d → (a ≡ c) × (b ≡ d)
 ends_alike [] b [] d is same = (refl, is)
 ends_alike [] b (y ∷ c) d is same = absurd (omega (arith, ap (λ (l : List (List ℕ)). length l) is, length-append c d, same))
@@ -122,15 +122,15 @@ module _ (layout : Layout) (newest generation : ℕ) (a b : Image) (above_a : Is
       (sym (split layout newest generation b (inr next) above_b) ∙ same ∙ split layout newest generation a (inr next) above_a) long in
       both
 
--- ---- what stands beside the log
+-- ---- the sectors beside the log
 
--- so many sectors of a body that fits have room in its slot
+-- this many sectors of a body that fits have room in its slot
 pub written_room : (layout : Layout) (kept : List ℕ) (written : ℕ) → (0 < length kept → written < sector_count (length kept)) → (length kept ≡ 0 → written ≡ 0)
     → length kept ≤ body_limit layout → written < layout.slot_sectors
 written_room layout [] written going none short = let zero_is = none refl in omega (arith, zero_is, layout.slot_least)
 written_room layout (x ∷ kept) written going none short = let some = going (omega arith) in omega (arith, some, short, layout.slot_least)
 
--- so many of them were written at most
+-- at most this many of them were written
 pub low_written : (kept : List ℕ) (written : ℕ) → (0 < length kept → written < sector_count (length kept)) → (length kept ≡ 0 → written ≡ 0) → written ≤ sector_count (length kept)
 low_written [] written going none = let zero_is = none refl in omega (arith, zero_is)
 low_written (x ∷ kept) written going none = let some = going (omega arith) in omega (arith, some)
@@ -144,7 +144,7 @@ pub all_written : (layout : Layout) (image : Image) (slot : Slot) (kept : List �
     → IsWritten layout image slot kept (min (from + count) (sector_count (length kept))) → IsWritten layout image slot kept (sector_count (length kept))
 all_written layout image slot kept from count enough is i below = is i (omega (arith, below, enough))
 
--- what changes in the log alone leaves them
+-- a change in the log alone leaves them
 pub written_apart : (layout : Layout) (a b : Image) (slot : Slot) (kept : List ℕ) (written : ℕ) → written < layout.slot_sectors → ((j : ℕ) → j < first_log_sector layout → b j ≡ a j)
     → IsWritten layout a slot kept written → IsWritten layout b slot kept written
 written_apart layout a b slot kept written room same is i below = same (slot_start layout slot + 1 + i) (before slot) ∙ is i below
@@ -153,7 +153,7 @@ written_apart layout a b slot kept written room same is i below = same (slot_sta
     before A = omega (arith, below, room)
     before B = omega (arith, below, room)
 
--- what changes in the place of the log's generation alone leaves the records before them
+-- a change in the place of the log's generation alone leaves the records before them
 pub before_same : (layout : Layout) (newest generation : ℕ) (a b : Image) → generation ≡ newest + 1
     → ((j : ℕ) → first_log_sector layout ≤ j → (j < log_start layout generation) ⊎ (log_end layout generation ≤ j) → b j ≡ a j)
     → records_of current layout newest b ≡ records_of current layout newest a

@@ -1,4 +1,4 @@
--- Of inputs that are taken one behind the other.
+-- Laws of inputs that are taken in order.
 use Rattle.std.proofs.Common.{◌≡◌, ◌⊎◌, ◌∙◌, ℕ, zero, suc, ◌+◌, ◌-◌, arith, Bool, true, false, List, [], ◌∷◌, ◌++◌, append_assoc, append-nil, length, length-append, map, replicate, take, drop, refl, sym, ap, subst, inl, inr}
 use Rattle.std.specs.List.{AllByRecursion, Contains}
 use Rattle.std.specs.Prelude.{Ok, Err}
@@ -27,7 +27,7 @@ use Rattle.um_wire.specs.declared.refusal.Refusal.TheVariants.{Device, Generatio
 
 -- ---- numbers
 
--- the accepted ones are a run, with the actions that were asked
+-- the accepted ones are a run, with the actions that they want
 run_of : {size : ℕ} {s t : State} {inputs : List Input} {answers : List Answer} → AreAnswered size s inputs answers t
     → (some : List Input) × (run : Run size s some t) × (actions_in run ≡ all_asked answers)
 run_of all_answered = ([], rests, refl)
@@ -48,11 +48,11 @@ pub back_append : (xs ys : List Back) (s : Standing) → state_before_all (xs ++
 back_append [] ys s = refl
 back_append (x ∷ xs) ys s = ap (state_before x) (back_append xs ys s)
 
--- the answers with one more, and those behind it
+-- the answers with one more, and those after it
 pub appended : (more all : List Answer) (answer : Answer) (rest : List Answer) → all ≡ more ++ answer ∷ [] → all ++ rest ≡ more ++ (answer ∷ rest)
 appended more all answer rest is = ap (λ l. l ++ rest) is ∙ append_assoc more (answer ∷ []) rest
 
--- ---- what is to be recorded
+-- ---- the records that inputs need
 
 pub idle_left : (s : State) {left more : List Input} {input : Input} → left ≡ input ∷ more → AllByRecursion (IsIdle s) left → IsIdle s input × AllByRecursion (IsIdle s) more
 idle_left s is all = subst (AllByRecursion (IsIdle s)) is all
@@ -68,7 +68,7 @@ unrecorded_meant s [] (answer ∷ meant) rest none = tt
 unrecorded_meant s (input ∷ inputs) (answer ∷ meant) rest none =
     (elim none.0 [ inl idle ↦ inl idle | inr refusal ↦ inr (undenied answer refusal) ], unrecorded_meant s inputs meant rest none.1)
 
--- what is to be recorded of none has no record
+-- an input that needs no record has none
 no_record : (s : State) (input : Input) (answer : Answer) → IsIdle s input ⊎ IsRefusal answer → HasNoRecord s input answer
 no_record s input (Ok given) (inl idle) = idle
 no_record s input (Ok given) (inr refusal) = absurd refusal
@@ -160,7 +160,7 @@ taken_one (x ∷ judged) rest [] same = absurd (omega (arith, same))
 taken_one (x ∷ judged) rest (a ∷ meant) same =
     ap (λ l. where_step a x ++ l) (taken_one judged rest meant (omega (arith, same))) ∙ sym (append_assoc (where_step a x) (taken judged meant) (take 1 rest))
 
--- a fault behind all of them takes none
+-- a fault after all of them takes none
 pub taken_over : (inputs : List Input) (answers : List Answer) → length answers ≡ length inputs → taken inputs (answers ++ Err Device ∷ []) ≡ taken inputs answers
 taken_over [] [] same = refl
 taken_over [] (a ∷ answers) same = absurd (omega (arith, same))
@@ -226,7 +226,7 @@ module _ {next end before now : ℕ} {size : ℕ} {s : State} {inputs : List Inp
     pub fell_told : HasFault told
     fell_told = subst HasFault (sym are) (some_told size s stopped.u stopped.judged stopped.rest meant stopped.fails)
 
-    -- a crash leaves a beginning of what isn't turned away
+    -- a crash leaves a beginning of the inputs that aren't turned away
     all_taken : taken inputs told ≡ taken stopped.judged meant ++ stopped.rest
     all_taken = ap (λ l. taken l told) stopped.parts ∙ ap (taken (stopped.judged ++ stopped.rest)) are ∙ taken_denied stopped.judged stopped.rest meant (same_length stopped.were)
 
@@ -245,7 +245,7 @@ module _ {next end before now : ℕ} {size : ℕ} {s : State} {inputs : List Inp
     pub fell_unrecorded : NeedNoRecord s inputs told → NeedNoRecord s inputs (map denied meant ++ replicate (length stopped.rest) (Err Device))
     fell_unrecorded none = subst (NeedNoRecord s inputs) are none
 
--- none is asked for where all was denied
+-- where all was denied there are no actions
 none_denied : (answers : List Answer) (count : ℕ) → all_asked (map denied answers ++ replicate count (Err Device)) ≡ []
 none_denied [] zero = refl
 none_denied [] (suc count) = none_denied [] count
@@ -261,7 +261,7 @@ denied_new s t meant count told same is =
     subst (λ (u : State). AreNew s.next u.next (started_numbers (all_asked told))) (sym same)
     (subst (λ l. AreNew s.next s.next (started_numbers l)) (sym (ap all_asked is ∙ none_denied meant count)) (none_new s.next))
 
--- what a refusal is, of an answer
+-- whether an answer is a refusal of the store
 abbrev store_answer : Answer → Bool
 store_answer (Ok given) = false
 store_answer (Err e) = is_of_store e
@@ -283,7 +283,7 @@ no_fault (and_next {answer = answer} {answers = answers} one more) has =
 
 -- ---- one input
 
--- one that is done, and asks for nothing
+-- one that is done, and has no actions
 pub done_answered : {size : ℕ} {s : State} {input : Input} (given : Reply × List Action) → given.0 ≡ Done → given.1 ≡ [] → Step size s input Done [] s
     → Answered size s input (Ok given) s
 done_answered {size} {s} {input} given reply actions step = accepted

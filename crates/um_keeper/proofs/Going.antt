@@ -1,4 +1,4 @@
--- How the disk stands behind a part of a snapshot's body: as before but for the other slot's body, which isn't read.
+-- The disk after a part of a snapshot's body: as before except for the other slot's body, which isn't read.
 use Rattle.std.proofs.Common.{◌≡◌, ◌⊎◌, ◌∙◌, ℕ, ◌+◌, ◌<◌, ◌≤◌, List, length, sym, subst, inl, inr, ⊎_elim, arith}
 use Rattle.um_model.specs.Disk.{Past, Image, IsImage, During, seen}
 use Rattle.um_model.specs.Store.{current, other, slot_start, first_log_sector, records_of, IsOf, IsNewest, IsNoneAbove, IsLogEnd, IsStore}
@@ -73,7 +73,7 @@ module _ {layout : Layout} {past : Past} {slot : Slot} {image : Image} (b : IsBe
         (λ fewer. inr (fewer.0, ends_same layout generation b.from image log_beside fewer.1)) has.rest;
   }
 
--- ---- behind the calls that write a part
+-- ---- after the calls that write a part
 
 module _ {layout : Layout} {past new : Past} {slot : Slot} {newest : ℕ} {body : List ℕ} {records more : List (List ℕ)} {generation number next : ℕ} (here : IsImage past (seen past))
     (ahead : GoesOnAhead layout past slot newest body records more generation number next) (run : During past new (IsBeside layout past slot)) where

@@ -1,4 +1,4 @@
--- What the inputs of a list need and are answered while they are taken.
+-- The calls that the inputs of a list need, and their answers while they are taken.
 use Rattle.std.proofs.Common.{◌≡◌, ◌⊎◌, ℕ, ◌<◌, ◌≤◌, Bool, true, false, List, [], ◌∷◌, ◌++◌, length, refl, sym, ap, subst, inl, inr, ⊎_elim, arith, append-nil}
 use Rattle.std.specs.Prelude.{Err, if◌then◌else◌}
 use Rattle.std.proofs.lemmas.Bool.{false≢true, cases_Bool}
@@ -21,7 +21,7 @@ use Rattle.um_keeper.specs.Underway.{IsUnderway, MayRise, owed, finish_ahead, is
 use Rattle.um_keeper.specs.declared.ahead.Ahead.{Ahead}
 use Rattle.um_keeper.proofs.Underway.{underway_stayed}
 
--- ---- what the calls need
+-- ---- the calls needed
 
 -- a state that may be held may be held by a store of the layout
 pub may_hold : {layout : Layout} {size : ℕ} {s : State} → MayHold layout size s → IsServable (body_limit layout) s
@@ -56,7 +56,7 @@ cause_of layout same other (inl (inr device)) = absurd (other device)
 cause_of layout same other (inr (inl spent)) = inl (ap is_turned_away spent)
 cause_of layout {state = state} {input = input} {e = e} same other (inr (inr told)) = inr (refused_of e, subst (λ n. Step n state input (Refusal (refused_of e)) [] state) same told.1)
 
--- a count of calls with what is owed
+-- a count of calls with those that are owed
 pub owed_most : (b : Bool) → owed b ≤ 1
 owed_most true = omega arith
 owed_most false = omega arith

@@ -1,4 +1,4 @@
--- What a keeper holds of its disk: what the log and the slots need of it, and what they give back.
+-- The invariant of a keeper's disk: the facts of it that the log and the slots need, and those that they give back.
 use Rattle.std.proofs.Common.{◌≡◌, ◌≢◌, ◌⊎◌, ◌∙◌, ℕ, zero, suc, ◌+◌, ◌<◌, ◌≤◌, true, List, [], ◌∷◌, ◌++◌, length, take, refl, sym, ap, subst, arith, Option, Some, None, is_some, inl, inr, ⊎_elim}
 use Rattle.std.specs.Prelude.{Result, Ok, Err, IfOk}
 use Rattle.std.proofs.Math.Bridge.{le_prop}
@@ -46,9 +46,9 @@ begun_longer {layout} {s} xs ys image b =
     let (n, is) = longer xs ys b.count in
     record { count = n; state = b.state; run = subst (λ l. Run (body_limit layout) s l b.state) (sym is) b.run; store = b.store }
 
--- ---- what the log and the slots need
+-- ---- facts that the log and the slots need
 
--- what a keeper holds, with the snapshot's body, its state and the inputs
+-- the invariant of a keeper, with the snapshot's body, its state and the inputs
 pub record Unpacked (past : Past) (layout : Layout) (slot : Slot) (newest : ℕ) (kept : List ℕ) (generation number next : ℕ) (s : State) : Type 0 where
   pub body : List ℕ
   pub start : State
@@ -125,7 +125,7 @@ module _ {past : Past} {sectors : ℕ} {layout : Layout} {slot : Slot} {newest :
   pub still : During past past (λ image. IsStoreOf layout image s)
   still = started past _ stores
 
--- ---- what they give back
+-- ---- facts that they give back
 
 pub packed : {past : Past} {sectors : ℕ} {layout : Layout} {slot : Slot} {newest : ℕ} {kept : List ℕ} {written generation number next : ℕ} {s : State} {body : List ℕ} {records : List (List ℕ)}
     {start : State} {inputs : List Input} → IsImage past (seen past) → generation ≡ log_generation newest kept → GoesOn layout past slot newest body records generation number next
@@ -187,7 +187,7 @@ module _ {past : Past} {sectors : ℕ} {layout : Layout} {slot : Slot} {newest :
       → IsBegun layout s (input ∷ []) image
   either_begun image either = begun (either_state (unpacked here k).comes fit stepped either)
 
-  -- behind it the keeper holds the state after the input
+  -- afterwards the keeper holds the state after the input
   pub recorded : {new : Past} {later further : ℕ} → IsImage new (seen new) → written < layout.slot_sectors → (parts : ℕ) → next + parts ≤ log_end layout generation
       → ((j : ℕ) → (j < next) ⊎ (next + parts ≤ j) → seen new j ≡ seen past j)
       → GoesOn layout new slot newest (unpacked here k).body (all_records current layout newest (seen past) ++ input_spelling input ∷ []) generation later further
@@ -270,9 +270,9 @@ pub record_short : {layout : Layout} {size : ℕ} {s t : State} {input : Input} 
 record_short {size = size} {s = s} {t = t} {input} {reply} {actions} held fit step accepted =
     ∥∥₁_elim held.fits le_prop (λ f. (accepted_room size s input reply actions t f fit step accepted).1)
 
--- ---- what a step answers
+-- ---- the answer of a step
 
--- what follows from what is said of a value
+-- a fact that follows from another fact of the value
 pub if_ok : {A E : Type 0} {P Q : A → Type 0} (result : Result A E) → ((x : A) → P x → Q x) → IfOk result P → IfOk result Q
 if_ok (Ok x) more said = more x said
 if_ok (Err e) more said = said

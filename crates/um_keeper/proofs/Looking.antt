@@ -1,4 +1,4 @@
--- What a summary makes of what was taken up.
+-- The summary of a store that was taken up.
 use Rattle.std.proofs.Common.{◌≡◌, ◌∙◌, ℕ, List, [], ◌∷◌, length, Some, sym, ap, subst, arith}
 use Rattle.std.proofs.lemmas.Option.{same_Some}
 use Rattle.um_model.specs.Bytes.{◌>>=◌, nothing_left}
@@ -29,7 +29,7 @@ same_count (bytes ∷ records) inputs is =
     let all = ap (λ (l : List Input). length l) (same_Some (first ∷ others) inputs both) in
     omega (arith, fewer, all)
 
--- what was taken up is told
+-- the store that was taken up is summed up
 pub summed : {count : ℕ} {image : Image} {layout : Layout} {slot : Slot} {generation : ℕ} {s : State} (m : Summary) (opened : OpenedStore)
     → IsTakenUp count image layout slot generation s → IsRead layout image opened
     → m.generation ≡ opened.generation → m.records ≡ opened.records → m.cut_off ≡ opened.cut_off → m.damaged ≡ opened.damaged

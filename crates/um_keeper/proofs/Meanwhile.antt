@@ -1,4 +1,4 @@
--- What a crash leaves while the store is written is a store of the state before or of that behind.
+-- An image that a crash leaves while the store is written is a store of the state before or of the state after.
 use Rattle.std.specs.Prelude.{◌⊎◌, ℕ, List}
 use Rattle.std.proofs.Common.{inl, inr}
 use Rattle.um_model.specs.Disk.{Image}
@@ -12,7 +12,7 @@ use Rattle.um_model.specs.declared.layout.Slot.{Slot}
 use Rattle.um_laws.proofs.StandsLaws.{ComesTo, store_of, one_more}
 use Rattle.um_log.specs.Appending.{EitherRecord}
 
--- ---- what a crash leaves meanwhile
+-- ---- images that a crash leaves meanwhile
 
 -- While a record is written the image is a store of the state before the step or of that after it.
 pub either_state : {layout : Layout} {image : Image} {slot : Slot} {newest : ℕ} {body : List ℕ} {records : List (List ℕ)} {start : State} {inputs : List Input} {s t : State} {input : Input} {reply : Reply}

@@ -1,4 +1,5 @@
--- Inputs that were offered as a part of a life: what a crash leaves of them, a life may leave whose last offers they are.
+-- Inputs that were offered as a part of a life: an image that a crash leaves of them is one that a life may leave whose
+-- last offers they are.
 use Rattle.std.proofs.Common.{⊎_elim, IfOk, IfErr, OnErr, ◌≡◌, ◌≢◌, ◌⊎◌, ◌∙◌, ◌++◌, inl, inr, ℕ, zero, suc, List, [], ◌∷◌, length, map, replicate, take, Bool, true, false, if◌then◌else◌, Result, Ok, Err, append_assoc, refl, sym, ap, subst, true≢false}
 use Rattle.std.proofs.lemmas.Bool.{false≢true}
 use Rattle.um_engine.specs.OfStore.{is_of_store}
@@ -23,9 +24,9 @@ use Rattle.um_wire.specs.Refusal.{refused_of}
 use Rattle.um_wire.specs.declared.refusal.Refusal.{Refusal}
 use Rattle.um_wire.specs.declared.refusal.Refusal.TheVariants.{BadRequest, UnknownVerb, BadName, NotFound, Masked, BadSetting, NotLoaded, Clash, OrderingCycle, JobConflict, Exists, BadPath, TooLarge, NoRoom, NoMemory, Device, Reopen, Damaged, NotFormatted, GenerationsSpent, NoSuchJob, OtherLayout}
 
--- ---- what came of an input
+-- ---- the outcome of an input
 
--- what came of an input that was refused so: it was turned away, or not
+-- the outcome of an input with this refusal: it was turned away, or not
 data Came (e : Refusal) : Type 0 where
   away : (e ≡ NoMemory) ⊎ (e ≡ GenerationsSpent) → is_turned_away e ≡ true → outcome_of (Err e) ≡ lives.turned_away → Came e
   lost_it : e ≡ Device → is_turned_away e ≡ false → outcome_of (Err e) ≡ lives.unanswered → Came e
@@ -67,7 +68,7 @@ own_or_memory e {P} of_step told = by (came e)
     by (again reopen) = absurd (false≢true (sym of_step ∙ ap is_of_store reopen))
     by (own is o) = inr (inr (of_step, told (λ memory. false≢true (sym is ∙ ap is_turned_away memory))))
 
--- what came of an input that its step refused
+-- the outcome of an input that its step refused
 came_own : (e : Refusal) → is_of_store e ≡ false → is_turned_away e ≡ false → outcome_of (Err e) ≡ lives.answered (machine.Refusal (refused_of e))
 came_own e of_step stays = by (came e)
   where
@@ -97,19 +98,19 @@ one_come layout s t input answer more image (refused {e} of_step stays step) m =
 one_come layout s t input answer more image (turned_away {e} is) m =
     subst (λ o. MayLeave layout s (record { input = input; outcome = o } ∷ more) image) (sym (came_away e is)) (turns_away m)
 
--- a life whose inputs were answered has come to the state behind them
+-- a life whose inputs were answered has reached the state after them
 pub answered_come : (layout : Layout) (s t : State) (inputs : List Input) (answers : List Answer) → AreAnswered (body_limit layout) s inputs answers t
     → HasCome layout s (offers inputs answers) t
 answered_come layout s t inputs answers all_answered more image m = m
 answered_come layout s t inputs answers (and_next {t = mid} {input = input} {inputs = later} {answer = answer} {answers = others} one others_are) more image m =
     one_come layout s mid input answer (offers later others ++ more) image one (answered_come layout mid t later others others_are more image m)
 
--- a life that has come to one state, and from there to another
+-- a life that has reached one state, and from there another
 pub come_on : (layout : Layout) (s t u : State) (first more : List Offer) → HasCome layout s first t → HasCome layout t more u → HasCome layout s (first ++ more) u
 come_on layout s t u first more come further later image m =
     subst (λ l. MayLeave layout s l image) (sym (append_assoc first more later)) (come (more ++ later) image (further later image m))
 
--- what stands in the state to which a life has come, it may leave
+-- a store of the state that a life has reached is one that it may leave
 pub come_leaves : (layout : Layout) (s t : State) (offered : List Offer) (image : Image) → HasCome layout s offered t → IsStoreOf layout image t
     → MayLeave layout s offered image
 come_leaves layout s t offered image come store = subst (λ l. MayLeave layout s l image) (ends_so offered) (come [] image (holds store none))
@@ -118,7 +119,7 @@ come_leaves layout s t offered image come store = subst (λ l. MayLeave layout s
     ends_so [] = refl
     ends_so (x ∷ l) = ap (λ r. x ∷ r) (ends_so l)
 
--- ---- inputs that a crash meets
+-- ---- inputs that a crash interrupts
 
 same_refusal : {T : Type 0} {d e : Refusal} → ◌≡◌ {A = Result T Refusal} (Err d) (Err e) → d ≡ e
 same_refusal is = cc
@@ -144,7 +145,7 @@ denied_stay (Err e ∷ meant) count stay = (stay.0, denied_stay meant count stay
 pub fell_stays : {size : ℕ} {s t : State} {inputs : List Input} {answers : List Answer} → FellBack size s inputs answers t → NoReopen answers
 fell_stays back = subst NoReopen (sym back.are) (denied_stay back.meant (length back.rest) (each_stays back.were))
 
--- what came of an input whose answer isn't told yet, and whether it was taken
+-- the outcome of an input whose answer isn't given yet, and whether it was taken
 untold_taken : (answer : Answer) (input : Input) → answer ≢ Err Reopen
     → ((untold (outcome_of answer) ≡ lives.unanswered) × (where_step answer input ≡ input ∷ [])) ⊎ ((untold (outcome_of answer) ≡ lives.turned_away) × (where_step answer input ≡ []))
 untold_taken (Ok given) input differs = inl (refl, refl)
@@ -260,7 +261,7 @@ leaves_some layout s offered image (holds store untold_are) = record { state = s
 leaves_some layout s (offer ∷ offered) image (takes {t = t} reply actions may step more) = leaves_some layout t offered image more
 leaves_some layout s (offer ∷ offered) image (turns_away more) = leaves_some layout s offered image more
 
--- one that still is what another was may be left as that may
+-- an image that still is a store of the same states may be left if the other may
 still_leaves : (layout : Layout) (s t : State) (offered : List Offer) (from image : Image) → StandsFor layout from t → IsStill layout from t image
     → MayLeave layout s offered from → MayLeave layout s offered image
 still_leaves layout s t offered from image stands same (holds store untold_are) =
@@ -270,7 +271,7 @@ still_leaves layout s t (offer ∷ offered) from image stands same (takes {t = u
     takes reply actions may step (still_leaves layout u t offered from image stands same more)
 still_leaves layout s t (offer ∷ offered) from image stands same (turns_away more) = turns_away (still_leaves layout s t offered from image stands same more)
 
--- Opening adds nothing to what a life may have left.
+-- Opening adds nothing to the images that a life may have left.
 pub opening_leaves : (layout : Layout) (s : State) (before : List Offer) (old new : Past) → Images old (MayLeave layout s before)
     → During old new (IsAsBefore layout old) → During old new (MayLeave layout s before)
 opening_leaves layout s before old new left = weaker old new (IsAsBefore layout old) (MayLeave layout s before)
@@ -332,7 +333,7 @@ refused_goes_on layout s t u before input e old new failed come during kept caus
       ]
     ]
 
--- What an input is answered is a part of a life.
+-- An input and its answer are a part of a life.
 pub step_goes_on : (layout : Layout) (size : ℕ) (s t u : State) (before : List Offer) (input : Input) (answer : Answer) (old new : Past) (failed : Bool)
     → size ≡ body_limit layout → HasCome layout s before t → During old new (IsBegun layout t (input ∷ []))
     → IfOk answer (λ receipt. machine.Step size t input receipt.0 receipt.1 u) → IfOk answer (λ receipt. (r : Refused) → receipt.0 ≢ machine.Refusal r)

@@ -1,4 +1,4 @@
--- What opening makes of what it reads.
+-- The store that an opening makes of the one it reads.
 use Rattle.std.proofs.Common.{◌≡◌, ◌⊎◌, ◌∙◌, inl, inr, ⊎_elim, ℕ, ◌+◌, ◌-◌, ◌^◌, ◌<◌, ◌≤◌, Bool, true, false, List, [], ◌∷◌, ◌++◌, length, take, refl, sym, ap, subst, Option, Some, None, arith}
 use Rattle.std.specs.Prelude.{Result, Ok, Err}
 use Rattle.std.proofs.lemmas.Bool.{cases_Bool, false≢true}
@@ -105,14 +105,14 @@ replayed (and_then {records = records} {input = input} is leads more) =
     let (inputs, are, run) = replayed more in
     (input ∷ inputs, (λ k. is k >>= λ i. are k >>= λ more. Some (i ∷ more)), goes leads.reply leads.actions leads.step run)
 
--- ---- what is taken up
+-- ---- the store that is taken up
 
--- what comes of it
+-- the state that it leads to
 pub taken_comes : {count : ℕ} {image : Image} {layout : Layout} {slot : Slot} {generation : ℕ} {s : State} (t : IsTakenUp count image layout slot generation s)
     → (inputs : List Input) × ComesTo (body_limit layout) t.body (all_records t.has.format layout generation image) t.start inputs s
 taken_comes t = let (inputs, are, run) = replayed t.replays in (inputs, record { start_is = t.starts.read; inputs_are = are; servable = t.starts.servable; run = run })
 
--- what the newest slot and the records beside it hold
+-- the content of the newest slot and of the records beside it
 contents_told : (format : Format) (layout : Layout) (image : Image) {slot : Slot} {generation : ℕ} {body : List ℕ} {start s : State} {inputs : List Input}
     → sectors.newest_of layout image ≡ Some (record { slot = slot; generation = generation; body = body })
     → ComesTo (body_limit layout) body (all_records format layout generation image) start inputs s → contents_of format layout image ≡ Some (contents slot generation start inputs)
@@ -121,7 +121,7 @@ contents_told format layout image {slot} {generation} {start = start} newest com
     ∙ (λ k. comes.start_is k >>= λ x. inputs_of (all_records format layout generation image) >>= λ xs. Some (contents slot generation x xs))
     ∙ (λ k. comes.inputs_are k >>= λ xs. Some (contents slot generation start xs))
 
--- what was taken up of an image is what it stands for
+-- the state that was taken up of an image is the one it stands for
 pub taken_stands : {count : ℕ} {image : Image} {layout : Layout} {slot : Slot} {generation : ℕ} {s : State} → IsTakenUp count image layout slot generation s → StandsFor layout image s
 taken_stands {image = image} {layout = layout} {slot = slot} {generation = generation} t =
     let (inputs, comes) = taken_comes t in
@@ -191,7 +191,7 @@ anew_stores {format} {layout} {slot} {newest} {last} {body} {image} {s} above ha
       none_later = above_later layout (let low = below_top format newest in omega (arith, low, above)) has.none_later;
     })) (state_back s fits) may
 
--- and what a keeper holds
+-- and the invariant of a keeper
 pub keeps_anew : {past : Past} {count : ℕ} {layout : Layout} {slot : Slot} {newest last : ℕ} {body : List ℕ} {s : State} → IsImage past (seen past) → last < newest
     → Images past (HasNewest current layout slot newest body last) → body ≡ state_spelling s → FitState s → IsServable (body_limit layout) s → store_sectors layout ≤ count
     → Keeps past count layout slot newest [] 0 newest 0 (log_start layout newest) s
@@ -238,7 +238,7 @@ module _ {format : Format} {layout : Layout} (past new : Past) {slot : Slot} {ne
   pub rewrite_still : During past past (HasNewestIn layout slot newest body last)
   rewrite_still = started past _ (λ image at. record { format = format; has = all image at })
 
--- ---- the state is written anew
+-- ---- the state is written as the next generation
 
 module _ {layout : Layout} {slot : Slot} {newest last : ℕ} {body : List ℕ} {s : State} (above : last < newest) (is : body ≡ state_spelling s) (fits : FitState s)
     (may : IsServable (body_limit layout) s) where
@@ -281,11 +281,11 @@ module _ (past : Past) (count : ℕ) (format : Format) (layout : Layout) (slot :
       still_was (seen past) image taken (subst (λ (f : Format). image 0 ≡ superblock f layout) (sym found.format_is) was.first) was.snapshot (λ j low. was.log j low ∙ ap (λ (i : Image). i j) same)
   still_either image (inr store) = record { stands = store.stands; store = λ is. store }
 
-  -- while its state is written anew, the image stands for it
+  -- while its state is written as the next generation, the image stands for it
   pub renewed : (new : Past) → During past new (WasOrStores format layout past slot generation taken.body s) → During past new (IsStill layout (seen past) s)
   renewed new run = weaker past new _ _ still_either run
 
--- ---- what a crash leaves of an opening
+-- ---- images that a crash leaves of an opening
 
 -- an image of before is as before
 as_before : (layout : Layout) (past : Past) → Images past (IsSomeStore layout) → Images past (IsAsBefore layout past)
@@ -304,7 +304,7 @@ module _ (layout : Layout) (old : Past) (all : Images old (IsSomeStore layout)) 
   unwritten_before new (inl same) = subst (λ p. During old p (IsAsBefore layout old)) (sym same) (started old (IsAsBefore layout old) (as_before layout old all))
   unwritten_before new (inr sync) = subst (λ p. During old p (IsAsBefore layout old)) (sym sync) sync_before
 
-  -- and all behind it
+  -- and all images after it
   pub stays_before : (found : Layout) (s : State) (new : Past) → StaysFor found s old new → During old new (IsAsBefore layout old)
   stays_before found s new stays =
       let one : found ≡ layout = one_layout stays.stands.format (all (seen old) is).stands.format found layout (seen old) stays.stands.first (all (seen old) is).stands.first in
@@ -358,7 +358,7 @@ unfolding superblock filled
 name_six One layout = refl
 name_six Two layout = refl
 
--- the first of such places, and those behind it
+-- the first of such places, and the rest
 abbrev first_bytes : List (ℕ × List ℕ) → List ℕ
 first_bytes [] = []
 first_bytes (p ∷ ps) = p.1
@@ -407,7 +407,7 @@ module _ (count : ℕ) (format : Format) (layout : Layout) (image : Image) (room
   there : sectors.newest_of layout image ≡ Some (record { slot = slot; generation = generation; body = body })
   there = (newest_some layout image _).1 newest
 
-  -- whatever is told of it is told of this store
+  -- whatever store the image is, it is this one
   this : (by : Format) (other : Layout) (n : sectors.Newest) → image 0 ≡ superblock by other → sectors.newest_of other image ≡ Some n
       → (other ≡ layout) × (n.generation ≡ generation) × (n.body ≡ body)
   this by other n zero held =
@@ -452,7 +452,7 @@ module _ (count : ℕ) (format : Format) (layout : Layout) (image : Image) (room
       let are : all_records has.format other n.generation image ≡ all_records format layout generation image = λ k. all_records (by k) (same.0 k) (same.1 k) image in
       absurd (none_placed has.format other n.generation image (ap inputs_of are ∙ comes.inputs_are) fails)
 
--- as laws of what is told of a disk
+-- as laws of the refusals of a disk
 pub a_store_unread : (count : ℕ) (layout : Layout) (image : Image) (s : State) (e : Refusal) → store_sectors layout ≤ count → StandsFor layout image s → ¬ IsUnread count image e
 a_store_unread count layout image s e room is fails =
     let c = is.contents in
@@ -475,7 +475,7 @@ a_taken_read count layout image slot generation greatest s e t most early (spent
     let last = store_spent count t.has.format layout image t.has.room slot generation t.body t.start s inputs t.has.first t.newest comes greatest most is in
     omega (arith, last, early)
 
--- the state that was taken up, one generation behind the greatest
+-- the state that was taken up, one generation after the greatest
 pub next_of : (count : ℕ) (image : Image) (format : Format) (from layout : Layout) (before slot : Slot) (earlier greatest generation : ℕ) (s t : State) → t ≡ s → layout ≡ from → slot ≡ other before
     → generation ≡ greatest + 1 → IsFound count image format from before earlier (Some greatest) s → IsNextOf count image layout slot generation t
 next_of count image format from layout before slot earlier greatest generation s t state one turned next found =

@@ -1,4 +1,4 @@
--- The records of a log are taken again one behind the other, as they are read.
+-- The records of a log are taken again in order, as they are read.
 use Rattle.std.proofs.Common.{◌≡◌, ◌⊎◌, ◌↔◌, ◌∙◌, ℕ, suc, ◌+◌, ◌-◌, ◌^◌, ◌<◌, List, [], ◌∷◌, ◌++◌, length, Option, Some, None, inl, inr, refl, sym, ap, subst, arith, append-nil, length-append}
 use Rattle.std.specs.Option.{IfSome}
 use Rattle.std.proofs.lemmas.Option.{none-some}
@@ -155,7 +155,7 @@ module _ (format f : Format) (layout l : Layout) (generation n : ℕ) (old new :
   fails_at e fails = first_fails format layout generation (seen old) e
       (subst (λ (p : List (ℕ × List ℕ)). IsNoInput p e) (λ k. placed (area_start (by k) (on k) (of k)) (records_of (by k) (on k) (of k) (seen (same k)))) fails)
 
--- behind them those of the next generation
+-- after them those of the next generation
 module _ (format : Format) (layout : Layout) (newest : ℕ) (image : Image) (two : format ≡ Two) where
   pub replays_both : (size : ℕ) (s t u : State) → Replays size (records_of format layout newest image) s t → Replays size (records_of Two layout (newest + 1) image) t u
       → Replays size (all_records format layout newest image) s u
@@ -178,7 +178,7 @@ module _ (format : Format) (layout : Layout) (newest : ℕ) (image : Image) (two
 
 -- ---- the greatest generation
 
--- as far as both generations' places tell it
+-- as far as both generations' places show it
 pub last_there : (format : Format) (layout : Layout) (newest : ℕ) (image : Image) (records : ℕ) (here : Remains) (behind : Option Remains) (told : Option ℕ)
     → AreRead format layout newest image records here behind → IfSome told (λ greatest. IfSome behind (λ remains. greatest ≡ remains.greatest)) → ((told ≡ None) ↔ (behind ≡ None))
     → (result : Option ℕ)

@@ -26,7 +26,7 @@ free_still {from = from} layout generation next free = record {
 pub free_at : {D : Type 0} {g : _} {k : Keeper D g} {from : ℕ} → IsFreeFrom k from → IsFreeAt k.ahead.log from
 free_at free = record { start = free.start; behind = free.behind }
 
--- behind what was written
+-- after the written sectors
 pub free_behind : {log l : Log} {from : ℕ} (n : ℕ) → l.layout ≡ log.layout → l.generation ≡ log.generation → l.next ≡ log.next + n → IsFreeAt log from → IsFreeAt l (from + n)
 free_behind {from = from} n layout generation next free = record {
   start = subst (λ m. m ≤ from + n) (ap (λ (z : Layout). log_start z (2 ^ 64 - 1)) (sym layout)) (omega (arith, free.start));

@@ -1,4 +1,4 @@
--- What the inputs of a list take of the log and of the disk, one behind the other.
+-- The sectors and disk calls that the inputs of a list take, in order.
 use Rattle.std.proofs.Common.{◌≡◌, ◌⊎◌, ◌∙◌, ℕ, zero, suc, Bool, false, IsTrue, ◌+◌, ◌*◌, ◌≤◌, arith, List, [], ◌∷◌, ◌++◌, append_assoc, append-nil, add_assoc, add-zero, length, map, replicate, refl, sym, ap, subst, inl, inr}
 use Rattle.std.proofs.Math.Nat.{add-mul}
 use Rattle.std.specs.Prelude.{Err}
@@ -55,7 +55,7 @@ takes_without {size} {old} {s = s} {inputs = inputs} {answers} input answer w sa
       (w.spent generation from high free (input ∷ more) (answer ∷ rest) (spent_without (spent_at input answer (w.free from free) same high told) none behind));
 }
 
--- behind so many calls more, where the log and the snapshot under way are of the same kind
+-- after `more` calls more, where the log and the snapshot under way are of the same kind
 pub rises_more : (old mid : Ahead) {before between now : ℕ} (finish more : ℕ) → MayRise old mid finish before between → {generation : ℕ} {renewing : Bool} → generation ≡ mid.log.generation
     → renewing ≡ is_renewing mid → now ≤ between + more
     → ((generation ≡ old.log.generation) × (renewing ≡ is_renewing old) × (now ≤ before + more))
@@ -180,11 +180,11 @@ unsynced_still {trusted} {first} {last} {synced} {size} {old} {log} {new} {befor
     (subst (λ n. TakesUnsynced trusted first last size old log before n s inputs answers u) (sym calls)
     (subst (λ (z : State). TakesUnsynced trusted first last size old log before now s inputs answers z) (sym states) w)))
 
--- one call behind them
+-- one call after them
 one_behind : (before now made sectors x : ℕ) → now ≤ before + sectors + x → made ≤ now + 1 → made ≤ before + sectors + 1 + x
 one_behind before now made sectors x few one = omega (arith, few, one)
 
--- what all of them take
+-- the calls that all of them take
 pub takes_all : {size : ℕ} {old new : Ahead} {before now : ℕ} {s t : State} {inputs : List Input} {answers : List Answer} (w : Takes size old new before now s inputs answers t)
     (made : ℕ) → made ≤ now + 1 → TakesCalls old.log.layout old.log.next old.log.generation new.log.generation before made size s inputs answers t
 takes_all {old = old} {before = before} {now = now} w made one = record {

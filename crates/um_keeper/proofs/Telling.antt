@@ -1,4 +1,4 @@
--- What is told of whole records that don't count.
+-- Reports on whole records that don't count.
 use Rattle.std.proofs.Common.{◌≡◌, ◌↔◌, ℕ, zero, suc, ◌+◌, ◌-◌, ◌^◌, ◌<◌, ◌≤◌, Bool, List, [], length, refl, sym, ap, subst, Option, Some, None, arith, IsTrue}
 use Rattle.std.specs.Option.{IfSome}
 use Rattle.um_model.specs.Disk.{Image, Past, seen}
@@ -16,10 +16,10 @@ use Rattle.um_slot.specs.Reading.{IsDamaged}
 use Rattle.um_keeper.specs.Opening.{IsBehind, count_in, end_in, HasUncounted, HasLater, EndsAt, TellsCutOff, HaveLater, TellsDamaged, Remain, AreRead}
 use Rattle.um_keeper.specs.declared.keeper.Uncounted.{Uncounted}
 
--- ---- what remains behind the records
+-- ---- the remains after the records
 
 module _ (format : Format) (layout : Layout) (generation : ℕ) (image : Image) (number next : ℕ) (behind : IsBehind format layout generation image number next) where
-  -- of a log that goes on behind them
+  -- of a log that goes on after them
   pub remain_of : (remains : Remains)
       → ((records : List (List ℕ)) → HasRecords format layout generation image records → next ≡ area_start format layout generation + sectors_of records → IsGreatestIn format layout generation image remains.greatest)
       → ((records : List (List ℕ)) → HasRecords format layout generation image records → number ≡ length records → next ≡ area_start format layout generation + sectors_of records
@@ -48,7 +48,7 @@ remain_there format f layout l generation n old new by on of same remains r =
     (subst (λ m. Remain format layout m (seen new) remains) of
     (subst (λ (z : Layout). Remain format z n (seen new) remains) on (subst (λ (z : Format). Remain z l n (seen new) remains) by r)))
 
--- ---- what is told of it
+-- ---- the reports on it
 
 -- sectors are counted up to a later one
 counts_low : {Is : ℕ → Type 0} {from end count : ℕ} → Counts Is from end count → from ≤ end
@@ -70,7 +70,7 @@ counts_none : {Is : ℕ → Type 0} {from : ℕ} (n : ℕ) → ((i : ℕ) → ¬
 counts_none {Is} {from} zero none = subst (λ m. Counts Is from m 0) (omega arith) starts
 counts_none {Is} {from} (suc n) none = subst (λ m. Counts Is from m 0) (omega arith) (passed (counts_none n none) (none (from + n)))
 
--- of a generation behind the last one there is no whole record
+-- of a generation past the last one there is no whole record
 module _ (layout : Layout) (generation : ℕ) (image : Image) (past : 2 ^ 64 - 1 < generation) where
   none_there : records_of Two layout generation image ≡ []
   none_there = never_recorded Two layout generation image (omega (arith, past))
@@ -182,7 +182,7 @@ pub cut_one : (layout : Layout) (newest : ℕ) (image : Image) (here : Remains) 
 cut_one layout newest image here there None is = cut_none One layout newest image here there None is refl
 cut_one layout newest image here there (Some first) is = cut_some One layout newest image here there first is
 
--- what is told where the next generation isn't read
+-- the report where the next generation isn't read
 pub cut_alone : (format : Format) (layout : Layout) (newest : ℕ) (image : Image) (records : ℕ) (here : Remains) (behind : Option Remains) → AreRead format layout newest image records here behind → behind ≡ None
     → (told : Option Uncounted) → CutOff here told → TellsCutOff format layout newest image told
 cut_alone One layout newest image records here None read none told is = cut_one layout newest image here read.here_is told is
@@ -207,7 +207,7 @@ pub of_two : (format : Format) (layout : Layout) (newest : ℕ) (image : Image) 
 of_two One layout newest image records here behind read = absurd read.behind_is
 of_two Two layout newest image records here behind read = (refl, read.here_is, read.behind_is)
 
--- what is told of the other slot
+-- the report on the other slot
 pub damaged_told : (format : Format) (layout : Layout) (generation : ℕ) (image : Image) (later : ℕ) → HaveLater format layout generation image later → (slot : Slot) (is_damaged : Bool)
     → (IsTrue is_damaged ↔ IsDamaged layout (image (slot_start layout (other slot)))) → (told : Option Uncounted)
     → IfSome told (λ damaged. IsTrue is_damaged × (damaged.sector ≡ slot_start layout (other slot)) × (damaged.records ≡ later)) → (told ≡ None → ¬ IsTrue is_damaged)

@@ -1,4 +1,4 @@
--- While a list is taken: how the disk stands behind each record that is written, each part of a snapshot, its end, and the sync.
+-- While a list is taken: the disk after each record that is written, each part of a snapshot, its end, and the sync.
 use Rattle.std.proofs.Common.{◌≡◌, ◌⊎◌, ◌∙◌, ℕ, ◌+◌, ◌<◌, ◌≤◌, Bool, true, false, List, [], ◌∷◌, ◌++◌, length, take, refl, sym, ap, subst, inl, inr, ⊎_elim, arith, append_assoc, append-nil, length-append}
 use Rattle.std.specs.Prelude.{Some, if◌then◌else◌}
 use Rattle.std.proofs.lemmas.Bool.{cases_lt, true≢false, false≢true}
@@ -73,7 +73,7 @@ underway_kept unsynced here k =
 
 module _ {layout : Layout} {s : State} {taken : List Input} {past : Past} {slot : Slot} {newest : ℕ} {kept : List ℕ} {written generation number next : ℕ} {unsynced : Bool} {state : State}
     (under : IsUnderway layout s taken past slot newest kept written generation number next unsynced state) where
-  -- ---- what a crash leaves
+  -- ---- images that a crash leaves
 
   some_begun : (image : Image) → HasSome layout slot newest under.body under.records under.more image → IsBegun layout s taken image
   some_begun image has =
@@ -142,7 +142,7 @@ module _ {layout : Layout} {s : State} {taken : List Input} {past : Past} {slot 
         record { count = b.count; state = b.state; run = b.run; store = store_of has.store (comes_of b.spells) })
         run
 
-    -- and behind it
+    -- and after it
     pub underway_recorded : {new : Past} {l : Layout} {g later further : ℕ} → l ≡ layout → g ≡ generation → written < layout.slot_sectors → (parts : ℕ) → next + parts ≤ log_end layout generation
         → ((j : ℕ) → (j < next) ⊎ (next + parts ≤ j) → seen new j ≡ seen past j) → GoesOnAhead l new slot newest under.body under.records more g later further
         → IsUnderway l s (taken ++ input ∷ []) new slot newest kept written g later further true t
@@ -169,7 +169,7 @@ module _ {layout : Layout} {s : State} {taken : List Input} {past : Past} {slot 
           written_is = written_apart layout (seen past) (seen new) (other slot) kept written room (λ j below. read j (inl (omega (arith, below, low, within.0)))) under.written_is;
         }))
 
-  -- ---- behind a sync
+  -- ---- after a sync
 
   pub underway_settled : {new : Past} → IsImage new (seen new) → GoesOn layout new slot newest under.body (under.records ++ under.more) generation number next → seen new ≡ seen past
       → IsUnderway layout s taken new slot newest kept written generation number next false state
@@ -215,7 +215,7 @@ module _ {layout : Layout} {s : State} {taken : List Input} {past : Past} {slot 
     on_next : generation ≡ newest + 1
     on_next = next_generation newest generation kept under.same sure
 
-    -- the snapshot and the records of its generation come to the state
+    -- the snapshot and the records of its generation lead to the state
     behind_it : Spells layout kept (all_records current layout (newest + 1) (seen past)) state
     behind_it =
         let all : Spells layout under.body (all_records current layout newest (seen past)) state = subst (λ (l : List (List ℕ)). Spells layout under.body l state) (sym all_seen) under.all in
@@ -235,11 +235,11 @@ module _ {layout : Layout} {s : State} {taken : List Input} {past : Past} {slot 
     pub snapshot_begun : {new : Past} → During past new (EitherSnapshot layout past slot newest under.body kept) → During past new (IsBegun layout s taken)
     snapshot_begun {new} run = weaker past new _ _ either_begun run
 
-    -- where the log goes on behind it
+    -- where the log goes on after it
     pub next_end : {after : ℕ} → after ≡ newest + 1 → IsLogEnd layout after (seen past) (records_of current layout after (seen past)) number next
     next_end is = subst (λ n. IsLogEnd layout n (seen past) (records_of current layout n (seen past)) number next) (on_next ∙ sym is) under.ahead.end
 
-    -- and behind it
+    -- and after it
     pub underway_finished : {new : Past} {to : Slot} {after : ℕ} {cleared : List ℕ} {nothing : ℕ} → IsImage new (seen new) → to ≡ other slot → after ≡ newest + 1 → cleared ≡ [] → nothing ≡ 0
         → GoesOn layout new to after kept (all_records current layout after (seen past)) after number next
         → IsUnderway layout s taken new to after cleared nothing generation number next unsynced state

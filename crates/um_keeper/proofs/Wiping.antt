@@ -1,4 +1,4 @@
--- What a crash leaves while a store is made.
+-- The images that a crash leaves while a store is made.
 use Rattle.std.proofs.Common.{◌≡◌, ◌⊎◌, inl, inr, ⊎_elim, ℕ, ◌+◌, ◌-◌, ◌<◌, ◌≤◌, List, [], ◌∷◌, length, refl, sym, ◌∙◌, ap, subst, arith}
 use Rattle.std.specs.Prelude.{Result, Ok, Err, OnOk, OnErr, replicate, take, codes, cond}
 use Rattle.std.proofs.lemmas.List.Sums.{sum_by-cons}
@@ -67,7 +67,7 @@ zeroed_ok (Err e) H past new is here = tt
 
 -- ---- headers and log are zeroed
 
--- what is written behind sector 0 leaves it
+-- a write after sector 0 leaves it
 pub zero_goes_on : (old mid new : Past) (at : ℕ) (run : List Sector) → 0 < at → During old mid IsZeroed → During mid new (AfterRun mid at run) → During old new IsZeroed
 zero_goes_on old mid new at run some so_far more =
     followed old mid new IsZeroed so_far (weaker mid new _ _ (λ image m. m.laid.outside 0 (inl some) ∙ at_end old mid IsZeroed so_far m.from m.was) more)

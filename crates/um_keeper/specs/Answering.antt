@@ -1,5 +1,5 @@
--- What a list of inputs is answered that are taken one behind the other, and what a crash leaves of them.
--- No manual page has it: it is the project's own (docs/CRASH.md tells it in plain words).
+-- The answers to a list of inputs that are taken in order, and the images that a crash leaves of them.
+-- No manual page has it: it is the project's own (docs/CRASH.md describes it in plain words).
 -- `Keeper::submit_all` and the running manager stand on this file.
 use Rattle.std.specs.Prelude.{◌≡◌, ◌≢◌, ◌⊎◌, ◌+◌, ◌-◌, ◌*◌, ◌^◌, ◌≤◌, ◌++◌, ℕ, Bool, true, false, if◌then◌else◌, List, [], ◌∷◌, length, map, replicate, Contains, Result, Ok, Err}
 use Rattle.um_engine.specs.Engine.{state_before}
@@ -20,7 +20,7 @@ use Rattle.um_wire.specs.Refusal.{refused_of}
 use Rattle.um_wire.specs.declared.refusal.Refusal as declared
 use Rattle.um_wire.specs.declared.refusal.Refusal.TheVariants.{NoMemory, Device, GenerationsSpent}
 
--- what one input is answered: the reply and the actions of its step, or a refusal
+-- the answer to one input: the reply and the actions of its step, or a refusal
 abbrev pub Answer : Type 0
 Answer = Result (Reply × List Action) declared.Refusal
 
@@ -30,7 +30,7 @@ is_turned_away NoMemory = true
 is_turned_away GenerationsSpent = true
 is_turned_away other = false
 
--- The answer to an input in a state, and the state behind it.
+-- The answer to an input in a state, and the state after it.
 pub data Answered (size : ℕ) (s : State) (input : Input) : Answer → State → Type 0 where
   accepted : {reply : Reply} {actions : List Action} {t : State} → Step size s input reply actions t → ((r : Refused) → reply ≢ Refusal r)
       → Answered size s input (Ok (reply, actions)) t
@@ -38,13 +38,13 @@ pub data Answered (size : ℕ) (s : State) (input : Input) : Answer → State �
       → Answered size s input (Err e) s
   turned_away : {e : declared.Refusal} → is_turned_away e ≡ true → Answered size s input (Err e) s
 
--- The answers to inputs that are taken one behind the other from a state on, and the state behind them.
+-- The answers to inputs that are taken in order from a state on, and the state after them.
 pub data AreAnswered (size : ℕ) : State → List Input → List Answer → State → Type 0 where
   all_answered : {s : State} → AreAnswered size s [] [] s
   and_next : {s t u : State} {input : Input} {inputs : List Input} {answer : Answer} {answers : List Answer} → Answered size s input answer t
       → AreAnswered size t inputs answers u → AreAnswered size s (input ∷ inputs) (answer ∷ answers) u
 
--- what an answer becomes where the disk fails behind it: nothing was done, and a refusal stays
+-- the answer that is left of an answer if the disk fails after it: nothing was done, and a refusal stays
 abbrev pub denied : Answer → Answer
 denied (Ok given) = Err Device
 denied (Err e) = Err e
@@ -67,7 +67,7 @@ abbrev pub taken : List Input → List Answer → List Input
 taken (input ∷ inputs) (answer ∷ answers) = where_step answer input ++ taken inputs answers
 taken inputs answers = []
 
--- what the answers ask of processes, in their order
+-- the actions that the answers want, in their order
 abbrev pub asked_by : Answer → List Action
 asked_by (Ok (reply, actions)) = actions
 asked_by (Err e) = []
@@ -104,8 +104,8 @@ HaveNoRecord s inputs answers = Unit {0}
 abbrev pub record_sectors : Input → ℕ
 record_sectors input = part_count (length (input_spelling input))
 
--- Inputs are judged one behind the other from a state on, and so many sectors their records take: none that of an input which has no effect in its state, or
--- isn't accepted.
+-- Inputs are judged in order from a state on, and their records take this many sectors: none for an input that has no
+-- effect in its state, or isn't accepted.
 pub data Recorded (size : ℕ) : State → List Input → List Answer → (sectors : ℕ) → State → Type 0 where
   all_recorded : {s : State} → Recorded size s [] [] 0 s
   without_record : {s u : State} {input : Input} {inputs : List Input} {answer : Answer} {answers : List Answer} {sectors : ℕ} → HasNoRecord s input answer
@@ -123,8 +123,8 @@ pub record NeedsRecord (size : ℕ) (s : State) (input : Input) : Type 0 where
   pub accepted : (r : Refused) → reply ≢ Refusal r
   pub effect : ¬ IsIdle s input
 
--- Where a call on the disk failed, behind inputs that were judged, for those that are left: none is, and it failed at the sync of what was recorded; or it
--- failed at the first of them, at its record or at what comes before that where it has no room.
+-- A call on the disk failed after the judged inputs: at the sync of their records, with no input left, or at the first
+-- that is left, at its record or at the calls that make room for it.
 pub data FailsAt (size : ℕ) (s : State) (judged : List Input) (meant : List Answer) (u : State) : List Input → Type 0 where
   at_sync : ¬ HaveNoRecord s judged meant → FailsAt size s judged meant u []
   at_record : {input : Input} {behind : List Input} → NeedsRecord size u input → FailsAt size s judged meant u (input ∷ behind)
@@ -160,7 +160,7 @@ pub record FellThere (next end before now : ℕ) (size : ℕ) (s : State) (input
   pub recorded : Recorded size s fell.judged fell.meant sectors fell.u
   pub few : next + sectors + sectors_there fell.rest ≤ end → now ≤ before + sectors + calls_there fell.rest
 
--- The answers to a beginning of the inputs, behind which a call on the disk failed, and the calls that were made.
+-- The answers to a beginning of the inputs, after which a call on the disk failed, and the calls that were made.
 pub record StopsAt (next end before now : ℕ) (size : ℕ) (s : State) (inputs : List Input) (answers : List Answer) : Type 0 where
   pub judged : List Input
   pub rest : List Input
@@ -177,8 +177,8 @@ abbrev pub IsSpentAt : Layout → (generation from : ℕ) → Input → Answer �
 IsSpentAt layout generation from input answer =
     answer ≡ Err GenerationsSpent → (2 ^ 64 - 1 ≤ generation) × (¬ Fits layout (2 ^ 64 - 1) from (length (input_spelling input)))
 
--- So it is of each of these, which are judged one behind the other from a state on: behind the records of those before it, where none is written of an
--- input that has no effect in its state, or isn't accepted.
+-- The same of each of these inputs, judged in order from a state on, after the records of those before it: an input
+-- that has no effect in its state, or isn't accepted, has no record.
 pub data AreSpentAt (layout : Layout) (generation size : ℕ) : (from : ℕ) → State → List Input → List Answer → Type 0 where
   none_spent : {from : ℕ} {s : State} → AreSpentAt layout generation size from s [] []
   spent_without : {from : ℕ} {s : State} {input : Input} {inputs : List Input} {answer : Answer} {answers : List Answer}
@@ -188,7 +188,8 @@ pub data AreSpentAt (layout : Layout) (generation size : ℕ) : (from : ℕ) →
       → Answered size s input answer t → ¬ HasNoRecord s input answer → AreSpentAt layout generation size (from + record_sectors input) t inputs answers
       → AreSpentAt layout generation size from s (input ∷ inputs) (answer ∷ answers)
 
--- The same of what a list is answered, and where a call on the disk failed of what those before it were meant to be answered.
+-- The same of the answers to a list, and, if a call on the disk failed, of the answers that those before it were meant
+-- to get.
 pub data AreSpentAsMeant (layout : Layout) (generation size from : ℕ) (s : State) (inputs : List Input) (answers : List Answer) : Type 0 where
   as_told : AreSpentAt layout generation size from s inputs answers → AreSpentAsMeant layout generation size from s inputs answers
   as_meant : {judged : List Input} {meant : List Answer} (rest : List Input) → inputs ≡ judged ++ rest
@@ -199,8 +200,8 @@ pub data AreSpentAsMeant (layout : Layout) (generation size from : ℕ) (s : Sta
 abbrev pub most_snapshot_calls : Layout → ℕ
 most_snapshot_calls layout = sector_count (body_limit layout) + 3
 
--- What a list takes of the disk that was answered without a fault: the sectors of its records, a sync, and a snapshot and a sync for each generation by which
--- the log rose, from a generation to another one. It doesn't rise where the records have room in it from this sector on.
+-- The disk calls of a list answered without a fault: its records' sectors, a sync, and a snapshot and a sync for each
+-- generation that the log rose, none if the records have room from this sector on.
 pub record TakesCalls (layout : Layout) (next generation risen before now : ℕ) (size : ℕ) (s : State) (inputs : List Input) (answers : List Answer) (t : State)
     : Type 0 where
   pub sectors : ℕ
@@ -210,8 +211,8 @@ pub record TakesCalls (layout : Layout) (next generation risen before now : ℕ)
   pub stays : next + sectors ≤ log_end layout generation → rises ≡ 0
   pub few : now ≤ before + sectors + 1 + rises * (most_snapshot_calls layout + 1)
 
--- What a list takes of the disk that was answered without a fault, and begins one snapshot at most where none was under way: the sectors of its records, a
--- sync before the snapshot, and one behind them all. It writes none of the snapshot.
+-- The disk calls of a list that was answered without a fault, and begins one snapshot at most where none was under way:
+-- the sectors of its records, a sync before the snapshot, and one after them all, but no sector of the snapshot.
 pub record BeginsOne (before now : ℕ) (size : ℕ) (s : State) (inputs : List Input) (answers : List Answer) (t : State) : Type 0 where
   pub sectors : ℕ
   pub recorded : Recorded size s inputs answers sectors t

@@ -1,4 +1,4 @@
--- What a disk holds while a store is made on it.
+-- The disk while a store is made on it.
 -- No manual page has it: it is the project's own format (docs/FORMATS.md, "The store on its disk").
 -- `create` stands on this file.
 use Rattle.std.specs.Prelude.{◌≡◌, ◌⊎◌, ◌+◌, ◌<◌, ◌≤◌, ℕ, [], replicate, take, Some}
@@ -20,7 +20,7 @@ blank = replicate sector_bytes 0
 abbrev pub IsNoStore : Image → Type 0
 IsNoStore image = ¬ (take 6 (image 0) ≡ store_name)
 
--- what stood there before, or no store
+-- an image of before, or of no store
 abbrev pub WasOrIsNone : Past → Image → Type 0
 WasOrIsNone past image = IsImage past image ⊎ IsNoStore image
 
@@ -33,16 +33,16 @@ pub record IsEmptyStore (layout : Layout) (image : Image) : Type 0 where
 abbrev pub NoneOrEmpty : Layout → Image → Type 0
 NoneOrEmpty layout image = IsNoStore image ⊎ IsEmptyStore layout image
 
--- What a crash leaves while a store is made.
+-- The images that a crash leaves while a store is made.
 pub data WhileCreated (layout : Layout) (old new : Past) : Type 0 where
-  -- no sync is done: what stood there before, or no store
+  -- no sync is done: an image of before, or of no store
   unsynced : sync_count new ≡ sync_count old → During old new (WasOrIsNone old) → WhileCreated layout old new
   -- the first is done: from then on nothing of before
   synced : (first : Past) → sync_count first ≡ sync_count old + 1 → During old first (WasOrIsNone old) → During first new (NoneOrEmpty layout)
       → WhileCreated layout old new
 
--- So many calls on the disk make a store: a write and a sync of sector 0, a write of each header and of each sector of the log, the snapshot of the empty
--- state, and a write and a sync of sector 0.
+-- The number of disk calls that make a store: a write and a sync of sector 0, a write of each header and of each sector
+-- of the log, the snapshot of the empty state, and a write and a sync of sector 0.
 abbrev pub create_calls : Layout → ℕ
 create_calls layout = 2 + (layout.log_sectors + 2) + snapshot_calls empty_state + 2
 

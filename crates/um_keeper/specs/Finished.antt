@@ -1,4 +1,4 @@
--- What it is that a oneshot which finished isn't started again in a run.
+-- A oneshot that finished isn't started again in a run.
 -- Follows systemd.service(5), "Type=oneshot", and systemctl(1), "start".
 -- The law of finished oneshots over all crashes depends on this file.
 use Rattle.std.specs.Prelude.{◌≡◌, ◌⊎◌, ⊤, ℕ, List, None, Contains}

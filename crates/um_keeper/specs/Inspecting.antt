@@ -1,4 +1,4 @@
--- What a summary tells of the image of a store.
+-- The summary of the image of a store.
 -- No manual page has it: it is the project's own format (docs/FORMATS.md, "The store on its disk").
 -- `inspect` and `look` stand on this file.
 use Rattle.std.specs.Prelude.{◌≡◌, ◌≤◌, ℕ, length}
@@ -10,7 +10,7 @@ use Rattle.um_model.specs.declared.layout.Layout.{Layout}
 use Rattle.um_keeper.specs.Opening.{TellsCutOff, TellsDamaged}
 use Rattle.um_keeper.specs.declared.inspecting.Summary.{Summary}
 
--- The summary tells of a store, for which a disk of so many sectors has room, and of the state for which the store stands.
+-- The summary is of a store for which a disk of `count` sectors has room, and of the state for which the store stands.
 pub record IsSummed (count : ℕ) (image : Image) (m : Summary) (s : State) : Type 0 where
   pub layout : Layout
   pub room : store_sectors layout ≤ count
@@ -22,7 +22,7 @@ pub record IsSummed (count : ℕ) (image : Image) (m : Summary) (s : State) : Ty
   pub cut_off_is : TellsCutOff stands.format layout m.generation image m.cut_off
   pub damaged_is : TellsDamaged stands.format layout stands.contents.slot m.generation image m.damaged
 
--- it tells so of some state
+-- the summary is of some state
 pub record IsSomeSummed (count : ℕ) (image : Image) (m : Summary) : Type 0 where
   pub state : State
   pub summed : IsSummed count image m state

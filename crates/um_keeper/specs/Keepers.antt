@@ -1,4 +1,5 @@
--- What clauses say of a keeper: its disk, the layout of its store, where it stands on the disk, and its state.
+-- The parts of a keeper that clauses use: its disk, the layout of its store, where it stands on the disk, and its
+-- state.
 -- No manual page has it: it is the project's own.
 -- The keeper's calls stand on this file.
 use Rattle.std.specs.Prelude.{◌≡◌, ◌≢◌, ◌≤◌, ◌-◌, ◌^◌, ℕ, Bool, if◌then◌else◌}
@@ -20,7 +21,7 @@ use Rattle.um_keeper.specs.declared.keeper.OpenedStore.{OpenedStore}
 abbrev pub disk_in : {D : Type 0} {g : _} → Keeper D g → D
 disk_in k = k.disk
 
--- what its engine stands on
+-- the standing of its engine
 abbrev pub standing_in : {D : Type 0} {g : _} → Keeper D g → Standing
 standing_in k = engine.standing_in k.engine
 
@@ -52,11 +53,11 @@ number_in k = k.ahead.log.number
 abbrev pub next_in : {D : Type 0} {g : _} → Keeper D g → ℕ
 next_in k = k.ahead.log.next
 
--- so many sectors of the body of the snapshot under way are left, 0 exactly without one
+-- the number of body sectors that are left of the snapshot under way, 0 exactly without one
 abbrev pub left_in : {D : Type 0} {g : _} → Keeper D g → ℕ
 left_in k = left_of k.ahead.aside.body.items k.ahead.aside.written
 
--- so many calls finish it
+-- the number of calls that finish it
 abbrev pub finish_calls_in : {D : Type 0} {g : _} → Keeper D g → ℕ
 finish_calls_in k = finish_calls k.ahead.aside.body.items k.ahead.aside.written
 
@@ -68,7 +69,7 @@ slot_behind k = if has_bytes k.ahead.aside.body.items then k.ahead.home.slot els
 abbrev pub has_failed : {D : Type 0} {g : _} → Keeper D g → Bool
 has_failed k = k.failed
 
--- what was read of the store when it was opened
+-- the findings of the opening of the store
 abbrev pub opened_in : {D : Type 0} {g : _} → Keeper D g → OpenedStore
 opened_in k = k.opened
 
@@ -78,12 +79,12 @@ pub record IsSamePlace {D : Type 0} {g : _} (old new : Keeper D g) : Type 0 wher
   pub size : size_in new ≡ size_in old
   pub opened : opened_in new ≡ opened_in old
 
--- the log has no room for a record of so many bytes, and its generation is the last
+-- the log has no room for a record of this many bytes, and its generation is the last
 pub record HasNoRoom {D : Type 0} {g : _} (k : Keeper D g) (bytes : ℕ) : Type 0 where
   pub no_room : ¬ Fits (layout_in k) (log_generation_in k) (next_in k) bytes
   pub last : log_generation_in k ≡ 2 ^ 64 - 1
 
--- in the last generation, now or once it comes to that, the log is free from this sector on
+-- in the last generation, now or once the log reaches it, the log is free from this sector on
 pub record IsFreeFrom {D : Type 0} {g : _} (k : Keeper D g) (from : ℕ) : Type 0 where
   pub start : log_start (layout_in k) (2 ^ 64 - 1) ≤ from
   pub behind : log_generation_in k ≡ 2 ^ 64 - 1 → next_in k ≤ from

@@ -1,4 +1,5 @@
--- What a keeper holds of its disk: whichever image a crash leaves, it is a store of the engine's state, and the log goes on at its place.
+-- The invariant of a keeper's disk: whichever image a crash leaves, it is a store of the engine's state, and the log
+-- goes on at its place.
 -- No manual page has it: it is the project's own format (docs/FORMATS.md, "The store on its disk").
 -- The keeper and its opening stand on this file.
 use Rattle.std.specs.Prelude.{◌≡◌, ◌+◌, ◌-◌, ◌≤◌, ℕ, length, Bool, true, false, if◌then◌else◌, List, [], ◌∷◌, take, Some, is_some}
@@ -21,11 +22,11 @@ abbrev pub has_bytes : List ℕ → Bool
 has_bytes [] = false
 has_bytes (x ∷ kept) = true
 
--- so many sectors of its body are left, where some were written
+-- the number of sectors of its body that are left, after those that were written
 abbrev pub left_of : List ℕ → ℕ → ℕ
 left_of kept written = sector_count (length kept) - written
 
--- and so many calls finish it: one a sector that is left, a sync, its header, a sync
+-- the number of calls that finish it: one a sector that is left, a sync, its header, a sync
 abbrev pub finish_calls : List ℕ → ℕ → ℕ
 finish_calls kept written = if has_bytes kept then left_of kept written + 3 else 0
 
@@ -33,21 +34,24 @@ finish_calls kept written = if has_bytes kept then left_of kept written + 3 else
 abbrev pub log_generation : ℕ → List ℕ → ℕ
 log_generation newest kept = newest + (if has_bytes kept then 1 else 0)
 
--- ---- what always holds
+-- ---- facts that always hold
 
--- What always holds of a keeper's state: a store of this layout may hold it, and it has bytes, from which it is read again.
+-- Facts that always hold of a keeper's state: a store of this layout may hold it, and it has bytes, from which it is
+-- read again.
 pub record MayHold (layout : Layout) (size : ℕ) (s : State) : Type 0 where
   pub size_is : size ≡ body_limit layout
   pub servable : IsServable size s
   pub fits : ∥ FitState s ∥₁
 
--- What always holds of the disk of a keeper that hasn't failed, where it does what it answers. It is told by what is read alone, without
--- saying of any state or input that there is one, so that it is the same fact however it came to hold.
+-- Facts that always hold of the disk of a keeper that hasn't failed, if the disk does what it answers. They depend on
+-- the image that is read alone, without saying of any state or input that there is one, so that each is the same fact
+-- however it was established.
 pub record Keeps (past : Past) (sectors : ℕ) (layout : Layout) (slot : Slot) (newest : ℕ) (kept : List ℕ) (written generation number next : ℕ) (s : State)
     : Type 0 where
   -- the log takes records of the newest snapshot's generation, or of the next, with a snapshot under way
   pub same : generation ≡ log_generation newest kept
-  -- each image that a crash may leave is a store of this layout, with what a read gives as its newest snapshot and as the records of both generations
+  -- each image that a crash may leave is a store of this layout, with the newest snapshot and the records of both
+  -- generations that a read gives
   pub first : Images past (λ image. image 0 ≡ superblock current layout)
   pub newest_is : Images past (λ image. newest_of layout image ≡ newest_of layout (seen past))
   pub front : Images past (λ image. records_of current layout newest image ≡ records_of current layout newest (seen past))
@@ -60,16 +64,16 @@ pub record Keeps (past : Past) (sectors : ℕ) (layout : Layout) (slot : Slot) (
   pub home : (c : Contents) → contents_of current layout (seen past) ≡ Some c → (c.slot ≡ slot) × (c.generation ≡ newest)
   pub start : (c : Contents) → contents_of current layout (seen past) ≡ Some c → IsServable (body_limit layout) c.start
   pub run : (c : Contents) → contents_of current layout (seen past) ≡ Some c → (t : State) → Run (body_limit layout) c.start c.inputs t → t ≡ s
-  -- the next record goes behind those of the log's generation
+  -- the next record goes after those of the log's generation
   pub count : number ≡ length (records_of current layout generation (seen past))
   pub place : next ≡ log_start layout generation + sectors_of (records_of current layout generation (seen past))
   pub within : next ≤ log_end layout generation
   pub on_disk : store_sectors layout ≤ sectors
-  -- a snapshot under way is of the state behind the records of the newest one's generation, whatever state that is
+  -- a snapshot under way is of the state after the records of the newest one's generation, whatever state that is
   pub aside : has_bytes kept ≡ true → (n : Newest) → newest_of layout (seen past) ≡ Some n → (start : State) (inputs : List Input)
       → nothing_left (state_at n.body) ≡ Some start → inputs_of (records_of current layout newest (seen past)) ≡ Some inputs
       → (t : State) → Run (body_limit layout) start inputs t → (nothing_left (state_at kept) ≡ Some t) × IsServable (body_limit layout) t
-  -- and a read gives so many of its sectors in the other slot
+  -- and a read gives this many of its sectors in the other slot
   pub written_is : IsWritten layout (seen past) (other slot) kept written
 
 -- a store of the state after a beginning of these inputs

@@ -1,5 +1,6 @@
--- Calls of a keeper as parts of a life of its store: what they offered, what came of each input, and which images a crash leaves.
--- No manual page has it: crash safety is this project's own promise (docs/CRASH.md tells it in plain words).
+-- Calls of a keeper as parts of a life of its store: the inputs they offered, the outcome of each, and the images that
+-- a crash leaves.
+-- No manual page has it: crash safety is this project's own promise (docs/CRASH.md describes it in plain words).
 -- The keeper's calls, the running manager and its lives stand on this file.
 use Rattle.std.specs.Prelude.{◌≡◌, List, [], ◌∷◌, ◌++◌, Bool, false, if◌then◌else◌, Ok, Err}
 use Rattle.um_keeper.specs.Answering.{Answer, is_turned_away}
@@ -10,35 +11,36 @@ use Rattle.um_model.specs.declared.layout.Layout.{Layout}
 use Rattle.um_wire.specs.Refusal.{refused_of}
 use Rattle.um_wire.specs.declared.refusal.Refusal.TheVariants.{Device, Reopen}
 
--- what came of an input that was answered so: after E16 it isn't known, and E15, E17 and E20 turn it away
+-- the outcome of an input with this answer: after E16 it isn't known, and E15, E17 and E20 turn it away
 abbrev pub outcome_of : Answer → Outcome
 outcome_of (Ok given) = answered given.0
 outcome_of (Err Device) = unanswered
 outcome_of (Err Reopen) = turned_away
 outcome_of (Err e) = if is_turned_away e then turned_away else answered (Refusal (refused_of e))
 
--- inputs with what came of each
+-- inputs with the outcome of each
 abbrev pub offers : List Input → List Answer → List Offer
 offers (input ∷ inputs) (answer ∷ answers) = record { input = input; outcome = outcome_of answer } ∷ offers inputs answers
 offers inputs answers = []
 
--- what came of an input where the machine stops before the answer is told: it isn't known, unless the input was turned away
+-- the outcome of an input if the machine stops before its answer is given: it isn't known, unless the input was turned
+-- away
 abbrev pub untold : Outcome → Outcome
 untold turned_away = turned_away
 untold other = unanswered
 
--- inputs with what came of each, where the machine stops before the answers are told
+-- inputs with the outcome of each, if the machine stops before the answers are given
 abbrev pub untold_offers : List Input → List Answer → List Offer
 untold_offers (input ∷ inputs) (answer ∷ answers) = record { input = input; outcome = untold (outcome_of answer) } ∷ untold_offers inputs answers
 untold_offers inputs answers = []
 
--- A life of a store that began in one state and made these offers has come to another: what a life may leave that goes on from there, it may leave.
+-- A life of a store that began in one state and made these offers has reached another: it may leave whatever a life may
+-- leave that goes on from there.
 abbrev pub HasCome : Layout → State → List Offer → State → Type 0
 HasCome layout s offered t = (more : List Offer) (image : Image) → MayLeave layout t more image → MayLeave layout s (offered ++ more) image
 
--- A call in such a life that offers these inputs, and is answered so. Meanwhile each image is one that the life may leave whose last offers weren't
--- answered. Where no call on the disk failed, each image behind it is one that the life may leave whose offers were answered, and the life has come to
--- the state behind.
+-- A call in such a life, with these inputs and answers: meanwhile the life may leave each image with its last offers
+-- unanswered, and afterwards, if no disk call failed, with them answered, and has reached the state.
 pub record GoesOn (layout : Layout) (s : State) (before : List Offer) (inputs : List Input) (answers : List Answer) (old new : Past) (failed : Bool) (t : State)
     : Type 0 where
   pub meanwhile : During old new (MayLeave layout s (before ++ untold_offers inputs answers))

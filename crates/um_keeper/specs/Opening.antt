@@ -1,4 +1,4 @@
--- What opening reads of a disk, and why it isn't taken up.
+-- The opening's reading of a disk, and why a disk isn't taken up.
 -- No manual page has it: it is the project's own format (docs/FORMATS.md, "The store on its disk").
 -- `Keeper::open` stands on this file.
 use Rattle.std.specs.Prelude.{◌≡◌, ◌⊎◌, ◌+◌, ◌-◌, ◌^◌, ◌<◌, ◌≤◌, ℕ, List, [], ◌∷◌, ◌++◌, length, take, Option, Some, None}
@@ -26,7 +26,7 @@ use Rattle.um_slot.specs.Snapshots.{HasNewest, WasNewest}
 use Rattle.um_keeper.specs.declared.keeper.OpenedStore.{OpenedStore}
 use Rattle.um_keeper.specs.declared.keeper.Uncounted.{Uncounted}
 
--- sector 0 tells a format and a layout for which a disk of so many sectors has room
+-- sector 0 names a format and a layout for which a disk of `count` sectors has room
 pub record HasLayout (count : ℕ) (image : Image) (layout : Layout) : Type 0 where
   pub format : Format
   pub first : image 0 ≡ superblock format layout
@@ -44,25 +44,25 @@ pub record IsStart (layout : Layout) (body : List ℕ) (s : State) : Type 0 wher
   pub read : nothing_left (state_at body) ≡ Some s
   pub servable : IsServable (body_limit layout) s
 
--- an input leads to a state, whatever it answers and asks for
+-- an input leads to a state, whatever its answer and its actions are
 pub record Leads (size : ℕ) (s : State) (input : Input) (t : State) : Type 0 where
   pub reply : Reply
   pub actions : List Action
   pub step : Step size s input reply actions t
 
--- the inputs that records spell lead one behind the other to a state
+-- the inputs that records spell lead in order from one state to another
 pub data Replays (size : ℕ) : List (List ℕ) → State → State → Type 0 where
   no_more : {s : State} → Replays size [] s s
   and_then : {bytes : List ℕ} {records : List (List ℕ)} {input : Input} {s t u : State} → nothing_left (input_at bytes) ≡ Some input
       → Leads size s input t → Replays size records t u → Replays size (bytes ∷ records) s u
 
--- the first of these records that spells no input is the cause, told by its first sector
+-- the first of these records that spells no input is the cause, named by its first sector
 pub data IsNoInput : List (ℕ × List ℕ) → Refusal → Type 0 where
   here : {first : ℕ} {bytes : List ℕ} {places : List (ℕ × List ℕ)} → nothing_left (input_at bytes) ≡ None → IsNoInput ((first, bytes) ∷ places) (Damaged first)
   later : {first : ℕ} {bytes : List ℕ} {input : Input} {places : List (ℕ × List ℕ)} {e : Refusal} → nothing_left (input_at bytes) ≡ Some input
       → IsNoInput places e → IsNoInput ((first, bytes) ∷ places) e
 
--- Why what a read of a disk of so many sectors gives isn't taken up: the first of these that applies.
+-- Why the image that is read of a disk of `count` sectors isn't taken up: the first of these that applies.
 pub data IsUnread (count : ℕ) (image : Image) : Refusal → Type 0 where
   no_sector : count ≡ 0 → IsUnread count image NotFormatted
   no_store : 0 < count → ¬ (take 6 (image 0) ≡ store_name) → IsUnread count image NotFormatted
@@ -80,7 +80,8 @@ pub record IsBehind (format : Format) (layout : Layout) (generation : ℕ) (imag
   pub count : number ≡ length (records_of format layout generation image)
   pub place : next ≡ area_start format layout generation + sectors_of (records_of format layout generation image)
 
--- What a read gives is taken up: a store of this layout on the disk, whose newest snapshot and the records beside it come to the state.
+-- The image that is read is taken up: a store of this layout on the disk, whose newest snapshot and the records beside
+-- it lead to the state.
 pub record IsTakenUp (count : ℕ) (image : Image) (layout : Layout) (slot : Slot) (generation : ℕ) (s : State) : Type 0 where
   pub has : HasLayout count image layout
   pub body : List ℕ
@@ -94,8 +95,8 @@ abbrev pub IsLast : Layout → Image → ℕ → Option ℕ → Type 0
 IsLast layout image newest None = 2 ^ 64 - 1 < newest
 IsLast layout image newest (Some greatest) = IsGreatest layout image newest greatest
 
--- What a read gives would be taken up, but the greatest generation that stands there is the last one, or the next whose records would count is behind that:
--- so that no next snapshot can be written.
+-- The image that is read would be taken up, but the greatest generation that stands there is the last one, or the next
+-- whose records would count is past that, so that no next snapshot can be written.
 pub record IsSpent (count : ℕ) (image : Image) : Type 0 where
   pub layout : Layout
   pub slot : Slot
@@ -104,7 +105,7 @@ pub record IsSpent (count : ℕ) (image : Image) : Type 0 where
   pub taken : IsTakenUp count image layout slot generation state
   pub last : (2 ^ 64 - 1 < top taken.has.format generation) ⊎ IsGreatest layout image (top taken.has.format generation) (2 ^ 64 - 1)
 
--- What a read gives is taken up, in that format, and the greatest generation that stands there is that one.
+-- The image that is read is taken up, in that format, and the greatest generation that stands there is that one.
 pub record IsFound (count : ℕ) (image : Image) (format : Format) (layout : Layout) (slot : Slot) (generation : ℕ) (greatest : Option ℕ) (s : State)
     : Type 0 where
   pub taken : IsTakenUp count image layout slot generation s
@@ -116,7 +117,7 @@ pub data IsUntaken (count : ℕ) (image : Image) : Refusal → Type 0 where
   unread : {e : Refusal} → IsUnread count image e → IsUntaken count image e
   spent : IsSpent count image → IsUntaken count image GenerationsSpent
 
--- The state that was taken up of an image, in the other slot, one generation behind the greatest that stood there.
+-- The state that was taken up of an image, in the other slot, one generation after the greatest that stood there.
 pub record IsNextOf (count : ℕ) (image : Image) (layout : Layout) (slot : Slot) (generation : ℕ) (s : State) : Type 0 where
   pub before : Slot
   pub earlier : ℕ
@@ -126,20 +127,20 @@ pub record IsNextOf (count : ℕ) (image : Image) (layout : Layout) (slot : Slot
   pub is_greatest : IsGreatest layout image (top taken.has.format earlier) greatest
   pub next : generation ≡ greatest + 1
 
--- how many records of a generation count, and the first sector behind them
+-- the number of records of a generation that count, and the first sector after them
 abbrev pub count_in : Format → Layout → ℕ → Image → ℕ
 count_in format layout generation image = length (records_of format layout generation image)
 
 abbrev pub end_in : Format → Layout → ℕ → Image → ℕ
 end_in format layout generation image = area_start format layout generation + sectors_of (records_of format layout generation image)
 
--- behind the records of a generation that count stand so many whole ones of it with a greater number
+-- after the records of a generation that count stand this many whole ones of it with a greater number
 abbrev pub HasUncounted : Format → Layout → ℕ → Image → ℕ → Type 0
 HasUncounted format layout generation image =
     Counts (EndsUncounted format layout image (end_in format layout generation image) generation (count_in format layout generation image))
     (end_in format layout generation image) (area_end format layout generation)
 
--- and so many of later generations
+-- and this many of later generations
 abbrev pub HasLater : Format → Layout → ℕ → Image → ℕ → Type 0
 HasLater format layout generation image =
     Counts (EndsLater format layout image (end_in format layout generation image) generation) (end_in format layout generation image)
@@ -150,7 +151,8 @@ abbrev pub EndsAt : Format → Layout → ℕ → Image → ℕ → Type 0
 EndsAt format layout generation image =
     StopsAt format layout generation image (count_in format layout generation image) (end_in format layout generation image)
 
--- Of the two generations whose records count in format 2 so many whole ones don't, with the sector at which the reading ends of the first that leaves some.
+-- The number of whole records that don't count, of the two generations whose records count in format 2, with the sector
+-- at which the reading ends of the first that leaves some.
 pub record IsCutOff (layout : Layout) (newest : ℕ) (image : Image) (cut : Uncounted) : Type 0 where
   pub here : ℕ
   pub behind : ℕ
@@ -161,7 +163,8 @@ pub record IsCutOff (layout : Layout) (newest : ℕ) (image : Image) (cut : Unco
   pub ends_here : 0 < here → EndsAt Two layout newest image cut.sector
   pub ends_behind : here ≡ 0 → EndsAt Two layout (newest + 1) image cut.sector
 
--- what is told of whole records of the generations that count which don't: how many there are, and the sector with which the reading ends; or there are none
+-- the report on whole records that don't count, of the generations that do: their number, and the sector with which the
+-- reading ends; or there are none
 abbrev pub TellsCutOff : Format → Layout → ℕ → Image → Option Uncounted → Type 0
 TellsCutOff One layout generation image None = HasUncounted One layout generation image 0
 TellsCutOff Two layout generation image None = HasUncounted Two layout generation image 0 × HasUncounted Two layout (generation + 1) image 0
@@ -169,22 +172,22 @@ TellsCutOff One layout generation image (Some cut) =
     (0 < cut.records) × HasUncounted One layout generation image cut.records × EndsAt One layout generation image cut.sector
 TellsCutOff Two layout generation image (Some cut) = IsCutOff layout generation image cut
 
--- so many whole records stand in the log of generations later than those whose records stand in their place and count
+-- the number of whole records in the log of generations later than those whose records stand in their place and count
 abbrev pub HaveLater : Format → Layout → ℕ → Image → ℕ → Type 0
 HaveLater One layout generation image count = HasLater One layout generation image count
 HaveLater Two layout generation image count =
     (here behind : ℕ) × (count ≡ here + behind) × HasLater Two layout generation image here × HasLater Two layout (generation + 1) image behind
 
--- what is told of the other slot, beside the newest one: its first sector is damaged, and so many whole records of later generations stand in the log;
--- or it isn't damaged
+-- the report on the other slot, beside the newest one: its first sector is damaged, and this many whole records of
+-- later generations stand in the log; or it isn't damaged
 abbrev pub TellsDamaged : Format → Layout → Slot → ℕ → Image → Option Uncounted → Type 0
 TellsDamaged format layout slot generation image None = ¬ IsDamaged layout (image (slot_start layout (sectors.other slot)))
 TellsDamaged format layout slot generation image (Some damaged) =
     IsDamaged layout (image (slot_start layout (sectors.other slot))) × (damaged.sector ≡ slot_start layout (sectors.other slot))
     × HaveLater format layout generation image damaged.records
 
--- What was read of an image: the generation of its newest header, the count of the records that count beside it, which are replayed, and what
--- doesn't count.
+-- The findings in an image: the generation of its newest header, the number of records that count beside it, which are
+-- replayed, and those that don't count.
 pub record IsRead (layout : Layout) (image : Image) (opened : OpenedStore) : Type 0 where
   pub format : Format
   pub first : image 0 ≡ superblock format layout
@@ -195,27 +198,27 @@ pub record IsRead (layout : Layout) (image : Image) (opened : OpenedStore) : Typ
   pub cut_off_is : TellsCutOff format layout newest.generation image opened.cut_off
   pub damaged_is : TellsDamaged format layout newest.slot newest.generation image opened.damaged
 
--- what remains in a generation's place in the log behind its records
+-- the remains in a generation's place in the log, after its records
 pub record Remain (format : Format) (layout : Layout) (generation : ℕ) (image : Image) (remains : Remains) : Type 0 where
   pub greatest : IsGreatestIn format layout generation image remains.greatest
   pub uncounted : HasUncounted format layout generation image remains.uncounted
   pub later : HasLater format layout generation image remains.later
   pub stop : end_in format layout generation image < area_end format layout generation → EndsAt format layout generation image remains.stop
 
--- and behind those of the next generation, where they count too, and there is one
+-- and the remains after those of the next generation, where they count too, and there is one
 abbrev pub RemainBehind : Format → Layout → ℕ → Image → Option Remains → Type 0
 RemainBehind One layout newest image None = Unit {0}
 RemainBehind One layout newest image (Some remains) = ⊥
 RemainBehind Two layout newest image None = 2 ^ 64 - 1 < newest + 1
 RemainBehind Two layout newest image (Some remains) = Remain Two layout (newest + 1) image remains
 
--- All records that count were read, so many, with what remains behind them.
+-- The number of records that count, all of which were read, with the remains after them.
 pub record AreRead (format : Format) (layout : Layout) (newest : ℕ) (image : Image) (records : ℕ) (here : Remains) (behind : Option Remains) : Type 0 where
   pub count : records ≡ length (all_records format layout newest image)
   pub here_is : Remain format layout newest image here
   pub behind_is : RemainBehind format layout newest image behind
 
--- what a store of this layout may hold
+-- the states that a store of this layout may hold
 pub record IsKept (layout : Layout) (size : ℕ) (s : State) : Type 0 where
   pub size_is : size ≡ body_limit layout
   pub servable : IsServable size s
@@ -225,7 +228,7 @@ pub record IsSomeStore (layout : Layout) (image : Image) : Type 0 where
   pub state : State
   pub stands : StandsFor layout image state
 
--- The image stands for this state; and if the one that it came from was an image that a store of the state leaves, so is this one.
+-- The image stands for this state; and if the image before was one that a store of the state leaves, so is this one.
 pub record IsStill (layout : Layout) (from : Image) (s : State) (image : Image) : Type 0 where
   pub stands : StandsFor layout image s
   pub store : IsStoreOf layout from s → IsStoreOf layout image s
@@ -238,12 +241,13 @@ pub record IsAsBefore (layout : Layout) (past : Past) (image : Image) : Type 0 w
   pub before : StandsFor layout from state
   pub now : IsStill layout from state image
 
--- What a read gave stands for the state; the first call was a sync, and from then on each image stands for that state.
+-- The image that a read gave stands for the state; the first call was a sync, and from then on each image stands for
+-- that state.
 pub record StaysFor (layout : Layout) (s : State) (old new : Past) : Type 0 where
   pub stands : StandsFor layout (seen old) s
   pub during : During (after synced old) new (IsStill layout (seen old) s)
 
--- what a read gave stands for a state, and each image still does from the first sync on
+-- the image that a read gave stands for a state, and each image still does from the first sync on
 pub record StaysForOne (old new : Past) : Type 0 where
   pub layout : Layout
   pub state : State

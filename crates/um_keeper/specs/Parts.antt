@@ -1,5 +1,5 @@
--- What is offered to a store is a part of a life of it, answered or not.
--- No manual page has it: crash safety is this project's own promise (docs/CRASH.md tells it in plain words).
+-- The inputs offered to a store are a part of a life of it, answered or not.
+-- No manual page has it: crash safety is this project's own promise (docs/CRASH.md describes it in plain words).
 -- The laws of a running manager over its lives stand on this file.
 use Rattle.std.specs.Prelude.{◌≢◌, ℕ, List, ◌++◌, Err}
 use Rattle.std.specs.List.{AllByRecursion}
@@ -18,20 +18,20 @@ use Rattle.um_wire.specs.declared.refusal.Refusal.TheVariants.{Reopen}
 abbrev pub NoReopen : List Answer → Type 0
 NoReopen answers = AllByRecursion (λ (answer : Answer). answer ≢ Err Reopen) answers
 
--- What is offered to a store is a part of a life of it.
+-- The inputs offered to a store are a part of a life of it.
 pub record ArePartsOfLives : Type 0 where
-  -- behind inputs that were answered a life has come to the state behind them
+  -- after inputs that were answered a life has reached the state after them
   pub answered : (layout : Layout) (s t : State) (inputs : List Input) (answers : List Answer) → AreAnswered (body_limit layout) s inputs answers t
       → HasCome layout s (offers inputs answers) t
-  -- one that has come to a state, and from there to another, has come to that
+  -- a life that has reached a state, and from there another, has reached the other
   pub further : (layout : Layout) (s t u : State) (first more : List Offer) → HasCome layout s first t → HasCome layout t more u
       → HasCome layout s (first ++ more) u
-  -- a store of the state to which it has come it may leave
+  -- it may leave a store of the state that it has reached
   pub stored : (layout : Layout) (s t : State) (offered : List Offer) (image : Image) → HasCome layout s offered t → IsStoreOf layout image t
       → MayLeave layout s offered image
-  -- where the answers aren't told yet, none of the inputs was answered
+  -- where the answers aren't given yet, none of the inputs was answered
   pub untold : (inputs : List Input) (answers : List Answer) → AreUnanswered (untold_offers inputs answers)
-  -- and a store of the state behind a beginning of those that weren't turned away it may leave then
+  -- and it may leave then a store of the state after a beginning of those that weren't turned away
   pub begun : (layout : Layout) (s : State) (inputs : List Input) (answers : List Answer) (image : Image) → NoReopen answers
       → IsBegun layout s (taken inputs answers) image → MayLeave layout s (untold_offers inputs answers) image
   -- none of a list that was taken is answered E17, whether a call on the disk failed or not

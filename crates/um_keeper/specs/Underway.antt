@@ -1,4 +1,4 @@
--- What stands on a keeper's disk while a list of inputs is taken: its records may be written ahead of the last sync.
+-- A keeper's disk while a list of inputs is taken: its records may be written ahead of the last sync.
 -- No manual page has it: it is the project's own.
 -- The taking of lists stands on this file.
 use Rattle.std.specs.Prelude.{◌≡◌, ◌⊎◌, ◌+◌, ◌-◌, ◌*◌, ◌^◌, ◌≤◌, ◌≢◌, ℕ, Bool, true, false, IsTrue, if◌then◌else◌, List, [], ◌++◌, length, take, Some}
@@ -26,7 +26,7 @@ use Rattle.um_keeper.specs.Answering.{Answer, Recorded, AreSpentAt, most_snapsho
 use Rattle.um_keeper.specs.Keeping.{Keeps, has_bytes, left_of, finish_calls, log_generation}
 use Rattle.um_keeper.specs.declared.ahead.Ahead.{Ahead}
 
--- A body spells a state and records spell inputs, and the run over them comes to the other state.
+-- A body spells a state and records spell inputs, and the run over them reaches the other state.
 pub record Spells (layout : Layout) (body : List ℕ) (records : List (List ℕ)) (s : State) : Type 0 where
   pub start : State
   pub inputs : List Input
@@ -35,21 +35,22 @@ pub record Spells (layout : Layout) (body : List ℕ) (records : List (List ℕ)
   pub servable : IsServable (body_limit layout) start
   pub run : Run (body_limit layout) start inputs s
 
--- A body and records spell what a beginning of these inputs leads to.
+-- A body and records spell the state to which a beginning of these inputs leads.
 pub record Begins (layout : Layout) (s : State) (taken : List Input) (body : List ℕ) (records : List (List ℕ)) : Type 0 where
   pub count : ℕ
   pub state : State
   pub run : Run (body_limit layout) s (take count taken) state
   pub spells : Spells layout body records state
 
--- A snapshot under way is of the state behind the records of the newest one's generation.
+-- A snapshot under way is of the state after the records of the newest one's generation.
 pub record IsAside (layout : Layout) (image : Image) (newest : ℕ) (body kept : List ℕ) : Type 0 where
   pub state : State
   pub spells : Spells layout body (records_of current layout newest image) state
   pub kept_is : nothing_left (state_at kept) ≡ Some state
   pub may : IsServable (body_limit layout) state
 
--- While a list is taken from a state on: the disk has a beginning of the inputs that were taken, and a read gives the state behind them all.
+-- While a list is taken from a state on: the disk has a beginning of the inputs that were taken, and a read gives the
+-- state after them all.
 pub record IsUnderway (layout : Layout) (s : State) (taken : List Input) (past : Past) (slot : Slot) (newest : ℕ) (kept : List ℕ)
     (written generation number next : ℕ) (unsynced : Bool) (state : State) : Type 0 where
   pub body : List ℕ
@@ -62,7 +63,7 @@ pub record IsUnderway (layout : Layout) (s : State) (taken : List Input) (past :
   pub ends : Run (body_limit layout) s taken state
   -- all records are on the disk, unless something is to be synced
   pub synced : unsynced ≡ false → more ≡ []
-  -- a snapshot under way, of which a read gives so many sectors
+  -- a snapshot under way, of which a read gives this many sectors
   pub same : generation ≡ log_generation newest kept
   pub aside : has_bytes kept ≡ true → IsAside layout (seen past) newest body kept
   pub written_is : IsWritten layout (seen past) (other slot) kept written
@@ -86,7 +87,7 @@ KeptIn past sectors a state =
 abbrev pub is_renewing : Ahead → Bool
 is_renewing a = has_bytes a.aside.body.items
 
--- so many sectors of it are left, and so many calls finish it
+-- the number of its sectors that are left, and the number of calls that finish it
 abbrev pub left_ahead : Ahead → ℕ
 left_ahead a = left_of a.aside.body.items a.aside.written
 
@@ -101,12 +102,12 @@ owed unsynced = if unsynced then 1 else 0
 abbrev pub HasRoomFor : Log → Input → Type 0
 HasRoomFor log input = log.next + part_count (length (input_spelling input)) ≤ log_end log.layout log.generation
 
--- the log has no room for a record of so many bytes, and its generation is the last
+-- the log has no room for a record of this many bytes, and its generation is the last
 pub record LacksRoom (log : Log) (bytes : ℕ) : Type 0 where
   pub no_room : ¬ Fits log.layout log.generation log.next bytes
   pub last : log.generation ≡ 2 ^ 64 - 1
 
--- in the last generation, now or once it comes to that, the log is free from this sector on
+-- in the last generation, now or once the log reaches it, the log is free from this sector on
 pub record IsFreeAt (log : Log) (from : ℕ) : Type 0 where
   pub start : log_start log.layout (2 ^ 64 - 1) ≤ from
   pub behind : log.generation ≡ 2 ^ 64 - 1 → log.next ≤ from
@@ -116,15 +117,15 @@ pub record IsPlannedBy (engine : Engine) (input : declared.Input) (next : Next) 
   pub step : Step (size_in engine) (state_in engine) (view.input_of input) (reply_in next) (actions_in next) (state_after next (standing_in engine)).state
   pub accepted : (r : Refused) → reply_in next ≢ Refusal r
 
--- The log stays in its generation, and there were so many calls at most; or it rose by one, as a snapshot began, and there were those that finished the one
--- under way beside them, and a sync.
+-- The log stays in its generation, with `most` calls at most; or it rises by one, as a snapshot begins, with the calls
+-- that finish the one under way and a sync besides.
 abbrev pub MayRise : (old new : Ahead) (finish most now : ℕ) → Type 0
 MayRise old new finish most now =
     ((new.log.generation ≡ old.log.generation) × (is_renewing new ≡ is_renewing old) × (now ≤ most))
     ⊎ ((new.log.generation ≡ old.log.generation + 1) × (now ≤ most + finish + 1) × (is_renewing old ≡ false → now ≤ most + 1))
 
--- What inputs take that are judged from a state on, of a log and of the disk, as far as they were taken: the sectors of their records, and a snapshot and a
--- sync for each generation by which the log rose.
+-- The sectors and disk calls of inputs that are judged from a state on, as far as they were taken: the sectors of their
+-- records, and a snapshot and a sync for each generation by which the log rose.
 pub record Takes (size : ℕ) (old new : Ahead) (before now : ℕ) (s : State) (inputs : List Input) (answers : List Answer) (t : State) : Type 0 where
   pub sectors : ℕ
   pub recorded : Recorded size s inputs answers sectors t

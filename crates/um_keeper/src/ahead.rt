@@ -12,7 +12,7 @@ use um_slot::Home;
 pub(crate) struct Ahead {
     pub(crate) home: Home,
     pub(crate) log: Log,
-    /// A record was written behind the last sync.
+    /// A record was written after the last sync.
     pub(crate) unsynced: bool,
     /// The snapshot under way.
     pub(crate) aside: NextSnapshot,

@@ -1,4 +1,4 @@
-//! Lists of inputs that are taken one behind the other.
+//! Lists of inputs that are taken in order, with one sync for them all.
 ghost use Rattle.std.specs.Prelude.{◌≡◌, ◌≢◌, ◌⊎◌, ◌↔◌, ◌+◌, ◌-◌, ◌<◌, ◌≤◌, ◌∷◌, ◌++◌, [], ℕ, false, true, List, length, map, replicate, vec_len, vec_capacity, Ok, Err, IfOk, IfErr, OnOk, OnErr, IsTrue};
 ghost use Rattle.std.specs.List.{AllByRecursion};
 ghost use Rattle.um_engine.specs.Engine as machine;
@@ -55,7 +55,7 @@ fn keep(backs: &mut Vec<Back>, back: Back)
     backs.push_reserved(back);
 }
 
-/// Lets go of an answer that nobody was given.
+/// Drops an answer that is not given to anybody.
 fn let_one_go(answer: Result<Receipt, Refusal>) {
     match answer {
         Ok(receipt) => receipt.let_go(),
@@ -63,7 +63,7 @@ fn let_one_go(answer: Result<Receipt, Refusal>) {
     }
 }
 
-/// Denies what was done: the disk failed behind it. A refusal stays.
+/// Denies a success, since the disk failed afterwards. A refusal stays.
 fn deny_one(answer: &mut Result<Receipt, Refusal>)
     ensures { answer.new ≡ denied answer.old }
 {
@@ -83,7 +83,8 @@ fn deny_all(answers: &mut Vec<Result<Receipt, Refusal>>)
     }
 }
 
-/// Makes so many answers of these, at which the disk failed: what was done is denied, and each of the others is E16.
+/// Makes `count` answers of these after the disk failed: each success is denied, and each input without an answer gets
+/// E16.
 fn deny(answers: &mut Vec<Result<Receipt, Refusal>>, count: usize)
     requires { count ≤ vec_capacity answers.old }
     ensures { answers.new.items ≡ map denied answers.old.items ++ replicate (count - length answers.old.items) (Err Refusal.Device) }
@@ -284,7 +285,7 @@ fn take_all<D: Disk>(
     Ok(())
 }
 
-/// Takes the inputs of a list, with one sync behind the records of them all. E16.
+/// Takes the inputs of a list, with one sync after the records of them all. E16.
 fn record_all<D: Disk>(
     alloc: Global,
     disk: &mut D,
@@ -346,19 +347,20 @@ fn record_all<D: Disk>(
 }
 
 impl<D: Disk> Keeper<D> {
-    /// Takes a list of inputs one behind the other, each with its own record, and one sync behind them all, and answers each of them: by
-    /// its receipt, by its step's refusal (E4 to E14, E21), or, with none of the others touched, by E15, or by E20 where its record has no
-    /// room and the generation is the last.
+    /// Takes a list of inputs in order, each with its own record, and syncs once after them all. Each input is answered
+    /// by its receipt or by its step's refusal (E4 to E14, E21). With none of the others touched it is answered E15, or
+    /// E20 if its record has no room and the generation is the last.
     ///
-    /// A record that has no room begins a snapshot first: those that were written are synced, the snapshot under way is finished, and the
-    /// records go on as the next generation. Where nothing is to be recorded there is no disk call.
+    /// A record that has no room begins a snapshot first: the records written so far are synced, the snapshot under way
+    /// is finished, and the records go on as the next generation. If nothing is to be recorded there is no disk call.
     ///
-    /// Where a disk call fails the state is that from before, no receipt is given, and each input that wasn't refused for another cause
-    /// is answered E16; behind the one at which it failed none is judged.
+    /// If a disk call fails the state is that from before, no receipt is given, and each input that wasn't refused for
+    /// another cause is answered E16. No input that follows the failure is judged.
     ///
-    /// Each image of each moment meanwhile is a store of the state after a beginning of the inputs without those answered E15 or E20,
-    /// and behind it, where no disk call failed, of all of them. The list as a whole is refused with E17 where an earlier call answered
-    /// E16; with E15 before anything is written or taken.
+    /// Each image of each moment meanwhile is a store of the state after a beginning of the inputs without those
+    /// answered E15 or E20. Afterwards, if no disk call failed, it is a store of the state after all of them. The list
+    /// as a whole is refused with E17 if an earlier call answered E16, and with E15 before anything is written or
+    /// taken.
     pub fn submit_all(
         &mut self,
         inputs: Vec<Input>,

@@ -1,3 +1,4 @@
+//! Creates the store of the empty state on a disk.
 ghost use Rattle.std.specs.Prelude.{◌≡◌, ◌⊎◌, ◌≤◌, ◌+◌, [], IsTrue, IfErr, OnOk, OnErr};
 ghost use Rattle.um_model.specs.Disk.{seen, Images, During};
 ghost use Rattle.um_sector.specs.Runs.{CountsFailure, more};
@@ -68,11 +69,12 @@ fn lay<D: Disk>(disk: &mut D, layout: Layout, body: &[u8]) -> Result<(), Refusal
     Ok(())
 }
 
-/// Makes the store of the empty state on a disk, whatever stood there: it zeros sector 0 and syncs, zeros both headers and the log,
-/// writes the empty state as generation 1 into slot A, and at last sector 0. The disk has room for the layout.
+/// Makes the store of the empty state on a disk, whatever stood there: it zeros sector 0 and syncs, zeros both headers
+/// and the log, writes the empty state as generation 1 into slot A, and at last sector 0. The disk has room for the
+/// layout.
 ///
-/// E15, with nothing written; E16 where a disk call fails. Until the first sync each image is one of before, or of no store; from
-/// then on it is of no store, or of the empty state's. At Ok just so many disk calls were made as it takes (`create_calls`).
+/// E15, with nothing written; E16 where a disk call fails. Until the first sync each image is one of before, or of no
+/// store; from then on it is of no store, or of the empty state's. At Ok exactly `create_calls` disk calls were made.
 pub fn create<D: Disk>(alloc: Global, disk: &mut D, layout: Layout) -> Result<(), Refusal>
     requires room { store.store_sectors layout ≤ D.size disk.old }
     ensures during { IsTrue (D.honest disk.old) → WhileCreated layout (D.past disk.old) (D.past disk.new) }
@@ -85,7 +87,7 @@ pub fn create<D: Disk>(alloc: Global, disk: &mut D, layout: Layout) -> Result<()
     ensures size { D.size disk.new ≡ D.size disk.old }
     ensures honest { D.honest disk.new ≡ D.honest disk.old }
 {
-    // All that takes memory comes before the first write.
+    // All memory is taken before the first write.
     let empty = State::empty(alloc);
     let spelled = spell(alloc, &empty);
     drop(empty);

@@ -1,4 +1,4 @@
-//! A reader of stores: what the image of a disk stands for, with nothing written.
+//! A reader of stores: the state that the image of a disk stands for, with nothing written.
 
 ghost use Rattle.std.specs.Prelude.{◌≡◌, ◌⊎◌, IfOk, IfErr, IsTrue};
 ghost use Rattle.um_engine.specs.Engine.{state_in};
@@ -16,12 +16,12 @@ use um_sector::Disk;
 use um_state::State;
 use um_wire::Refusal;
 
-/// What the image of a store tells in short.
+/// A summary of the store on an image.
 #[derive(Clone, Copy, Debug, PartialEq, Eq)]
 pub struct Summary {
     /// The generation of its newest header.
     pub generation: u64,
-    /// So many records of that generation and the next one count.
+    /// The number of records of that generation and the next one that count.
     pub records: usize,
     /// The moment of the last step.
     pub clock: Moment,
@@ -34,7 +34,7 @@ pub struct Summary {
     pub damaged: Option<Uncounted>,
 }
 
-/// What was taken up, in short.
+/// The summary of the store that was taken up.
 fn summary_of(found: Found) -> Summary
     ensures generation { result.generation ≡ found.opened.generation }
     ensures records { result.records ≡ found.opened.records }
@@ -56,10 +56,11 @@ fn summary_of(found: Found) -> Summary
     summary
 }
 
-/// What the store on a disk stands for, in short. It reads as `Keeper::open` does, and writes and syncs nothing.
+/// The summary of the store on a disk. It reads as `Keeper::open` does, and writes and syncs nothing.
 ///
-/// Refused is what `Keeper::open` refuses, with the same sector, but for E20, which only an opening gives: E19, E22, E18; E15; E16 where a read
-/// fails. Nothing else is refused, so that what the disk has room for and what stands for a state is told.
+/// It refuses what `Keeper::open` refuses, with the same sector, except for E20, which only an opening gives: E19, E22,
+/// E18; E15; E16 where a read fails. Nothing else is refused, so a summary is given of each store that stands for a
+/// state and for which the disk has room.
 pub fn inspect<D: Disk>(alloc: Global, disk: &mut D) -> Result<Summary, Refusal>
     ensures stands { IfOk result (λ m. IsTrue (D.honest disk.old) → IsSomeSummed (D.size disk.old) (seen (D.past disk.old)) m) }
     ensures err { IfErr result (λ e. IsLost e ⊎ (IsTrue (D.honest disk.old) → IsUnread (D.size disk.old) (seen (D.past disk.old)) e)) }
@@ -72,7 +73,7 @@ pub fn inspect<D: Disk>(alloc: Global, disk: &mut D) -> Result<Summary, Refusal>
     Ok(summary_of(taken))
 }
 
-/// What the store on a disk stands for, in short, with its state. It reads as `inspect` does and is refused as that is.
+/// The summary of the store on a disk, with its state. It reads as `inspect` does and is refused as that is.
 pub fn look<D: Disk>(alloc: Global, disk: &mut D) -> Result<(Summary, State), Refusal>
     ensures stands { IfOk result (λ found. IsTrue (D.honest disk.old)
         → IsSummed (D.size disk.old) (seen (D.past disk.old)) found.0 (state_of found.1)) }

@@ -1,3 +1,4 @@
+//! The keeper of a store: takes inputs, and answers each only once its record is on the disk.
 ghost use Rattle.std.specs.Prelude.{◌≡◌, ◌≢◌, ◌⊎◌, ◌↔◌, ◌+◌, ◌-◌, ◌^◌, ◌<◌, ◌≤◌, ◌∷◌, [], ℕ, true, false, List, length, Err, Some, IfOk, IfErr, OnOk, OnErr, IsTrue};
 ghost use Rattle.std.proofs.Props.{props};
 ghost use Rattle.std.specs.Coded.{codes};
@@ -39,12 +40,12 @@ pub struct Uncounted {
     pub records: usize,
 }
 
-/// What was read of a store when it was opened.
+/// The findings of an opening.
 #[derive(Clone, Copy, Debug, PartialEq, Eq)]
 pub struct OpenedStore {
     /// The generation of its newest header.
     pub generation: u64,
-    /// So many records of that generation and the next one were replayed.
+    /// The number of records of that generation and the next one that were replayed.
     pub records: usize,
     /// Where whole records of these generations don't count: the sector with which the reading ends of the first that has some, which is damaged,
     /// or a crash cut it off.
@@ -60,7 +61,7 @@ pub struct Keeper<D: Disk> {
     pub(crate) disk: D,
     pub(crate) engine: Engine,
     pub(crate) ahead: Ahead,
-    /// A call on the disk failed, so that it isn't known what stands there.
+    /// A call on the disk failed, so that the sectors on it aren't known.
     pub(crate) failed: bool,
     pub(crate) opened: OpenedStore,
     ghost holds: { MayHold ahead.log.layout (machine.size_in engine) (machine.state_in engine) },
@@ -98,7 +99,7 @@ pub(crate) fn noted(failed: &mut bool, refusal: Refusal) -> Refusal
 impl<D: Disk> Keeper<D> {
     ghost use Rattle.um_keeper.specs.Keepers.{disk_in, standing_in, state_in, size_in, layout_in, slot_in, generation_in, log_generation_in, number_in, next_in, left_in, finish_calls_in, slot_behind, has_failed, opened_in, IsSamePlace, HasNoRoom, IsFreeFrom, IsPlanned};
 
-    /// What was read of the store when it was opened.
+    /// The findings of the opening of this store.
     pub fn opened(&self) -> OpenedStore
         ensures { result ≡ opened_in self.now }
     {
@@ -112,14 +113,14 @@ impl<D: Disk> Keeper<D> {
         self.failed
     }
 
-    /// The state.
+    /// The state after all inputs that were accepted.
     pub fn state(&self) -> &State
         ensures { state_of result.now ≡ state_in self.now }
     {
         self.engine.state()
     }
 
-    /// The reply to a query. It asks nothing of the disk.
+    /// The reply to a query. It makes no call on the disk.
     pub fn query(&self, query: &Query) -> Result<Reply, AllocError>
         ensures { IfOk result (λ reply. model.IsReplyTo (state_in self.now) (query_of query.now) (reply_of reply)) }
     {
@@ -189,7 +190,7 @@ impl<D: Disk> Keeper<D> {
         }
     }
 
-    /// Sees that a record of so many bytes fits: where it doesn't, a snapshot begins first.
+    /// Makes sure that a record of `bytes` bytes fits: if it doesn't, a snapshot begins first.
     fn make_room(&mut self, bytes: usize) -> Result<(), Refusal>
         requires working { self.old.failed ≡ false }
         requires some { 0 < bytes }
@@ -225,7 +226,7 @@ impl<D: Disk> Keeper<D> {
         }
     }
 
-    /// Takes a planned step, with the receipt of what it answers, once its record is on the disk.
+    /// Takes a planned step once its record is on the disk, and returns the receipt of its answer.
     fn append(&mut self, input: &Input, next: Next, bytes: &[u8]) -> Result<Receipt, Refusal>
         requires working { self.old.failed ≡ false }
         requires step { IsPlanned self.old input.now next }
@@ -263,7 +264,7 @@ impl<D: Disk> Keeper<D> {
         }
     }
 
-    /// Records a planned input and takes its step, behind the beginning of a snapshot where the log has no room for it.
+    /// Records a planned input and takes its step. A snapshot begins first if the log has no room for the record.
     fn record(&mut self, input: &Input, next: Next) -> Result<Receipt, Refusal>
         requires working { self.old.failed ≡ false }
         requires step { IsPlanned self.old input.now next }

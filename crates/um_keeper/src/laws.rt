@@ -1,4 +1,4 @@
-//! What the definitions of a store say together, as functions that do nothing.
+//! Laws of the definitions of a store, as functions that do nothing.
 ghost use Rattle.std.specs.Prelude.{◌≡◌, ◌↔◌, ◌+◌, ◌-◌, ◌^◌, ◌<◌, ◌≤◌, ℕ, List};
 ghost use Rattle.um_keeper.specs.Finished.{RepeatsNone, WaitsForCommand};
 ghost use Rattle.um_keeper.specs.Opening.{IsUnread, IsUntaken, IsTakenUp, IsNextOf};
@@ -33,9 +33,10 @@ pub fn an_input_has_room_in_a_record()
     ensures { (layout : Layout) (generation : ℕ) → input_limit ≤ record_limit layout generation }
 {}
 
-/// However many lives a store has, each opened on the image that the crash of the one before it left: from an image of a store on, as a
-/// new one, the last image is a store of the state that a run from the first one's over what was kept comes to; each input that was
-/// answered got its reply in that run; and what was kept holds all that was answered, in its order.
+/// A store may have any number of lives, each opened on the image that the crash before it left. The first image is a
+/// store of some state, as that of a new store is. Then the last image is a store of the state that one run reaches
+/// from there over the inputs that were kept. Each input that was answered got its reply in that run. The inputs that
+/// were kept include all that were answered, in their order.
 pub fn lives()
     ensures state { (layout : Layout) (first last : Image) (lives : List Life) (s : State) → IsStoreOf layout first s → Lived layout first lives last
         → (kept : List Input) × AreKept lives kept × (t : State) × Run (body_limit layout) s kept t × RunsThrough (body_limit layout) s lives kept t
@@ -43,15 +44,17 @@ pub fn lives()
     ensures answered { (lives : List Life) (kept : List Input) → AreKept lives kept → HasInOrder (all_answered lives) kept }
 {}
 
-/// What is offered to a store is a part of a life of it, answered or not: inputs that were answered bring it to the state behind them; and of
-/// those that a crash meets it may leave a beginning, without those that were turned away. So calls may follow each other, and `lives` hold of them.
+/// The inputs offered to a store are a part of a life of it, answered or not. Inputs that were answered bring it to the
+/// state after them. Of inputs that a crash interrupts it may leave a beginning, without those that were turned away.
+/// So calls may follow each other, and `lives` holds of them.
 pub fn offers_are_parts_of_lives()
     ensures { ArePartsOfLives }
 {}
 
-/// A finished job is never repeated: wherever in a run a oneshot finishes and no start of it is pending then, none of its starts begins
-/// later before a command's plan puts one, in that boot or in a later one. So it is of each unit at rest, whatever its kind and however
-/// it came there. And so it is over all crashes: from the state of the first image on, in the one run over what was kept of all lives.
+/// A finished job is never repeated. Wherever in a run a oneshot finishes and no start of it is pending then, none of
+/// its starts begins later before a command's plan puts one, in that boot or in a later one. The same holds of each
+/// unit at rest, whatever its kind and however it got there. It also holds over all crashes: from the state of the
+/// first image on, in the one run over the inputs kept of all lives.
 pub fn finished()
     ensures run { (size : ℕ) (s t : State) (inputs : List Input) (run : Run size s inputs t) → RepeatsNone run }
     ensures rest { (size : ℕ) (s t : State) (inputs : List Input) (run : Run size s inputs t) (unit : List ℕ) → IsAtRest s unit → WaitsForCommand unit run }
@@ -60,8 +63,8 @@ pub fn finished()
         × ((unit : List ℕ) → IsAtRest s unit → WaitsForCommand unit run) × IsStoreOf layout last t }
 {}
 
-/// What stands for a state isn't refused for any cause of its reading where the disk has room, so that E20 alone may refuse it, behind the
-/// last generation.
+/// An image that stands for a state isn't refused for any cause of its reading if the disk has room. So E20 alone may
+/// refuse it, past the last generation.
 pub fn a_store_is_taken_up()
     ensures read { (count : ℕ) (layout : Layout) (image : Image) (s : State) (e : Refusal) → store_sectors layout ≤ count → StandsFor layout image s
         → ¬ IsUnread count image e }
@@ -69,14 +72,14 @@ pub fn a_store_is_taken_up()
         → IsUntaken count image e → e ≡ GenerationsSpent }
 {}
 
-/// What is taken up isn't refused, unless the greatest generation that stands there is the last one.
+/// A store that can be taken up isn't refused, unless the greatest generation that stands there is the last one.
 pub fn what_is_taken_up_is_not_refused()
     ensures { (count : ℕ) (layout : Layout) (image : Image) (slot : Slot) (generation greatest : ℕ) (s : State) (e : Refusal)
         (taken : IsTakenUp count image layout slot generation s) → IsGreatest layout image (top taken.has.format generation) greatest → greatest < 2 ^ 64 - 1 → ¬ IsUntaken count image e }
 {}
 
-/// A store that was left by calls that answered goes up to the generation behind those whose records count when it is opened: no sector of
-/// its log is of a later one than these.
+/// A store that was left by calls that answered is opened into the generation after those whose records count: no
+/// sector of its log is of a later one than these.
 pub fn a_store_goes_up_behind_the_generations_that_count()
     ensures { (count : ℕ) (layout : Layout) (image : Image) (slot : Slot) (generation : ℕ) (s : State) (next : IsNextOf count image layout slot generation s)
         → IsStoreOf layout image s → generation ≡ top next.taken.has.format next.earlier + 1 }

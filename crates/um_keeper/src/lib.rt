@@ -1,7 +1,7 @@
-//! The engine over a disk: what it answers outlives a crash.
+//! The engine over a disk: its answers outlive a crash.
 //!
-//! A large value that is let go where a call is refused is let go by `drop`: that is one call, while what the compiler writes itself has a step
-//! for each field at each way out, each of which is proved.
+//! If a call is refused, a large value is released by `drop`. That is one call, while the compiler writes a step for
+//! each field at each way out, each of which is proved.
 #![tactic(auto)]
 
 mod ahead;

@@ -1,3 +1,4 @@
+//! Opens the store that a disk holds: reads it, replays its records, and writes its state as the next generation.
 ghost use Rattle.std.specs.Prelude.{◌≡◌, ◌⊎◌, ◌↔◌, ◌+◌, ◌-◌, ◌^◌, ◌<◌, ◌≤◌, ℕ, [], Ok, Some, None, false, List, length, IfOk, IfErr, IfSome, OnOk, IsTrue};
 ghost use Rattle.um_engine.specs.Engine.{state_in, size_in};
 ghost use Rattle.um_keeper.specs.Keeping.{Keeps, MayHold};
@@ -30,8 +31,8 @@ use um_slot::{Home, newest, read_superblock, superblock};
 use um_state::Input;
 use um_wire::{Refusal, read_whole};
 
-/// What was taken up of a disk: the format and the layout of its store, where the newest snapshot stands, the engine in the state that the
-/// store stands for, and what was read.
+/// A store that was taken up of a disk: its format and layout, where its newest snapshot stands, the engine in the
+/// state that the store stands for, and the findings of the reading.
 #[derive(Drop)]
 pub(crate) struct Found {
     format: Format,
@@ -43,8 +44,8 @@ pub(crate) struct Found {
     pub(crate) opened: OpenedStore,
 }
 
-/// All records that count were read, so many; and what remains behind them, in the place of the newest snapshot's generation, and in that of
-/// the next one.
+/// The number of records that count, all of which were read, and the remains after them: in the place of the newest
+/// snapshot's generation, and in that of the next one.
 #[derive(Clone, Copy, Debug)]
 struct Replayed {
     records: usize,
@@ -52,7 +53,7 @@ struct Replayed {
     behind: Option<Remains>,
 }
 
-/// What a keeper needs beside its disk.
+/// The parts of a keeper beside its disk.
 #[derive(Drop)]
 pub(crate) struct Held {
     pub(crate) engine: Engine,
@@ -61,7 +62,7 @@ pub(crate) struct Held {
     pub(crate) opened: OpenedStore,
 }
 
-/// The format and the layout that sector 0 tells, of a store for which the disk has room.
+/// The format and the layout that sector 0 names, of a store for which the disk has room.
 fn read_layout<D: Disk>(disk: &mut D) -> Result<(Format, Layout), Refusal>
     ensures ok { IfOk result (λ told. IsTrue (D.honest disk.old) → seen (D.past disk.old) 0 ≡ superblock told.0 told.1) }
     ensures room { IfOk result (λ told. store_sectors told.1 ≤ D.size disk.old) }
@@ -104,7 +105,8 @@ fn is_no_memory(refusal: Refusal) -> bool
     is_no_memory
 }
 
-/// Takes the step of an input that was recorded. One that is refused changes nothing; what it asks of processes is let go.
+/// Takes the step of an input that was recorded. One that is refused changes nothing. The step's actions on processes
+/// are dropped.
 fn retake(engine: &mut Engine, input: Input) -> Result<(), AllocError>
     ensures ok { OnOk result (Leads (size_in engine.old) (state_in engine.old) (input_of input) (state_in engine.new)) }
     ensures size { size_in engine.new ≡ size_in engine.old }
@@ -127,7 +129,7 @@ fn retake(engine: &mut Engine, input: Input) -> Result<(), AllocError>
     }
 }
 
-/// Takes the steps of the inputs that the records of a generation spell, one behind the other, each as it is read.
+/// Takes the steps of the inputs that the records of a generation spell, in order, each as it is read.
 ///
 /// E18 with the first sector of the first record that spells none; E15; E16 where a read fails.
 fn replay<D: Disk>(
@@ -162,7 +164,7 @@ fn replay<D: Disk>(
     Ok(())
 }
 
-/// Takes the steps of the inputs that the records of a generation spell, and tells what remains in the log behind them.
+/// Takes the steps of the inputs that the records of a generation spell, and returns the remains in the log after them.
 ///
 /// E18 with the first sector of the first record that spells none; E15; E16 where a read fails.
 fn replay_all<D: Disk>(
@@ -192,8 +194,8 @@ fn replay_all<D: Disk>(
     reader.remains(disk)
 }
 
-/// Takes the steps of the inputs that all records which count spell: those of the newest snapshot's generation, and behind them, where they
-/// count too, those of the next.
+/// Takes the steps of the inputs that all records which count spell: those of the newest snapshot's generation, then
+/// those of the next one, if they count too.
 ///
 /// E18 with the first sector of the first record that spells none; E15; E16 where a read fails.
 fn replay_both<D: Disk>(
@@ -245,7 +247,8 @@ fn greatest_in(behind: Option<Remains>) -> Option<u64>
     }
 }
 
-/// How many whole records don't count of the generation that is read, behind those that do, and with which sector its reading ends.
+/// The number of whole records of the generation that don't count, after those that do, and the sector with which its
+/// reading ends.
 fn cut_off_in(remains: Remains) -> Option<Uncounted>
     ensures some { IfSome result (λ cut. (0 < remains.uncounted) × (cut.sector ≡ remains.stop) × (cut.records ≡ remains.uncounted)) }
     ensures none { result ≡ None → remains.uncounted ≡ 0 }
@@ -304,7 +307,8 @@ fn damaged_of(layout: Layout, slot: Slot, is_damaged: bool, later: usize) -> Opt
     })
 }
 
-/// Takes the steps of all records that count, as `replay_both` does, and tells the greatest generation that stands on the disk.
+/// Takes the steps of all records that count, as `replay_both` does, and returns the greatest generation that stands on
+/// the disk.
 fn read_records<D: Disk>(
     alloc: Global,
     disk: &mut D,
@@ -401,8 +405,8 @@ fn rewrite<D: Disk>(disk: &mut D, format: Format, layout: Layout) -> Result<(), 
     }
 }
 
-/// Writes a snapshot into the other slot, as the generation behind the last one, and makes the store one of the current format. Answers
-/// where it stands. E16.
+/// Writes a snapshot into the other slot, as the generation after the last one, and makes the store one of the current
+/// format. Returns where it stands. E16.
 fn store_anew<D: Disk>(
     disk: &mut D,
     format: Format,
@@ -430,7 +434,8 @@ fn store_anew<D: Disk>(
     Ok(home)
 }
 
-/// Writes the state into the other slot, as the generation behind the greatest that stands on the disk, in the current format.
+/// Writes the state into the other slot, as the generation after the greatest that stands on the disk, in the current
+/// format.
 fn renew<D: Disk>(alloc: Global, disk: &mut D, found: Found, greatest: u64) -> Result<Held, Refusal>
     requires kept { IsKept found.layout (size_in found.engine) (state_in found.engine) }
     requires early { greatest < 2 ^ 64 - 1 }
@@ -475,7 +480,7 @@ fn renew<D: Disk>(alloc: Global, disk: &mut D, found: Found, greatest: u64) -> R
     }
 }
 
-/// The greatest generation, where there is one behind it.
+/// The greatest generation, if there is one after it.
 fn before_last(greatest: Option<u64>) -> Option<u64>
     ensures some { IfSome result (λ last. (greatest ≡ Some last) × (last < 2 ^ 64 - 1)) }
     ensures none { result ≡ None → (greatest ≡ None) ⊎ (greatest ≡ Some (2 ^ 64 - 1)) }
@@ -514,15 +519,17 @@ pub(crate) fn recover<D: Disk>(alloc: Global, disk: &mut D) -> Result<Held, Refu
 }
 
 impl<D: Disk> Keeper<D> {
-    /// Opens the store that a disk holds: it syncs, takes up the state that what it reads stands for, and writes that state into the other
-    /// slot, as the generation behind the greatest whose records count, or that a sector of the log tells, before anything is accepted. A
-    /// store of format 1 is one of format 2 then: sector 0 is written last, and synced. A refusal hands the disk back.
+    /// Opens the store that a disk holds. It syncs and takes up the state that the image it reads stands for. Before
+    /// anything is accepted it writes that state into the other slot, as the next generation: the one after the
+    /// greatest whose records count, or that a sector of the log names. A store of format 1 becomes one of format 2:
+    /// sector 0 is written last, and synced. A refusal hands the disk back.
     ///
-    /// E19 where there is no sector 0, or it doesn't begin as that of a store; E22 where it is of another format. E18 with sector 0
-    /// where it tells no layout for which the disk has room; with sector 1 where no slot has a header; with the newest body's first
-    /// sector where it spells no state that the store may hold; with a record's first sector where it spells no input. E20 where that
-    /// greatest generation is the last one. Behind each of these nothing is written, and none but E20 comes where the disk has room for
-    /// the store, and stands for a state. E15; E16 where a disk call fails: then too each image stands for what it stood for.
+    /// E19 where there is no sector 0, or it doesn't begin as that of a store; E22 where it is of another format. E18
+    /// with sector 0 where it names no layout for which the disk has room; with sector 1 where no slot has a header;
+    /// with the newest body's first sector where it spells no state that the store may hold; with a record's first
+    /// sector where it spells no input. E20 where that greatest generation is the last one. With each of these nothing
+    /// is written, and none but E20 is given if the disk has room for the store, and stands for a state. E15; E16 where
+    /// a disk call fails: then too each image stands for what it stood for.
     pub fn open(alloc: Global, mut disk: D) -> Result<Keeper<D>, (Refusal, D)>
         ensures during { IfOk result (λ k. IsTrue (D.honest disk) → (layout : declared.Layout) → Images (D.past disk) (IsSomeStore layout)
             → During (D.past disk) (D.past k.disk) (IsAsBefore layout (D.past disk))) }

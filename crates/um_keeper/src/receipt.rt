@@ -1,3 +1,4 @@
+//! Receipts: the answer to an input, with the actions on processes that its step wants.
 ghost use Rattle.std.specs.Prelude.{◌≡◌, [], IfOk, List, map, string_bytes};
 ghost use Rattle.std.specs.Vec.Iter.{into_iter_items};
 ghost use Rattle.um_model.specs.Children as children;
@@ -48,15 +49,16 @@ impl SpawnOrder {
         self.start.environment(alloc)
     }
 
-    /// Whether no process can be started with so much: past two MiB (2,097,152 bytes) of words and environment in all, or 128 KiB
-    /// (131,072 bytes) in one, each with a zero byte behind it. Nothing is put together. Refused only for want of memory.
+    /// Whether no process can be started with this many words: past two MiB (2,097,152 bytes) of words and environment
+    /// in all, or 128 KiB (131,072 bytes) in one, each with a zero byte at its end. No word is built. Refused only for
+    /// want of memory.
     pub fn is_too_long(&self, alloc: Global) -> Result<bool, AllocError>
         ensures { IfOk result (λ told. told ≡ is_too_long self.now.words self.now.environment) }
     {
         self.start.is_too_long(alloc)
     }
 
-    /// What is to be started, as it is set. The order is spent.
+    /// The start that is ordered, as it is set. The order is spent.
     pub fn into_start(self) -> Start
         ensures words { result.words ≡ self.words }
         ensures environment { result.environment ≡ self.environment }
@@ -75,8 +77,8 @@ pub enum Handed {
     },
 }
 
-/// What an accepted input answers: the reply, and the actions that are still to be done. It can't be copied or dropped: each action
-/// must be taken out, and then `finish` gives the reply.
+/// The answer to an accepted input: the reply, and the actions that are still to be done. It can't be copied or
+/// dropped: each action must be taken out, and then `finish` gives the reply.
 pub struct Receipt {
     reply: Reply,
     actions: vec::IntoIter<Action>,
@@ -102,7 +104,7 @@ impl Receipt {
         }
     }
 
-    /// The receipt of an input that is done and asks for nothing. It takes no memory.
+    /// The receipt of an input that is done and has no actions. It takes no memory.
     pub(crate) fn done(alloc: Global) -> Receipt
         ensures reply { result.0 ≡ machine.Done }
         ensures actions { result.1 ≡ [] }
@@ -110,7 +112,7 @@ impl Receipt {
         Receipt::new(Reply::Done, Vec::new(alloc))
     }
 
-    /// The reply.
+    /// The reply to the input. It can be read before the actions are taken out.
     pub fn reply(&self) -> &Reply
         ensures { reply_of result.now ≡ self.now.0 }
     {
@@ -137,7 +139,7 @@ impl Receipt {
         reply
     }
 
-    /// Lets go of a receipt that nobody was given.
+    /// Drops a receipt that was given to nobody.
     pub(crate) fn let_go(self) {
         let Receipt { reply, actions } = self;
         drop(reply);

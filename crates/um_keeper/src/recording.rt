@@ -26,7 +26,7 @@ use um_sector::Disk;
 use um_state::Input;
 use um_wire::{Refusal, spell};
 
-/// Syncs what was written, if anything was. E16.
+/// Syncs the disk if anything was written since the last sync. E16.
 pub(crate) fn settle<D: Disk>(disk: &mut D, ahead: &Ahead) -> Result<(), Refusal>
     ensures during { IsTrue (D.honest disk.old) → (s : model.State) (taken : List model.Input) (state : model.State) → UnderwayIn s taken (D.past disk.old) ahead.now state
         → During (D.past disk.old) (D.past disk.new) (IsBegun ahead.now.log.layout s taken) }
@@ -47,7 +47,7 @@ pub(crate) fn settle<D: Disk>(disk: &mut D, ahead: &Ahead) -> Result<(), Refusal
     Ok(())
 }
 
-/// Syncs what was written, and finishes the snapshot under way. It takes no memory. E16.
+/// Syncs the records written so far, and finishes the snapshot under way. It takes no memory. E16.
 fn conclude<D: Disk>(disk: &mut D, ahead: &mut Ahead) -> Result<(), Refusal>
     ensures during { IsTrue (D.honest disk.old) → (s : model.State) (taken : List model.Input) (state : model.State) → UnderwayIn s taken (D.past disk.old) ahead.old state
         → During (D.past disk.old) (D.past disk.new) (IsBegun ahead.old.log.layout s taken) }
@@ -92,8 +92,8 @@ fn begin(ahead: &mut Ahead, next: NextSnapshot)
     ahead.aside = next;
 }
 
-/// Begins a snapshot of the state: the one under way is finished first, behind a sync of what was written. E20 and E15, with nothing written
-/// and nothing changed; E16.
+/// Begins a snapshot of the state. The records written so far are synced first, and the snapshot under way is finished.
+/// E20 and E15, with nothing written and nothing changed; E16.
 fn renew<D: Disk>(
     alloc: Global,
     disk: &mut D,
@@ -165,7 +165,7 @@ pub(crate) fn write_anew<D: Disk>(
     Ok(())
 }
 
-/// Sees that a record of so many bytes fits: where it doesn't, a snapshot begins first.
+/// Makes sure that a record of `bytes` bytes fits: if it doesn't, a snapshot begins first.
 pub(crate) fn make_room<D: Disk>(
     alloc: Global,
     disk: &mut D,
@@ -203,8 +203,8 @@ pub(crate) fn make_room<D: Disk>(
     renew(alloc, disk, ahead, engine)
 }
 
-/// Writes the record of an input without a sync, behind the beginning of a snapshot where the log has no room for it. E15 and
-/// E20, with nothing written; E16.
+/// Writes the record of an input without a sync. A snapshot begins first if the log has no room for it. E15 and E20,
+/// with nothing written; E16.
 fn write<D: Disk>(
     alloc: Global,
     disk: &mut D,
@@ -253,8 +253,8 @@ fn write<D: Disk>(
     }
 }
 
-/// Records a planned input without a sync and takes its step, behind the beginning of a snapshot where the log has no room for it. E15 and
-/// E20, with nothing written; E16.
+/// Records a planned input without a sync and takes its step. A snapshot begins first if the log has no room for the
+/// record. E15 and E20, with nothing written; E16.
 pub(crate) fn record<D: Disk>(
     alloc: Global,
     disk: &mut D,

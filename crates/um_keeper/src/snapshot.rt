@@ -17,8 +17,8 @@ use um_slot::{Home, finish, write_part};
 use um_state::State;
 use um_wire::{Refusal, spell};
 
-/// The snapshot that comes next: the bytes of its state, and how many of their sectors stand in the slot beside the newest one. Without
-/// bytes there is none.
+/// The next snapshot: the bytes of its state, and how many of their sectors stand in the slot beside the newest one.
+/// Without bytes there is none.
 #[derive(Drop)]
 pub(crate) struct NextSnapshot {
     pub(crate) body: Vec<u8>,
@@ -28,7 +28,7 @@ pub(crate) struct NextSnapshot {
 }
 
 impl NextSnapshot {
-    /// None. It takes no memory.
+    /// No snapshot under way. It takes no memory.
     pub(crate) fn none(alloc: Global) -> NextSnapshot
         ensures body { result.body.items ≡ [] }
         ensures written { result.written ≡ 0 }
@@ -57,7 +57,7 @@ impl NextSnapshot {
         self.body.len().div_ceil(SECTOR_BYTES) - self.written
     }
 
-    /// Lets go of it, so that there is none. It takes no memory.
+    /// Drops the snapshot, so that there is none. It takes no memory.
     pub(crate) fn clear(&mut self)
         ensures body { self.new.body.items ≡ [] }
         ensures written { self.new.written ≡ 0 }
@@ -66,7 +66,7 @@ impl NextSnapshot {
         self.body.clear();
     }
 
-    /// Writes the next of its sectors, so many or all that are left, without a sync. E16.
+    /// Writes the next `count` of its sectors, or all that are left, without a sync. E16.
     pub(crate) fn write_part<D: Disk>(
         &self,
         disk: &mut D,
@@ -93,10 +93,10 @@ impl NextSnapshot {
         Ok(())
     }
 
-    /// Writes all of its sectors into the slot beside the one at `home`, where no store is newer, and makes it count there as the next
-    /// generation: a sync, its header, a sync. Answers where it stands. E16.
+    /// Writes all of its sectors into the slot beside the one at `home`, where no store is newer, and makes it count
+    /// there as the next generation: a sync, its header, a sync. Returns where it stands. E16.
     ///
-    /// What each image is meanwhile, and behind it, is told as by `um_slot::finish`.
+    /// The images meanwhile and afterwards are those of `um_slot::finish`.
     pub(crate) fn store<D: Disk>(
         self,
         disk: &mut D,

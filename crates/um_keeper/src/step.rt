@@ -49,8 +49,8 @@ fn complete<D: Disk>(disk: &mut D, ahead: &mut Ahead) -> Result<(), Refusal>
     Ok(())
 }
 
-/// Writes the next body sectors of the snapshot under way, so many or all that are left, and with the last of them makes it count. True
-/// where none is under way afterwards; there is no disk call where none was. It takes no memory. E16.
+/// Writes the next `count` body sectors of the snapshot under way, or all that are left, and with the last of them
+/// makes it count. True if none is under way afterwards; there is no disk call if none was. It takes no memory. E16.
 ///
 /// Records that weren't synced stay as they are: `complete` begins with a sync.
 pub(crate) fn advance<D: Disk>(
@@ -99,10 +99,12 @@ impl<D: Disk> Keeper<D> {
         self.ahead.aside.left() as u32
     }
 
-    /// Writes the next body sectors of the snapshot under way, so many or all that are left, and with the last of them a sync, its header, a
-    /// sync. True where none is under way afterwards; there is no disk call where none was, and nothing is written for 0. It takes no memory.
+    /// Writes the next `count` body sectors of the snapshot under way, or all that are left, and with the last of them
+    /// a sync, its header, a sync. True if none is under way afterwards; there is no disk call if none was, and nothing
+    /// is written for 0. It takes no memory.
     ///
-    /// Each image of each moment meanwhile is a store of the state. E17 where an earlier call answered E16; E16 where a disk call fails.
+    /// Each image of each moment meanwhile is a store of the state. E17 where an earlier call answered E16; E16 where a
+    /// disk call fails.
     pub fn step(&mut self, count: u32) -> Result<bool, Refusal>
         ensures during { has_failed self.old ≡ false → IsTrue (D.honest (disk_in self.old))
             → During (D.past (disk_in self.old)) (D.past (disk_in self.new)) (λ image. IsStoreOf (layout_in self.old) image (state_in self.old)) }

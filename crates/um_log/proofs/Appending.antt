@@ -1,4 +1,4 @@
--- A record that is being written is there whole or not at all, and behind it the log goes on.
+-- A record that is being written is there whole or not at all, and the log goes on after it.
 use Rattle.std.specs.Prelude.{◌≡◌, ◌⊎◌, ◌+◌, ◌-◌, ◌^◌, ◌<◌, ◌≤◌, ℕ, suc, List, [], ◌∷◌, ◌++◌, length, drop, slice_index_or}
 use Rattle.std.proofs.Common.{sym, ◌∙◌, ap, subst, inl, inr, ⊎_elim, arith, refl}
 use Rattle.std.proofs.lemmas.Bool.{cases_lt}
@@ -18,7 +18,7 @@ use Rattle.um_sector.proofs.RunLaws.{laid_maybe}
 use Rattle.um_log.specs.Appending.{record_run, EitherRecord, IsElsewhere}
 use Rattle.std.proofs.lemmas.List.FromFn.{length-map-range_with_len, get_or-map-range_with_len}
 
--- a record has so many sectors, each in its place
+-- the number of sectors of a record, each in its place
 pub record_count : (generation number : ℕ) (bytes : List ℕ) → length (record_run generation number bytes) ≡ part_count (length bytes)
 record_count generation number bytes = length-map-range_with_len (λ part. log_sector generation number part (length bytes) (part_of bytes part)) 0 (part_count (length bytes))
 
@@ -42,12 +42,12 @@ module _ (layout : Layout) (generation number next : ℕ) (bytes : List ℕ) (la
   each i below = record_each generation number bytes i (omega (arith, below, count))
 
   module _ (old : Image) (records : List (List ℕ)) (end : IsLogEnd layout generation old records number next) (are : HasRecords current layout generation old records) where
-    -- what is behind the run is as before
+    -- the sectors past the run are as before
     module _ (image : Image) (outside : (j : ℕ) → (j < next) ⊎ (next + length run ≤ j) → image j ≡ old j) where
       before_same : (j : ℕ) → log_start layout generation ≤ j → j < log_start layout generation + sectors_of records → image j ≡ old j
       before_same j low high = let place = end.place in outside j (inl (omega (arith, high, place)))
 
-      -- nothing of the generation stands behind it
+      -- nothing of the generation stands after it
       free_behind : IsFree layout generation image (next + size)
       free_behind theirs j low high is =
           end.free theirs j (omega (arith, low)) high (subst (IsOf theirs) (outside j (inr (omega (arith, low, count)))) is)
@@ -79,7 +79,7 @@ module _ (layout : Layout) (generation number next : ℕ) (bytes : List ℕ) (la
             let sector : image next ≡ log_sector generation number 0 (length bytes) (part_of bytes 0) = ap image here ∙ new ∙ each 0 (omega (arith, below)) in
             sym (record_size is) ∙ ap (λ (s : Sector). big_number 4 (drop 28 s)) sector ∙ log_size generation number 0 (length bytes) (part_of bytes 0) (omega (arith, short))
 
-    -- the reading then ends with the records before it, whatever stands behind it
+    -- the reading then ends with the records before it, whatever stands after it
     pub ends : (image other : Image) → MaybeLaid old next run image → (i : ℕ) → i < length run → image (next + i) ≡ old (next + i)
         → ((j : ℕ) → log_start layout generation ≤ j → j < next + size → other j ≡ image j) → HasRecords current layout generation other records
     ends image other maybe i below kept same =
@@ -98,7 +98,7 @@ module _ (layout : Layout) (generation number next : ℕ) (bytes : List ℕ) (la
         (with_more image maybe.outside [] (stops (torn image found.0 found.1 found.2 (maybe.inside 0 (omega (arith, count, some))))))))
         (all_or_one (length run) (λ i. image (next + i) ≡ slice_index_or run i []) (λ i. image (next + i) ≡ old (next + i)) (λ i below. ⊎_elim (λ o. inr o) (λ n. inl n) (maybe.inside i below)))
 
-    -- Afterwards it is there, and the log goes on behind it.
+    -- Afterwards it is there, and the log goes on after it.
     pub appended : (image : Image) → IsLaid old next run image → HasRecords current layout generation image (records ++ bytes ∷ [])
     appended image laid = whole image laid.outside laid.inside
 
@@ -131,7 +131,7 @@ module _ (layout : Layout) (generation number next : ℕ) (bytes : List ℕ) (la
 
   module _ (newest : ℕ) (counts : Counts current newest generation) (old : Image) (slot : Slot) (body : List ℕ) (records : List (List ℕ))
       (store : IsStore current layout old slot newest body records) (above : IsNoneAbove layout old generation) where
-    -- where the log has more behind its records, the store has
+    -- where the log has more after its records, the store has
     pub with_more_records : log_start layout generation ≤ next → (image : Image) → MaybeLaid old next run image → (x : List (List ℕ))
         → HasRecords current layout generation image (records_of current layout generation old ++ x) → IsStore current layout image slot newest body (records ++ x)
     with_more_records low image maybe x are =
@@ -167,7 +167,7 @@ module _ (layout : Layout) (generation number next : ℕ) (bytes : List ℕ) (la
       pub record_store : (image : Image) → IsLaid old next run image → IsStore current layout image slot newest body (records ++ bytes ∷ [])
       record_store image laid = with_more_records low image (laid_maybe old next run image laid) (bytes ∷ []) (appended old (records_of current layout generation old) end are image laid)
 
-      -- behind it the log goes on
+      -- after it the log goes on
       pub record_end : (image : Image) → IsLaid old next run image → IsLogEnd layout generation image (records_of current layout generation image) (number + 1) (next + size)
       record_end image laid =
           subst (λ (l : List (List ℕ)). IsLogEnd layout generation image l (number + 1) (next + size))
@@ -182,7 +182,7 @@ module _ (layout : Layout) (generation number next : ℕ) (bytes : List ℕ) (la
     during_record written = weaker past new _ _
         (λ image m. either_record newest ready.counts m.from slot body records (ready.store m.from m.was) (ready.above m.from m.was) (ready.end m.from m.was) image m.laid) written
 
-    -- and behind it
+    -- and after it
     pub goes_on_record : IsImage past (seen past) → IsLaid (seen past) next run (seen new) → IsSettled new → GoesOn layout new slot newest body (records ++ bytes ∷ []) generation (number + 1) (next + size)
     goes_on_record is laid settled =
         let store = ready.store (seen past) is in

@@ -1,4 +1,4 @@
--- Records behind others that weren't synced: each image has a beginning of them, and a sync makes them all stand.
+-- Records after others that weren't synced: each image has a beginning of them, and a sync makes them all stand.
 use Rattle.std.specs.Prelude.{◌≡◌, ◌+◌, ◌^◌, ◌<◌, ◌≤◌, ℕ, List, [], ◌∷◌, ◌++◌, length, take, slice_index_or, Result}
 use Rattle.std.proofs.Common.{sym, ◌∙◌, ap, subst, inl, inr, ⊎_elim, arith, append_assoc, refl}
 use Rattle.std.proofs.lemmas.List.{length-append, append-nil, take-append-le, take_all}
@@ -52,7 +52,7 @@ module _ (layout : Layout) (generation number next : ℕ) (bytes : List ℕ) (la
   logged image = records_of current layout generation image
 
   module _ (from image : Image) (maybe : MaybeLaid from next (record_run generation number bytes) image) where
-    -- where the reading of the log ends as before, whatever stands behind this record
+    -- where the reading of the log ends as before, whatever stands after this record
     stays : (low : log_start layout generation ≤ next) (has : HasSome layout slot newest body records more from) → has.count ≤ length more → IsNoneAbove layout from generation
         → EndsWith layout generation image (logged from) (next + size) → HasBegun layout slot newest body records longer generation (number + 1) (next + size) image
     stays low has few above reads =
@@ -88,7 +88,7 @@ module _ (layout : Layout) (generation number next : ℕ) (bytes : List ℕ) (la
             rest = inl (refl, record_end layout generation number next bytes last some short room newest counts from slot body (records ++ more) store above end image laid);
           }
 
-      -- the record is torn, and stays so whatever stands behind it
+      -- the record is torn, and stays so whatever stands after it
       torn : (i : ℕ) → i < length (record_run generation number bytes) → image (next + i) ≡ from (next + i)
           → HasBegun layout slot newest body records longer generation (number + 1) (next + size) image
       torn i below kept = stays (omega (arith, end.place)) (all_some more store) (omega arith) above
@@ -99,7 +99,7 @@ module _ (layout : Layout) (generation number next : ℕ) (bytes : List ℕ) (la
           (all_or_one (length (record_run generation number bytes)) (λ i. image (next + i) ≡ slice_index_or (record_run generation number bytes) i []) (λ i. image (next + i) ≡ from (next + i))
           (λ i below. ⊎_elim (λ o. inr o) (λ n. inl n) (maybe.inside i below)))
 
-    -- A record is written behind others that weren't synced: the image has a beginning of all of them.
+    -- A record is written after others that weren't synced: the image has a beginning of all of them.
     pub written_behind : log_start layout generation ≤ next → HasBegun layout slot newest body records more generation number next from
         → HasBegun layout slot newest body records longer generation (number + 1) (next + size) image
     written_behind low has = ⊎_elim
@@ -120,7 +120,7 @@ module _ (layout : Layout) (generation number next : ℕ) (bytes : List ℕ) (la
     pub written_some : During past new (HasSome layout slot newest body records longer)
     written_some = weaker past new _ _ (λ image has. has.some) begun
 
-    -- and behind it
+    -- and after it
     pub written_ahead : IsLaid (seen past) next (record_run generation number bytes) (seen new) → GoesOnAhead layout new slot newest body records longer generation (number + 1) (next + size)
     written_ahead laid = record {
       counts = counts;
@@ -140,7 +140,7 @@ module _ {layout : Layout} {past : Past} {slot : Slot} {newest : ℕ} {body : Li
   pub flush_some : {T E : Type 0} (result : Result T E) (new : Past) → Synced result past new → During past new (HasSome layout slot newest body records more)
   flush_some result new is = during_sync result past new _ is (all_some more ahead.store) (λ image at. (ahead.images image at).some)
 
-  -- and behind that they all stand
+  -- and after that they all stand
   pub flushed : (new : Past) → new ≡ after synced past → GoesOn layout new slot newest body (records ++ more) generation number next
   flushed new is = subst (λ (p : Past). GoesOn layout p slot newest body (records ++ more) generation number next) (sym is) (record {
     counts = ahead.counts;

@@ -16,7 +16,7 @@ one_place layout newest image here is = record {
   stands = is.stands;
 }
 
--- of format 2 the places of two generations, and what is behind both, are
+-- of format 2 the places of two generations, and the sectors past both, are
 module _ (layout : Layout) (newest : ℕ) (image : Image) (here later both all : ℕ) (is_here : IsGreatestIn Two layout newest image here) (is_later : IsGreatestIn Two layout (newest + 1) image later)
     (least : (here ≤ both) × (later ≤ both)) (either : (both ≡ here) ⊎ ((both ≡ later) × (here < later))) (least_all : both ≤ all)
     (most : (theirs j : ℕ) → first_log_sector layout + 2 * area_sectors Two layout ≤ j → j < store_sectors layout → IsOf theirs (image j) → theirs ≤ all)

@@ -1,4 +1,4 @@
--- Parts that stand one behind the other, one sector more.
+-- Consecutive parts, one sector more.
 use Rattle.std.specs.Prelude.{◌≡◌, ◌⊎◌, ◌↔◌, ◌+◌, ◌-◌, ◌^◌, ◌<◌, ◌≤◌, ℕ, zero, suc, Bool, false, List, [], ◌∷◌, Option, Some, None, length, IsTrue}
 use Rattle.std.proofs.Common.{sym, ◌∙◌, ap, subst, inl, inr, ⊎_elim, arith}
 use Rattle.std.proofs.lemmas.Bool.{cases_Bool, cases_lt, true≢false}
@@ -26,7 +26,7 @@ early_or_last : (i before here : ℕ) → i ≤ here → here ≡ suc before →
 early_or_last i before here low next = ⊎_elim (λ more. inr (omega (arith, low, next, more))) (λ few. inl few) (cases_lt before i)
 
 module _ (format : Format) (least : ℕ) (image : Image) (from next : ℕ) (low : from ≤ next) (sector : Sector) (is : sector ≡ image next) where
-  -- behind a sector that is no part none stand
+  -- after a sector that is no part none stand
   pub none_there : ReadsPart format least sector None → Follows format least image from (suc next) None
   none_there none generation number part size late possible s = none generation number part size late possible (subst (IsPart generation number part size) (sym is) (last_part s))
 
@@ -150,7 +150,7 @@ module _ (format : Format) (layout : Layout) (image : Image) (from last generati
         };
       }
 
--- ---- what a part that is last tells
+-- ---- the fields of a part that is last
 
 module _ (format : Format) (layout : Layout) (image : Image) (from last generation : ℕ) (g_fits : generation < 2 ^ 64) (inside : last < area_end format layout generation) where
   -- so it does in a later generation's that is the same
@@ -298,7 +298,7 @@ module _ (format : Format) (layout : Layout) (image : Image) (generation number 
 pub none_yet : (format : Format) (least : ℕ) (image : Image) (from : ℕ) → Follows format least image from from None
 none_yet format least image from generation number part size late possible s = omega (arith, s.low, s.end)
 
--- what is the same as the same
+-- equivalence is transitive
 pub both : {A B C : Type 0} → (A ↔ B) → (B ↔ C) → (A ↔ C)
 both one two = (λ a. two.0 (one.0 a), λ c. one.1 (two.1 c))
 
@@ -315,7 +315,7 @@ counts_more {Is = Is} {from = from} {end = end} is says one same so_far = ⊎_el
 
 -- ---- where the reading ends
 
--- no record stands behind those that count
+-- no record stands after those that count
 pub nothing_behind : (format : Format) (layout : Layout) (generation : ℕ) (image : Image) (records : List (List ℕ)) → HasRecords format layout generation image records
     → (number next : ℕ) → number ≡ length records → next ≡ area_start format layout generation + sectors_of records → (bytes : List ℕ) → ¬ IsRecord format layout generation image number next bytes
 nothing_behind format layout generation image records are number next count place = by 0 (area_start format layout generation) records are number next (omega (arith, count)) place

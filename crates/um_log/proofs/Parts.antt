@@ -12,9 +12,9 @@ use Rattle.um_laws.proofs.LogLaws.{length-part}
 use Rattle.um_log.specs.Following.{IsPossible}
 use Rattle.um_log.proofs.Scanning.{long_more, parts_more}
 
--- ---- what a sector of the log says
+-- ---- the fields of a sector of the log
 
--- the zeros behind a part's bytes
+-- the zeros after a part's bytes
 abbrev zeros_behind : List ℕ → List ℕ
 zeros_behind payload = replicate (512 - length (replicate 32 0 ++ payload)) 0
 
@@ -29,7 +29,7 @@ log_part : (generation number part size : ℕ) (payload : List ℕ) → part < 2
 unfolding log_sector filled
 log_part generation number part size payload fits = big_number-reads_back 4 part (big_bytes 4 (part_count size) ++ (big_bytes 4 size ++ (payload ++ zeros_behind payload))) fits
 
--- what a part says of itself
+-- the fields of a part
 pub record Says (sector : Sector) (generation number part size : ℕ) : Type 0 where
   pub generation_is : big_number 8 (drop 4 sector) ≡ generation
   pub number_is : big_number 8 (drop 12 sector) ≡ number
@@ -76,7 +76,7 @@ payload_of {generation = generation} {number = number} {part = part} {size = siz
 
 -- ---- the record that they are
 
--- so many bytes, of which these are the parts
+-- the first bytes of a record, as its parts have them
 record Made (generation number size at : ℕ) (image : Image) (n : ℕ) : Type 0 where
   bytes : List ℕ
   long : length bytes ≡ min (480 * n) size

@@ -13,7 +13,7 @@ use Rattle.um_laws.proofs.LogLaws.{record_size, part_bytes, sectors_push, placed
 use Rattle.um_log.specs.declared.read.Record.{Record}
 use Rattle.um_log.specs.Reading.{FitsIn, bytes_of, places_of}
 
--- what a test that two texts differ has told
+-- the result of a test that two texts differ
 pub differ : (xs ys : List ℕ) (r : Bool) → r ≡ not (pointwise nat_eq xs ys) → r ≡ true → xs ≢ ys
 differ xs ys r is told same = true≢false (sym told ∙ is ∙ ap not (sym (by_case (pointwise nat_eq xs ys) refl)))
   where
@@ -28,7 +28,7 @@ agree xs ys r is told = same_text xs ys (by_case (pointwise nat_eq xs ys) refl)
     by_case true e = e
     by_case false e = absurd (true≢false (ap not e ∙ sym is ∙ told))
 
--- a first sector that tells an impossible length begins no record
+-- a first sector that names an impossible length begins no record
 pub none_fits : (format : Format) (layout : Layout) (generation number at size : ℕ) (image : Image) → size ≡ big_number 4 (drop 28 (image at)) → (FitsIn format layout generation at size → ⊥) → (x : List ℕ) → IsRecord format layout generation image number at x → ⊥
 none_fits format layout generation number at size image told no_room x is =
     let long : length x ≡ size = sym (record_size is) ∙ sym told in
@@ -45,7 +45,7 @@ none_part format layout generation number at size part image sector payload told
     ∙ part_bytes whole part (min 480 (size - 480 * part)) low (ap (λ (n : ℕ). min 480 (n - 480 * part)) long) in
     differs (is ∙ whole.parts part low ∙ (λ i. log_sector generation number part (long i) (sym bytes i)))
 
--- so many bytes were read
+-- the number of bytes that were read
 pub long_more : (bytes payload more : List ℕ) (part size : ℕ) → part < part_count size → length bytes ≡ min (480 * part) size → length payload ≡ min 480 (size - 480 * part) → more ≡ bytes ++ payload
     → length more ≡ min (480 * (part + 1)) size
 long_more bytes payload more part size below long last grown = omega (arith, ap length grown, length-append bytes payload, long, last, below)
@@ -72,9 +72,9 @@ parts_more sector_of image at part size bytes payload more below long last grown
         ap (λ (l : List ℕ). part_of l i) grown ∙ ap (take 480) (drop-append-le (480 * i) bytes payload (omega (arith, full, less)))
         ∙ take-append-le 480 (drop (480 * i) bytes) payload (omega (arith, length-drop (480 * i) bytes, full, less))
 
--- ---- the records one behind the other
+-- ---- the records in order
 
--- no record begins behind the log
+-- no record begins past the log
 pub none_behind : (format : Format) (layout : Layout) (generation number at : ℕ) (image : Image) → area_end format layout generation ≤ at → AreRecords format layout generation image number at []
 none_behind format layout generation number at image high = stops (λ bytes is. let some = is.some in let within = is.within in omega (arith, some, within, high))
 
@@ -93,7 +93,7 @@ pub serves_all : (format : Format) (layout : Layout) (generation number at : ℕ
     → AreRecords format layout generation image number at [] → HasRecords format layout generation image all
 serves_all format layout generation number at image all serves nothing = subst (HasRecords format layout generation image) (append-nil all) (serves [] nothing)
 
--- what was read of records, with one more
+-- the records that were read, with one more
 pub records_grown : (before grown : List Record) (one : Record) → grown ≡ before ++ one ∷ []
     → (bytes_of grown ≡ bytes_of before ++ one.bytes.items ∷ []) × (places_of grown ≡ places_of before ++ (one.first, one.bytes.items) ∷ [])
 records_grown before grown one is = (

@@ -1,4 +1,4 @@
--- What the store is while records are written of which not all were synced.
+-- The store while records are written of which not all were synced.
 -- No manual page has it: it is the project's own format (docs/FORMATS.md, "The store on its disk").
 -- The writing of records and the keeper stand on this file.
 use Rattle.std.specs.Prelude.{◌≡◌, ◌⊎◌, ◌<◌, ◌≤◌, ℕ, List, ◌++◌, length, take}
@@ -18,8 +18,8 @@ pub record HasSome (layout : Layout) (slot : Slot) (newest : ℕ) (body : List �
   pub within : count ≤ length more
   pub store : IsStore current layout image slot newest body (records ++ take count more)
 
--- That store, of an image: it has all of them, and the log goes on behind them, or a record is torn, and ends the reading of the log's generation
--- whatever comes behind. No sector of the log is of a generation above that.
+-- That store, of an image: it has all of them, and the log goes on after them, or a record is torn, and ends the
+-- reading of the log's generation whatever follows; no sector of the log is of a generation above that.
 pub record HasBegun (layout : Layout) (slot : Slot) (newest : ℕ) (body : List ℕ) (records more : List (List ℕ)) (generation number next : ℕ)
     (image : Image) : Type 0 where
   pub some : HasSome layout slot newest body records more image
@@ -27,8 +27,8 @@ pub record HasBegun (layout : Layout) (slot : Slot) (newest : ℕ) (body : List 
   pub rest : ((some.count ≡ length more) × IsLogEnd layout generation image (records_of current layout generation image) number next)
       ⊎ ((some.count < length more) × EndsWith layout generation image (records_of current layout generation image) next)
 
--- The log goes on from there, behind records of which not all were synced: each image that a crash leaves has those that were, and a beginning
--- of the others, and a read gives all of them.
+-- The log goes on from there, after records of which not all were synced: each image that a crash leaves has the synced
+-- ones and a beginning of the others, and a read gives all of them.
 pub record GoesOnAhead (layout : Layout) (past : Past) (slot : Slot) (newest : ℕ) (body : List ℕ) (records more : List (List ℕ))
     (generation number next : ℕ) : Type 0 where
   pub counts : Counts current newest generation

@@ -1,4 +1,4 @@
--- What the store is while a record is written behind the others.
+-- The store while a record is written after the others.
 -- No manual page has it: it is the project's own format (docs/FORMATS.md, "The store on its disk").
 -- The writing of records and the keeper stand on this file.
 use Rattle.std.specs.Prelude.{◌≡◌, ◌⊎◌, ◌+◌, ◌<◌, ◌≤◌, ℕ, List, [], ◌∷◌, ◌++◌, length, map}
@@ -13,12 +13,12 @@ abbrev pub record_run : ℕ → ℕ → List ℕ → List Sector
 record_run generation number bytes =
     map (λ part. log_sector generation number part (length bytes) (part_of bytes part)) (range_with_len 0 (part_count (length bytes)))
 
--- the store as it was, or with this record behind the others
+-- the store as it was, or with this record after the others
 abbrev pub EitherRecord : Layout → Slot → ℕ → List ℕ → List (List ℕ) → List ℕ → Image → Type 0
 EitherRecord layout slot newest body records bytes image =
     IsStore current layout image slot newest body records ⊎ IsStore current layout image slot newest body (records ++ bytes ∷ [])
 
--- outside so many sectors from a place on, an image of before
+-- an image of before, except for `count` sectors from a place on
 pub record IsElsewhere (past : Past) (at count : ℕ) (image : Image) : Type 0 where
   pub from : Image
   pub was : IsImage past from

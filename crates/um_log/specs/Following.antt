@@ -1,4 +1,4 @@
--- What a part of a record says of itself, and which parts stand one behind the other.
+-- The fields of a part of a record, and which parts follow each other.
 -- No manual page has it: it is the project's own format.
 -- `Reader::remains` stands on this file.
 use Rattle.std.specs.Prelude.{◌≡◌, ◌⊎◌, ◌+◌, ◌^◌, ◌<◌, ◌≤◌, ℕ, suc, Option, Some, None}
@@ -23,7 +23,7 @@ ReadsPart format least sector None =
 ReadsPart format least sector (Some p) =
     (least ≤ p.generation) × IsPossible format p.generation p.number p.part p.size × IsPart p.generation p.number p.part p.size sector
 
--- the first parts of a record stand one behind the other directly before a sector, that one last, from sector `from` on or behind it
+-- the first parts of a record stand consecutively directly before a sector, that one last, not before sector `from`
 pub record Stand (image : Image) (from next generation number part size : ℕ) : Type 0 where
   pub at : ℕ
   pub low : from ≤ at
@@ -37,7 +37,7 @@ Follows format least image from next None =
 Follows format least image from next (Some p) =
     (least ≤ p.generation) × IsPossible format p.generation p.number p.part p.size × Stand image from next p.generation p.number p.part p.size
 
--- a part is the one behind another one of the same record
+-- a part directly follows another one of the same record
 pub record IsNextPart (before here : Part) : Type 0 where
   pub generation : here.generation ≡ before.generation
   pub number : here.number ≡ before.number
@@ -76,7 +76,7 @@ pub record AreParts (format : Format) (layout : Layout) (generation : ℕ) (imag
   pub below : stop ≤ next + part_count size
   pub parts : (i : ℕ) → next + i < stop → IsPart generation number i size (image (next + i))
 
--- where such parts end, as far as the sectors before one tell
+-- the end of such parts, as far as the sectors before one show
 pub record StopsBefore (format : Format) (layout : Layout) (generation : ℕ) (image : Image) (number next j stop : ℕ) : Type 0 where
   pub low : next ≤ stop
   pub high : stop ≤ j

@@ -1,4 +1,4 @@
--- What the reading of one record finds.
+-- The reading of one record.
 -- No manual page has it: it is the project's own format.
 -- um_log's functions stand on this file.
 use Rattle.std.specs.Prelude.{ℕ, ◌<◌, ◌≤◌, ◌+◌, List, [], map, Option, Some, None, Vec}
@@ -19,7 +19,7 @@ abbrev pub ReadsNext : Format → Layout → ℕ → Image → ℕ → ℕ → O
 ReadsNext format layout generation image number at None = AreRecords format layout generation image number at []
 ReadsNext format layout generation image number at (Some found) = IsRecord format layout generation image number at found.bytes.items
 
--- a record of so many bytes is possible from that sector of a generation's place in the log on
+-- a record of `size` bytes is possible from that sector of a generation's place in the log on
 pub record FitsIn (format : Format) (layout : Layout) (generation next size : ℕ) : Type 0 where
   pub some : 0 < size
   pub short : size ≤ longest format

@@ -1,4 +1,4 @@
--- Which whole records stand in the log and don't count, behind those that do, and with which sector the reading of these ends.
+-- The whole records that stand in the log after those that count, and the sector with which the reading of those ends.
 -- No manual page has it: it is the project's own format (docs/FORMATS.md, "The store on its disk").
 -- `Reader::remains`, the opening of a store and `inspect` stand on this file.
 use Rattle.std.specs.Prelude.{◌≡◌, ◌+◌, ◌^◌, ◌<◌, ◌≤◌, ℕ, suc, List, length}
@@ -7,7 +7,7 @@ use Rattle.um_model.specs.Store.{area_start, part_count, IsRecord, IsLogRead}
 use Rattle.um_model.specs.declared.layout.Format.{Format}
 use Rattle.um_model.specs.declared.layout.Layout.{Layout}
 
--- a whole record ends with that sector, and begins at sector `from` or behind it
+-- a whole record ends with that sector, and doesn't begin before sector `from`
 pub record Ends (format : Format) (layout : Layout) (image : Image) (from generation number last : ℕ) : Type 0 where
   pub at : ℕ
   pub low : from ≤ at
@@ -32,8 +32,8 @@ pub record EndsLater (format : Format) (layout : Layout) (image : Image) (from g
   pub number_fits : number < 2 ^ 64
   pub ends : Ends format layout image from later number last
 
--- Of the sectors from one on, before another, so many are of that kind. A sector ends one record at most, so of `EndsUncounted` and `EndsLater`
--- it is the count of the records.
+-- The number of sectors of that kind, from one sector on and before another: a sector ends one record at most, so of
+-- `EndsUncounted` and `EndsLater` it is the number of records.
 pub data Counts (Is : ℕ → Type 0) (from : ℕ) : ℕ → ℕ → Type 0 where
   starts : Counts Is from from 0
   counted : {end count : ℕ} → Counts Is from end count → Is end → Counts Is from (suc end) (suc count)

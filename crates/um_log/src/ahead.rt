@@ -1,3 +1,4 @@
+//! Writes records ahead of the sync that makes them durable.
 ghost use Rattle.std.specs.Prelude.{◌≡◌, ◌⊎◌, ◌↔◌, ◌+◌, ◌<◌, ◌≤◌, ℕ, true, false, List, [], ◌∷◌, ◌++◌, length, Ok, IfErr, OnOk, IsTrue};
 ghost use Rattle.um_log.specs.Ahead.{HasSome, GoesOnAhead};
 ghost use Rattle.um_log.specs.Appending.{IsElsewhere};
@@ -14,15 +15,16 @@ use um_sector::Disk;
 use um_wire::Refusal;
 
 impl Log {
-    /// Writes a record directly behind those of the generation, without a sync. Answers whether it fits: where it doesn't, nothing is
-    /// written.
+    /// Writes a record directly after those of the generation, without a sync. Returns whether it fits: if it doesn't,
+    /// nothing is written.
     ///
-    /// Where the log goes on here, behind records of which not all were synced, each image that a crash leaves meanwhile holds those
-    /// that were, and a beginning of the others with this one behind them: one that is torn ends the reading. Where it was written, the
-    /// log goes on behind it. No sector but those of the record is written.
+    /// The log goes on here, after records of which not all were synced. Each image that a crash leaves meanwhile holds
+    /// the synced ones and a beginning of the others with this one after them: a torn record ends the reading. Once it
+    /// is written, the log goes on after it. No sector but those of the record is written.
     ///
-    /// E16 where a disk call fails: it takes no memory. After it, and where the record doesn't fit, the log is as before, but after E16
-    /// its sectors may have been written. It makes at most as many disk calls as the record has parts, and none of them is a sync.
+    /// E16 where a disk call fails: it takes no memory. After it, and where the record doesn't fit, the log is as
+    /// before, but after E16 its sectors may have been written. It makes at most as many disk calls as the record has
+    /// parts, and none of them is a sync.
     pub fn write<D: Disk>(&mut self, disk: &mut D, bytes: &[u8]) -> Result<bool, Refusal>
         ensures during { IsTrue (D.honest disk.old) → (slot : Slot) (newest : ℕ) (body : List ℕ) (records more : List (List ℕ))
             → GoesOnAhead self.old.layout (D.past disk.old) slot newest body records more self.old.generation self.old.number self.old.next

@@ -1,3 +1,4 @@
+//! Follows the parts of a record from sector to sector.
 ghost use Rattle.std.specs.Prelude.{◌≡◌, ◌↔◌, ◌≤◌, ℕ, suc, IsTrue};
 ghost use Rattle.um_log.specs.Following.{ReadsPart, Follows, IsNextPart, IsSomeWith};
 ghost use Rattle.um_model.specs.Disk.{Image};
@@ -13,7 +14,8 @@ const NUMBER_AT: usize = 12;
 /// The byte of a sector of the log at which its part begins, in four bytes.
 const WHICH_AT: usize = 20;
 
-/// The part of a record that a sector is, just as it is written; None where it is none of this generation or a later one.
+/// The part of a record that a sector is, exactly as one is written; None if it is none of this generation or a later
+/// one.
 fn part_in(format: Format, least: u64, sector: &Sector) -> Option<Part>
     ensures { ReadsPart format least sector.now result }
 {
@@ -37,7 +39,7 @@ fn part_in(format: Format, least: u64, sector: &Sector) -> Option<Part>
     }
 }
 
-/// Whether a part is the one behind another one of the same record.
+/// Whether a part directly follows another one of the same record.
 fn goes_on(before: Option<Part>, here: Part) -> bool
     ensures { IsTrue result ↔ IsSomeWith (λ before. IsNextPart before here) before }
 {
@@ -53,7 +55,8 @@ fn goes_on(before: Option<Part>, here: Part) -> bool
     }
 }
 
-/// The last of the parts that stand one behind the other at the end of a sector, where it is this one at its start.
+/// The last of the consecutive parts that end with a sector, where this is the sector and `before` the one found at the
+/// sector before it.
 pub fn follow(format: Format, least: u64, before: Option<Part>, sector: &Sector) -> Option<Part>
     ensures { (image : Image) (from next : ℕ) → from ≤ next → sector.now ≡ image next → Follows format least image from next before
         → Follows format least image from (suc next) result }

@@ -1,3 +1,4 @@
+//! The greatest generation that stands in the log of a store.
 ghost use Rattle.std.specs.Prelude.{◌≡◌, ◌⊎◌, ◌+◌, ◌*◌, ◌<◌, ◌≤◌, ℕ, Ok, None, IfOk, IfErr, IfSome, IsTrue};
 ghost use Rattle.um_log.specs.Greatest.{IsTold, IsGreatestIn, IsGreatest};
 ghost use Rattle.um_model.specs.Disk.{seen};
@@ -30,8 +31,8 @@ pub fn greater(a: u64, b: u64) -> u64
     if a < b { b } else { a }
 }
 
-/// The greater of a generation and the greatest that a sector of the log behind both areas of format 2 tells: there is one where the log has
-/// an odd number of sectors.
+/// The greater of a generation and the greatest that a sector of the log past both areas of format 2 names. There is
+/// such a sector if the log has an odd number of sectors.
 fn greatest_behind<D: Disk>(disk: &mut D, layout: Layout, least: u64) -> Result<u64, Refusal>
     ensures least { IfOk result (λ greatest. least ≤ greatest) }
     ensures most { IfOk result (λ greatest. IsTrue (D.honest disk.old) → (theirs j : ℕ) → first_log_sector layout + 2 * area_sectors Format.Two layout ≤ j → j < store_sectors layout
@@ -52,9 +53,10 @@ fn greatest_behind<D: Disk>(disk: &mut D, layout: Layout, least: u64) -> Result<
     Ok(greater(least, told_generation(&sector)))
 }
 
-/// The greatest generation that stands on the disk of a store: the last that counts beside the newest snapshot, or the greatest that a sector
-/// of the log says of itself, whole or not. `here` is the greatest in the place of the snapshot's own generation, `behind` that in the place
-/// of the next one, where there is one. It reads the sector of the log that is in neither place, where there is one.
+/// The greatest generation that stands on the disk of a store: the last that counts beside the newest snapshot, or the
+/// greatest that a sector of the log says of itself, whole or not. `here` is the greatest in the place of the
+/// snapshot's own generation, `behind` that in the place of the next one, where there is one. It reads the sector of
+/// the log that is in neither place, where there is one.
 ///
 /// None where the last that counts is above 2^64 - 1. E16 where the read fails.
 pub fn greatest<D: Disk>(

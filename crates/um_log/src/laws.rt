@@ -1,4 +1,4 @@
-//! What the definitions of the log say together, as functions that do nothing.
+//! Laws of the definitions of the log, as functions that do nothing.
 ghost use Rattle.std.specs.Prelude.{◌≡◌, ℕ, List};
 ghost use Rattle.um_model.specs.Disk.{Image};
 ghost use Rattle.um_model.specs.declared.layout.Format.{Format};
@@ -16,7 +16,7 @@ pub fn unread_sectors_of_the_log_do_not_count()
         → HasRecords format layout generation a records → HasRecords format layout generation b records }
 {}
 
-/// What the function tells of an image are its records.
+/// The records that the function gives of an image are its records.
 pub fn records_are_told()
     ensures { (format : Format) (layout : Layout) (generation : ℕ) (image : Image) → HasRecords format layout generation image (records_of format layout generation image) }
 {}

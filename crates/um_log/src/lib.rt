@@ -1,5 +1,5 @@
-//! The log of a store: appends records behind those of its generation so that a crash leaves each one whole or absent, and
-//! reads them again up to the first that isn't whole.
+//! The log of a store: appends records after those of its generation so that a crash leaves each one whole or absent,
+//! and reads them again up to the first that isn't whole.
 #![tactic(auto)]
 
 mod ahead;

@@ -1,9 +1,10 @@
+//! One part of a record, as it stands in a sector.
 ghost use Rattle.std.specs.Prelude.{◌≡◌, ◌↔◌, ◌<◌, suc, IsTrue};
 ghost use Rattle.um_model.specs.Store.{part_count};
 
 use crate::sectors::PART_BYTES;
 
-/// What a part of a record says of itself.
+/// The fields of a part of a record.
 #[derive(Clone, Copy, Debug)]
 pub struct Part {
     pub generation: u64,

@@ -1,3 +1,4 @@
+//! Reads the records of a generation, up to the first that isn't whole.
 ghost use Rattle.std.specs.Prelude.{◌≡◌, ◌⊎◌, ◌↔◌, ◌+◌, ◌-◌, ◌^◌, ◌<◌, ◌≤◌, ℕ, min, length, Ok, None, IfOk, IfErr, IfSome, OnOk, OnErr, IsTrue};
 ghost use Rattle.um_model.specs.Disk.{seen};
 ghost use Rattle.um_model.specs.Store.{part_count, area_start, area_end, HasRecords, placed};
@@ -33,7 +34,7 @@ pub struct Reader {
     ghost high: { next ≤ area_end format layout generation },
 }
 
-/// Whether a record of so many bytes is possible from a sector of a generation's place in the log on.
+/// Whether a record of `size` bytes is possible from a sector of a generation's place in the log on.
 pub fn fits(format: Format, layout: Layout, generation: u64, next: usize, size: usize) -> bool
     requires { next ≤ area_end format layout generation }
     ensures { IsTrue result ↔ FitsIn format layout generation next size }
@@ -113,8 +114,8 @@ impl Reader {
         }
     }
 
-    /// Before the first record of the generation behind, whose records count too. None where these count alone: in format 1, and where there
-    /// is no generation behind.
+    /// A reader before the first record of the next generation, whose records count too. None where these count alone:
+    /// in format 1, and where there is no next generation.
     pub fn following(&self) -> Option<Reader>
         ensures some { IfSome result (λ next. (self.now.format ≡ Format.Two) × (next.format ≡ Format.Two) × (next.layout ≡ self.now.layout) × (next.generation ≡ self.now.generation + 1)) }
         ensures empty { IfSome result (λ next. (next.number ≡ 0) × (next.next ≡ area_start Format.Two self.now.layout (self.now.generation + 1))) }
@@ -131,10 +132,10 @@ impl Reader {
         }
     }
 
-    /// Reads the record that stands where the reading goes on, and goes on behind it; None where none is whole there.
+    /// Reads the record that stands where the reading goes on, and moves past it; None where none is whole there.
     ///
-    /// E15; E16 where a read fails. After each of them, and where there is none, the reader is as before. Each sector of the record is read
-    /// once, and none behind it.
+    /// E15; E16 where a read fails. After each of them, and where there is none, the reader is as before. Each sector
+    /// of the record is read once, and none past it.
     pub fn read_next<D: Disk>(
         &mut self,
         alloc: Global,

@@ -1,3 +1,4 @@
+//! Counts the records in the log that don't count, after those that do.
 ghost use Rattle.std.specs.Prelude.{◌≡◌, ◌⊎◌, ◌↔◌, ◌+◌, ◌-◌, ◌<◌, ◌≤◌, ℕ, suc, List, length, IfOk, IfErr, IsTrue};
 ghost use Rattle.um_log.specs.Following.{IsSomeWith, IsLastUncounted, IsLastLater, IsInPlace};
 ghost use Rattle.um_log.specs.Greatest.{IsGreatestIn};
@@ -13,17 +14,18 @@ use crate::read::{Reader, fits};
 use um_sector::{Disk, SECTOR_BYTES, Sector};
 use um_wire::Refusal;
 
-/// What stands in a generation's place in the log behind its records.
+/// The remains in a generation's place in the log, after its records.
 #[derive(Clone, Copy, Debug)]
 pub struct Remains {
-    /// The greatest generation that stands there: that of the records, or the greatest that a sector behind them says of itself, whole or
-    /// not.
+    /// The greatest generation that stands there: that of the records, or the greatest that a sector after them says of
+    /// itself, whole or not.
     pub greatest: u64,
     /// The sector with which the reading of the records ends: the first that isn't the next part in its place.
     pub stop: usize,
-    /// So many whole records of their generation, with the number of the next record or a greater one: they don't count.
+    /// The number of whole records of their generation with the number of the next record or a greater one: they don't
+    /// count.
     pub uncounted: usize,
-    /// So many whole records of later generations that have the same place.
+    /// The number of whole records of later generations that have the same place.
     pub later: usize,
 }
 
@@ -87,7 +89,8 @@ impl Reader {
         }
     }
 
-    /// Where the first parts of the next record end, with one sector more: behind it where they go on with it, or where they did.
+    /// The end of the first parts of the next record, one sector further on: past sector `j` if it continues them, or
+    /// else as it was.
     fn stop_behind(&self, stop: usize, j: usize, run: Option<Part>) -> usize
         requires low { self.now.next ≤ j }
         requires high { j < area_end self.now.format self.now.layout self.now.generation }
@@ -104,8 +107,8 @@ impl Reader {
         }
     }
 
-    /// What stands behind the records of the generation in its place, where the reader stands behind them. It reads each sector from there
-    /// on once.
+    /// The remains after the records of the generation, in its place, if the reader stands after them. It reads each
+    /// sector from there on once.
     ///
     /// E16 where a read fails.
     pub fn remains<D: Disk>(&self, disk: &mut D) -> Result<Remains, Refusal>

@@ -1,3 +1,4 @@
+//! The sectors of a record: their layout, and their writing.
 ghost use Rattle.std.specs.Prelude.{◌≡◌, ◌+◌, ◌-◌, ◌^◌, ◌≤◌, ◌<◌, min, length, take, drop, IsTrue, OnOk};
 ghost use Rattle.um_model.specs.Disk.{seen, During, IsSettled};
 ghost use Rattle.um_model.specs.Store as store;
@@ -20,10 +21,10 @@ pub const SIZE_AT: usize = 28;
 /// The byte of a sector of the log at which the bytes of its part begin.
 const PART_AT: usize = 32;
 
-/// A part of a record has at most so many bytes: the rest of its sector.
+/// The most bytes that a part of a record has: the rest of its sector.
 pub const PART_BYTES: u32 = 480;
 
-/// The sector of one part of a record of so many bytes.
+/// The sector of one part of a record of `size` bytes.
 pub fn log_sector(generation: u64, number: u64, part: u32, size: u32, payload: &[u8]) -> Sector
     requires { length payload.now ≤ 480 }
     ensures { result ≡ store.log_sector generation number part size payload.now }
@@ -39,7 +40,7 @@ pub fn log_sector(generation: u64, number: u64, part: u32, size: u32, payload: &
     fields.sector()
 }
 
-/// The bytes of a part, of whose record so many are left.
+/// The bytes of a part of a record, of which `left` are still to come.
 pub fn payload(sector: &Sector, left: u32) -> &[u8]
     ensures payload { result.now ≡ take (min 480 left) (drop 32 sector.now) }
     ensures long { length result.now ≡ min 480 left }
@@ -53,7 +54,7 @@ pub fn payload(sector: &Sector, left: u32) -> &[u8]
     }
 }
 
-/// Writes the sectors of a record one behind the other, from sector `at` on.
+/// Writes the sectors of a record in order, from sector `at` on.
 ///
 /// Each image that a crash leaves during it is one of before, with any of these sectors in their places.
 pub fn write_record<D: Disk>(
@@ -84,9 +85,10 @@ pub fn write_record<D: Disk>(
     Ok(())
 }
 
-/// Writes the sectors of a record one behind the other, from sector `at` on, and a sync behind them. It takes no memory.
+/// Writes the sectors of a record in order, from sector `at` on, and syncs after them. It takes no memory.
 ///
-/// Each image that a crash leaves during it is one of before, with any of these sectors in their places; after Ok they all stand there.
+/// Each image that a crash leaves during it is one of before, with any of these sectors in their places; after Ok they
+/// all stand there.
 pub fn write_record_synced<D: Disk>(
     disk: &mut D,
     at: usize,

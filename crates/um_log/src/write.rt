@@ -1,3 +1,4 @@
+//! Appends records to the log, each with its sync.
 ghost use Rattle.std.specs.Prelude.{◌≡◌, ◌⊎◌, ◌↔◌, ◌+◌, ◌<◌, ◌≤◌, ℕ, true, false, List, [], ◌∷◌, ◌++◌, length, Ok, IfErr, IsTrue};
 ghost use Rattle.um_model.specs.Disk.{seen, During, IsSettled};
 ghost use Rattle.um_log.specs.Appending.{IsElsewhere};
@@ -40,23 +41,25 @@ impl Log {
         }
     }
 
-    /// Whether a record of so many bytes fits: from 1 of them to the longest record, with all its sectors in the place of the generation.
+    /// Whether a record of `size` bytes fits: it has 1 byte at least, is no longer than the longest record, and has all
+    /// its sectors in the place of the generation.
     pub fn fits(&self, size: usize) -> bool
         ensures { IsTrue result ↔ Fits self.now.layout self.now.generation self.now.next size }
     {
         fits(CURRENT, self.layout, self.generation, self.next, size)
     }
 
-    /// Writes a record directly behind those of the generation, and syncs. Answers whether it fits: where it doesn't, nothing is
-    /// written.
+    /// Writes a record directly after those of the generation, and syncs. Returns whether it fits: if it doesn't,
+    /// nothing is written.
     ///
-    /// Where each image is that of a store whose log goes on here, each image that a crash leaves meanwhile is that of the store
-    /// with the records as they were, or with this one behind them; where it was written, each image is the latter, and the log
-    /// goes on behind it. No sector but those of the record is written, and the next record goes behind them: so a sector of the
-    /// log is written at most once a generation.
+    /// If each image is that of a store whose log goes on here, each image that a crash leaves meanwhile is that of the
+    /// store with the records as they were, or with this one after them. Once it is written, each image is the latter,
+    /// and the log goes on after it. No sector but those of the record is written, and the next record goes after them:
+    /// so a sector of the log is written at most once a generation.
     ///
-    /// E16 where a disk call fails: it takes no memory. After it, and where the record doesn't fit, the log is as before, but after E16 its
-    /// sectors may have been written. It makes at most one disk call more than the record has parts.
+    /// E16 where a disk call fails: it takes no memory. After it, and where the record doesn't fit, the log is as
+    /// before, but after E16 its sectors may have been written. It makes at most one disk call more than the record has
+    /// parts.
     pub fn append<D: Disk>(&mut self, disk: &mut D, bytes: &[u8]) -> Result<bool, Refusal>
         ensures during { IsTrue (D.honest disk.old) → (slot : Slot) (newest : ℕ) (body : List ℕ) (records : List (List ℕ))
             → GoesOn self.old.layout (D.past disk.old) slot newest body records self.old.generation self.old.number self.old.next

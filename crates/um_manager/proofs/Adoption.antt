@@ -1,4 +1,4 @@
--- What the parts of adoption come to together.
+-- The parts of adoption, taken together.
 use Rattle.std.proofs.Common.{◌≡◌, ◌||◌, ◌⊎◌, inl, inr, ℕ, zero, suc, List, [], ◌∷◌, ◌++◌, length, map, replicate, Bool, true, false, true≢false, IsTrue, Result, Ok, Err, refl, sym, ap, subst, ◌∙◌, append_assoc, append-nil}
 use Rattle.std.proofs.lemmas.List.{map-append}
 use Rattle.um_engine.specs.OfStore.{is_of_store}
@@ -54,7 +54,7 @@ signalled_it units sub signal n a b is e = record { chosen = n ∷ []; are = cho
 pub signalled_not : (units : ByUnit UnitState) (sub : SubState) (signal : Signal) (n : ℕ) (a : List Call) → ¬ IsIn units sub n → Signalled units sub signal (n ∷ []) a a
 signalled_not units sub signal n a isnt = record { chosen = []; are = passed_over isnt none; past_is = sym (append-nil a) }
 
--- ---- what signals are in the history
+-- ---- signals in the history
 
 sent_orders : (signal : Signal) (ns : List ℕ) → orders (map (λ n. sent n signal) ns) ≡ signals signal ns
 sent_orders signal [] = refl
@@ -76,7 +76,7 @@ or_false : (a : Bool) → (a || false) ≡ a
 or_false true = refl
 or_false false = refl
 
--- a signal behind the others starts no process
+-- a signal after the others starts no process
 grew_signals : (units : ByUnit UnitState) (signal : Signal) (ns : List ℕ) (a b : List Call) (marks : List ℕ) → b ≡ a ++ map (λ n. sent n signal) ns → Grew units a b marks marks (signals signal ns)
 grew_signals units signal ns a b marks is = record {
   given = map (λ n. sent n signal) ns;
@@ -87,7 +87,7 @@ grew_signals units signal ns a b marks is = record {
   marks_are = λ few n live. sym (ap (λ l. has n marks || has n l) (sent_refusals signal ns) ∙ or_false (has n marks));
 }
 
--- marks of just the live numbers, and those beside them
+-- marks of exactly the live numbers, and those beside them
 marked_live : {units : ByUnit UnitState} {a b : List Call} {live marks marked : List ℕ} {actions : List Action} → ((n : ℕ) → has n marks ≡ has n live) → Grew units a b marks marked actions
     → Grew units a b live marked actions
 marked_live same grew = record {
@@ -101,7 +101,7 @@ marked_live same grew = record {
 
 -- ---- adoption
 
--- fates that were asked behind another call
+-- fates that were queried after another call
 pub heard_behind : (moment : ℕ) (claims : ℕ → Bool) (h k w v : Bool) (a b c : List Call) (ns : List ℕ) (x y : List Input) → (IsTrue h → IsTrue k) → (IsTrue w → IsTrue v)
     → (IsTrue h → IsTrue v → b ≡ a) → Heard lost moment claims k w b c ns x y → Heard lost moment claims h w a c ns x y
 heard_behind moment claims h k w v a b c ns x y same fewer is heard = record {
@@ -180,7 +180,7 @@ asks_none place size s t inputs answers (each are) fault = absurd (no_fault are 
 asks_none place size s t inputs answers (fell back) fault = ap all_asked back.are ∙ none_asked back.meant (length back.rest)
 asks_none place size s t inputs answers (reopen untrusted are same) fault = ap all_asked are ∙ none_again (length inputs) Reopen
 
--- where the store failed all but the live numbers were let go, the fates were asked, and nothing else
+-- if the store failed all but the live numbers were forgotten, the fates were queried, and nothing else
 pub unadopted_calls : (place : Place) (store : Result Unit Refusal) (moment : ℕ) (s t : State) (old heard new : List Call) (live marks marked : List ℕ) (d e : Past) (p q : LogEnd) (inputs : List Input)
     (replies : List Reply) (h k w v m : Bool) → AreLive s.units live → Heard lost moment (λ n. true) h m (old ++ ForgotOthers live s.next ∷ []) heard live [] inputs
     → Submits place store inputs replies k v (now s heard marks [] d p) (now t new marked [] e q) → store ≡ Err Device

@@ -8,6 +8,6 @@ pushed : (ts : List Session) (t : Session) → IsNew t → AllByRecursion IsNew 
 pushed [] t new all = (new, all)
 pushed (u ∷ us) t new all = (all.0, pushed us t new all.1)
 
--- one more behind new ones
+-- one more after new ones
 pub one_more : (ts us : List Session) (t : Session) → us ≡ ts ++ t ∷ [] → IsNew t → AllByRecursion IsNew ts → AllByRecursion IsNew us
 one_more ts us t is new all = subst (AllByRecursion IsNew) (sym is) (pushed ts t new all)

@@ -1,4 +1,4 @@
--- What the parts of an opening come to together.
+-- The parts of an opening, taken together.
 use Rattle.std.proofs.Common.{◌≡◌, ◌⊎◌, ◌≤◌, arith, inl, inr, ◌∙◌, ◌++◌, ℕ, zero, suc, List, [], ◌∷◌, length, map, take, Bool, true, false, if◌then◌else◌, Result, Ok, Err, append-nil, refl, sym, ap, subst}
 use Rattle.std.specs.Bool.{IsTrue}
 use Rattle.std.specs.Prelude.{IfErr}
@@ -25,12 +25,12 @@ use Rattle.um_manager.specs.Opening.{adoptions, boot_at, Began, Refuses, unboote
 use Rattle.um_manager.specs.Places.{Place, LogEnd, place, is_trusted}
 use Rattle.um_manager.specs.Turns.{Now, now}
 
--- what holds of each refusal
+-- a fact of each refusal
 pub if_err_all : {T E : Type 0} (result : Result T E) (P : E → Type 0) → ((e : E) → P e) → IfErr result P
 if_err_all (Ok x) P f = tt
 if_err_all (Err e) P f = f e
 
--- what holds of the refusal that is handed on
+-- a fact of the refusal that is handed on
 pub if_err_same : {T E : Type 0} (result : Result T E) (P : E → Type 0) (e : E) → IsErrAnd result (λ y. y ≡ e) → P e → IfErr result P
 if_err_same result P e is p = let (y, err, same) = err_from_is_err_and result is in subst (λ r. IfErr r P) (sym err) (subst P (sym same) p)
 
@@ -42,7 +42,7 @@ refuses_boot h w result place moment boot s t past d e p q same left =
     if_err_all result (λ x. (marks : List ℕ) × Refuses place h w x moment boot (now s past [] [] d p) (now t past marks [] e q))
     (λ x. ([], unbooted same refl left))
 
--- ---- a beginning of the boot and what follows
+-- ---- a beginning of the boot and the inputs that follow
 
 first_taken : (size : ℕ) (s t : State) (i : Input) (xs : List Input) (count : ℕ) → Run size s (take count (i ∷ [])) t → (n : ℕ) × Run size s (take n (i ∷ xs)) t
 first_taken size s t i xs zero run = (0, run)
@@ -58,7 +58,7 @@ begun_then : (layout : Layout) (s t : State) (i : Input) (reply : Reply) (action
     → IsBegun layout t xs image → IsBegun layout s (i ∷ xs) image
 begun_then layout s t i reply actions xs image step b = record { count = suc b.count; state = b.state; run = goes reply actions step b.run; store = b.store }
 
--- what a crash leaves of the boot and of what follows
+-- the images that a crash leaves of the boot and the inputs that follow
 pub boot_then : (place : Place) (s t : State) (i : Input) (reply : Reply) (xs : List Input) (d e f : Past) → place.size ≡ body_limit place.layout → Step place.size s i reply [] t
     → During d e (IsBegun place.layout s (i ∷ [])) → During e f (IsBegun place.layout t xs) → During d f (IsBegun place.layout s (i ∷ xs))
 boot_then place s t i reply xs d e f on step first more =
@@ -111,7 +111,7 @@ asks_alone {moment = moment} {boot = boot} {a = a} on began honest whole = recor
   past_is = began.adopted.called honest whole ∙ ap (λ l. l ++ (ForgotOthers began.adopted.live began.mid.state.next ∷ map asks_for began.adopted.told)) began.asked_none;
 }
 
--- what a crash leaves of an opening that is refused once the store is taken up
+-- the images that a crash leaves of an opening that is refused once the store is taken up
 pub refused_left : (place : Place) (h w : Bool) (moment : ℕ) (boot : List ℕ) (sectors : ℕ) (first : Past) (a b : Now) (e : Refusal) → place.size ≡ body_limit place.layout → IsTrue place.trusted
     → IsFound sectors first place.layout a.state → During first a.disk (IsAsBefore place.layout first) → Refuses place h w e moment boot a b
     → During first b.disk (IsOfRefused place.layout moment boot sectors first h w a.past b.past)
@@ -126,7 +126,7 @@ refused_left place h w moment boot sectors first a b e on sure found before (una
     (λ honest whole. inr (asks_alone on began honest whole)) (taken_had inputs adopted.answers) before
     (boot_then place a.state mid.state (boot_at moment boot) began.reply some a.disk mid.disk b.disk on began.booted (began.left sure) (adopted.left sure))
 
--- it asked for fates alone, or nothing
+-- it queried fates alone, or nothing
 pub asked_alone : (place : Place) (h w honest : Bool) (moment : ℕ) (boot : List ℕ) (sectors : ℕ) (first : Past) (a b : Now) (e : Refusal) → place.size ≡ body_limit place.layout
     → (IsTrue honest → IsFound sectors first place.layout a.state) → Refuses place h w e moment boot a b → IsTrue h → IsTrue w
     → (b.past ≡ a.past) ⊎ IsSilent sectors first honest moment boot a.past b.past

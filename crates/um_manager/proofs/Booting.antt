@@ -1,4 +1,4 @@
--- What a boot does to the live processes, and that it asks for nothing.
+-- A boot's effect on the live processes; it has no actions.
 use Rattle.std.proofs.Common.{◌≡◌, ◌≢◌, ◌⊎◌, ◌↔◌, ◌+◌, ◌≤◌, ◌∙◌, ℕ, List, [], length, length-append, Bool, true, false, true≢false, None, unwrap_or, Result, Ok, Err, refl, sym, ap, subst, inl, inr, arith}
 use Rattle.um_engine.specs.OfStore.{is_of_store}
 use Rattle.um_sector.specs.Refused.{IsLost}
@@ -62,7 +62,7 @@ stepped size s t input reply actions (crowded_out takes heavy) = crowded size s 
 stepped size s t input reply actions (idle effect) = known _ s _ effect
 stepped size s t input reply actions (taken takes light) = takes_boot _ s _ _ actions takes
 
--- a boot asks for nothing
+-- a boot has no actions
 pub asks_nothing : (size moment : ℕ) (boot : List ℕ) (s t : State) (reply : Reply) (actions : List Action) → Step size s (happens_at moment (Booted boot)) reply actions t → actions ≡ []
 asks_nothing size moment boot s t reply actions step = (stepped size s t (happens_at moment (Booted boot)) reply actions step).0
 
@@ -108,7 +108,7 @@ is_answered size moment boot s t r actions step = isnt_done (done size s t (happ
     isnt_done : Refusal r ≡ Done → ⊥
     isnt_done e = cc
 
--- so what refuses a boot of a store that didn't fail before is want of memory, the disk, or that it has no room
+-- so a boot of a store that didn't fail before is refused for want of memory, by the disk, or because it has no room
 pub boot_refused : {T : Type 0} {r : Result T declared.Refusal} {failed : Bool} (size moment : ℕ) (boot : List ℕ) (s : State) (e : declared.Refusal) → r ≡ Err e → failed ≡ false
     → ((r ≡ Err Reopen) ↔ (failed ≡ true))
     → (IsLost e ⊎ (e ≡ Reopen) ⊎ (e ≡ GenerationsSpent) ⊎ ((is_of_store e ≡ false) × Step size s (happens_at moment (Booted boot)) (Refusal (refused_of e)) [] s))

@@ -1,4 +1,5 @@
--- What the answers of a store tell of a run over what was kept: the starts that they asked for and the commands that they did stand in it, in their order.
+-- The answers of a store in a run over the kept inputs: the starts that they want and the commands that they did stand
+-- in it, in their order.
 use Rattle.std.proofs.Common.{◌≡◌, ◌∙◌, ◌<◌, ◌≤◌, inl, inr, ℕ, zero, suc, List, [], ◌∷◌, ◌++◌, length, flat_map, Bool, true, false, Option, Some, None, Result, Ok, Err, slice_get, append_assoc, append-nil, refl, sym, ap, subst, arith}
 use Rattle.std.proofs.lemmas.Bool.{false≢true}
 use Rattle.std.proofs.lemmas.Option.{none-some}
@@ -100,7 +101,7 @@ new_tail a b x xs new = record {
   once = λ i j n e f. let same = new.once (suc i) (suc j) n e f in omega (arith, same);
 }
 
--- what stands in one list stands in the other
+-- numbers that stand in one list stand in the other
 stands_at : (xs ys : List ℕ) → StandIn xs ys → (i n : ℕ) → slice_get xs i ≡ Some n → (j : ℕ) × (slice_get ys j ≡ Some n)
 stands_at xs ys no_others i n e = absurd (none-some n e)
 stands_at xs ys (too {some = some} {all = all} rest) zero n e = (0, e)
@@ -130,16 +131,16 @@ new_among a b xs ys stand new = record {
   once = stands_once a b xs ys stand new;
 }
 
--- so what is started by starts among those of others is new where that is
+-- so a process started by starts among those of others is new if theirs are
 pub starts_new : (a b : ℕ) (xs ys : List Action) → StandIn (starts_in xs) (starts_in ys) → AreNew a b (started_numbers ys) → AreNew a b (started_numbers xs)
 starts_new a b xs ys stand new =
     new_among a b (started_numbers xs) (started_numbers ys)
     (subst (λ l. StandIn l (started_numbers ys)) (numbers_of_starts xs)
     (subst (λ l. StandIn (started_numbers (starts_in xs)) l) (numbers_of_starts ys) (numbers_stand (starts_in xs) (starts_in ys) stand))) new
 
--- ---- what came of offers
+-- ---- the outcomes of offers
 
--- what came of an input that its step refused
+-- the outcome of an input that its step refused
 own_outcome : (e : Refusal) → is_of_store e ≡ false → is_turned_away e ≡ false → outcome_of (Err e) ≡ lives.answered (machine.Refusal (refused_of e))
 own_outcome BadRequest of_step unturned = refl
 own_outcome (UnknownVerb verb) of_step unturned = refl
@@ -164,13 +165,13 @@ own_outcome GenerationsSpent of_step unturned = absurd (false≢true (sym of_ste
 own_outcome (NoSuchJob unit) of_step unturned = refl
 own_outcome OtherLayout of_step unturned = absurd (false≢true (sym of_step))
 
--- what came of one that was turned away
+-- the outcome of one that was turned away
 away_outcome : (e : Refusal) → is_turned_away e ≡ true → outcome_of (Err e) ≡ lives.turned_away
 away_outcome NoMemory is = refl
 away_outcome GenerationsSpent is = refl
 away_outcome other is = cc
 
--- Steps over offers, each answered or turned away: what they asked for, and what they did.
+-- Steps over offers, each answered or turned away: the actions that they want, and the commands that they did.
 pub data Came (size : ℕ) : State → List Offer → List Action → List Told → State → Type 0 where
   none_came : {s : State} → Came size s [] [] [] s
   did : {s t u : State} {offer : Offer} {offered : List Offer} {asked : List Action} {told : List Told} (reply : Reply) (actions : List Action)
@@ -210,7 +211,7 @@ answered_came size s t (input ∷ inputs) (Err e ∷ answers) (and_next (refused
 answered_came size s t (input ∷ inputs) (Err e ∷ answers) (and_next (turned_away is) rest) =
     passed (away_outcome e is) (answered_came size s t inputs answers rest)
 
--- ---- a run over what was kept
+-- ---- a run over the kept inputs
 
 was_answered : (offer : Offer) (offered : List Offer) (reply : Reply) → AreUnanswered (offer ∷ offered) → offer.outcome ≡ lives.answered reply → ⊥
 was_answered offer offered reply (turned more) is = cc
@@ -220,7 +221,7 @@ rest_unanswered : (offer : Offer) (offered : List Offer) → AreUnanswered (offe
 rest_unanswered offer offered (turned more) = more
 rest_unanswered offer offered (lost more) = more
 
--- a run over what was kept begins with the steps that were answered
+-- a run over the kept inputs begins with the steps that were answered
 pub record Begins (size : ℕ) (s : State) (asked : List Action) (told : List Told) (here : List Input) (t : State) : Type 0 where
   pub run : Run size s here t
   pub later : List Action
@@ -258,7 +259,7 @@ done_alike : (input : Input) (r q : Reply) → AlikeBut r q → where_done input
 done_alike input r q (the_same is) = ap (where_done input) is
 done_alike input r q (both_name one other) = refl
 
--- each run over the same inputs asks for the same, and does the same
+-- each run over the same inputs wants the same actions, and does the same
 pub same_run : (size : ℕ) (s z t u : State) (inputs : List Input) → s ≡ z → (run : Run size s inputs t) (other : Run size z inputs u)
     → (actions_in run ≡ actions_in other) × (done_in run ≡ done_in other)
 same_run size s z t u inputs same Run.rests Run.rests = (refl, refl)
@@ -269,7 +270,7 @@ same_run size s z t u (input ∷ inputs) same (goes {t = v} reply actions step r
       ap (λ l. l ++ done_in run) (done_alike input reply told one.reply) ∙ ap (λ l. where_done input told ++ l) done,
     )
 
--- one run behind another
+-- one run after another
 abbrev pub run_both : {size : ℕ} {s t u : State} {xs ys : List Input} → Run size s xs t → Run size t ys u → Run size s (xs ++ ys) u
 run_both Run.rests more = more
 run_both (goes reply actions step first) more = goes reply actions step (run_both first more)

@@ -1,4 +1,4 @@
--- What it comes to that actions are carried out one behind the other.
+-- Actions that are carried out in order, taken together.
 use Rattle.std.proofs.Common.{◌≡◌, ℕ, List, [], ◌∷◌, ◌++◌, Bool, true, false, ◌||◌, true≢false, refl, sym, ap, ◌∙◌, append_assoc, append-nil, length, arith}
 use Rattle.std.proofs.lemmas.List.Folds.{list_any-append}
 use Rattle.std.proofs.lemmas.List.Concat.{flat_map-append}
@@ -47,7 +47,7 @@ grew_refused units a b s starts k m e marked = record {
   marks_are = marked;
 }
 
--- where no order was given, no fate was asked and nothing was let go there was no call
+-- if no order was given, no fate was queried and no number was forgotten there was no call
 pub none_given : (calls : List Call) → orders calls ≡ [] → tales calls ≡ [] → list_any lets_any calls ≡ false → calls ≡ []
 none_given [] no_order no_tale kept = refl
 none_given (Spawned s is_taken starts ∷ calls) no_order no_tale kept = absurd (cons≢nil no_order)

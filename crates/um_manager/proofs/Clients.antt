@@ -1,4 +1,4 @@
--- What one client has of turns that follow each other.
+-- One client over turns that follow each other.
 use Rattle.std.proofs.Common.{◌≡◌, ◌≢◌, inl, inr, ◌∙◌, ◌+◌, ℕ, zero, suc, List, [], ◌∷◌, ◌++◌, map, take, drop, length, Bool, true, false, Option, Some, None, Result, Ok, Err, slice_get, append_assoc, append-nil, refl, sym, ap, subst, arith, true≢false}
 use Rattle.std.specs.List.{flat_map}
 use Rattle.std.proofs.lemmas.List.{length-append}
@@ -45,7 +45,7 @@ some_same {x = x} e = ap (or_else x) e
 
 -- ---- of all connections that of one
 
--- what is taken of the connection
+-- the bytes that are taken of the connection
 pub cuts_at : (ts : List Session) (ps : List Piece) (rs : List (Option (Result Request Refusal))) (us : List Session) (k : ℕ) (t : Session) → CutsAll ts ps rs us → slice_get ts k ≡ Some t
     → (p : Piece) × (r : Option (Result Request Refusal)) × (u : Session) × (slice_get ps k ≡ Some p) × (slice_get rs k ≡ Some r) × (slice_get us k ≡ Some u) × Cuts t p r u
 cuts_at [] ps rs us k x cuts is = absurd (none_some is)
@@ -59,7 +59,7 @@ cuts_at (t ∷ ts) (p ∷ ps) (r ∷ rs) [] k x cuts is = absurd cuts
 cuts_at (t ∷ ts) (p ∷ ps) (r ∷ rs) (u ∷ us) zero x cuts is = (p, r, u, refl, refl, refl, subst (λ y. Cuts y p r u) (some_same is) cuts.0)
 cuts_at (t ∷ ts) (p ∷ ps) (r ∷ rs) (u ∷ us) (suc k) x cuts is = cuts_at ts ps rs us k x cuts.1 is
 
--- what is paid, where the first reply at hand is the one at this place
+-- the reply that is paid, if the first reply at hand is the one at this place
 abbrev PaidAt : State → Due → List Reply → ℕ → Session → Session → Type 0
 PaidAt s owes.Nothing replies at t u = u ≡ t
 PaidAt s owes.Input replies at t u = (reply : Reply) × (slice_get replies at ≡ Some reply) × Puts t reply u
@@ -171,7 +171,7 @@ reads_failed (waits cause e) failed = (refl, ap (λ x. x.failed) e ∙ failed)
 reads_failed (takes working begins e) failed = absurd (true≢false (sym failed ∙ working))
 reads_failed (refuses working begins e) failed = absurd (true≢false (sym failed ∙ working))
 
--- bytes come, or none
+-- bytes arrive, or none
 record Fed (t : Session) (p : Piece) (fed : Session) : Type 0 where
   deed : Deed
   does : Does t deed fed
@@ -333,7 +333,7 @@ all_turned place h w [] a b run = subst (λ x. AllTurned place h w [] a x) (sym 
 all_turned place h w (step ∷ steps) a b (inl stops) = absurd (stops.0 refl)
 all_turned place h w (step ∷ steps) a b (inr (mid, turned, run)) = and_turn turned (all_turned place h w steps mid b run)
 
--- ---- a turn that is told that the connection closed
+-- ---- a turn that is informed that the connection closed
 
 empty_header : (h r : List ℕ) → h ++ r ≡ [] → length h ≡ 4 → ⊥
 empty_header [] r e four = omega (arith, four)
@@ -351,7 +351,7 @@ new_reads new (waits cause e) = (refl, e)
 new_reads {s} new (takes {bytes = bytes} {rest = rest} working begins e) = absurd (begins_not s.rest bytes rest new.0 begins)
 new_reads {s} new (refuses working begins e) = absurd (too_long_not s.rest new.0 begins)
 
--- the session is new behind it
+-- the session is new after it
 pub closed_turn : {place : Place} {h w : Bool} {result : Result Unit Refusal} {moment : ℕ} {pieces : List Piece} {a b : Now} (turned : Turned place h w result moment pieces a b) (k : ℕ) (t : Session)
     → slice_get a.sessions k ≡ Some t → slice_get pieces k ≡ Some Closed → (u : Session) × (slice_get b.sessions k ≡ Some u) × IsNew u
 closed_turn {moment = moment} {pieces} {a} {b} turned k t at closed =

@@ -51,7 +51,7 @@ nothing_asked place size s t inputs answers store e told tells is = elim (is_dev
   | inr other ↦ ap all_asked (tells.other e is other).0 ∙ none_again (length inputs) e
 ]
 
--- what a turn whose store refused asked of the children is no order
+-- a turn whose store refused gave the children no order
 silent_turn : {at : Place} {result : Result Unit Refusal} {moment : ℕ} {pieces : List Piece} {a b : Now} (turned : Turned at true true result moment pieces a b) (e : Refusal)
     → turned.store ≡ Err e → (more : List Call) × (orders more ≡ []) × (a.past ++ more ≡ b.past)
 silent_turn {at} {a = a} {b = b} turned e refused =
@@ -94,7 +94,7 @@ module _ (layout : Layout) {disk : Past} {before : List Call} where
       none true false turned refused sure known = absurd (false≢true known)
       none false whole turned refused sure known = absurd (false≢true sure)
 
-  -- a life goes on with a turn by what its store answers
+  -- a life goes on with a turn by the answer of its store
   pub turned_continues : {at : Place} (honest whole : Bool) (result : Result Unit Refusal) {moment : ℕ} {pieces : List Piece} {a b : Now} (past : History disk before a)
       (turned : Turned at honest whole result moment pieces a b) (store : Result Unit Refusal) → turned.store ≡ store → HasGoneOn layout past → at ≡ place_on layout
       → Continues layout past (turns past turned) (offers_told turned.store (offers_of_turn turned)) result
@@ -113,7 +113,7 @@ module _ (layout : Layout) {disk : Past} {before : List Call} where
       turned_continues honest whole result past turned turned.store refl gone is
   turn_continues past all (is_none want still out) gone is = goes_on gone (sym (append-nil (offers_in past)))
 
-  -- calls behind one that ended Ok
+  -- calls after one that ended Ok
   pub further : {a mid b : Now} (past : History disk before a) (so_far : History disk before mid) (all : History disk before b) (first more : List Offer) (result : Result Unit Refusal)
       → offers_in so_far ≡ offers_in past ++ first → Continues layout so_far all more result → Continues layout past all (first ++ more) result
   further past so_far all first more result are (goes_on gone is) =
@@ -132,7 +132,7 @@ module _ (layout : Layout) {disk : Past} {before : List Call} where
       (ap (λ r. offers_in past ++ offers_told r (offers_of_turn turned)) (sym answered))
       (turns_continue later result (turns past turned) all rest (gone, is, answered) is)
 
--- ---- how what was done goes on
+-- ---- how the history goes on
 
 none_taken_at : (k : ℕ) (ts us : List Session) → AllSame ts us → IsTaken (slice_get ts k) (slice_get us k)
 none_taken_at k [] [] same = tt
@@ -141,7 +141,7 @@ none_taken_at k (t ∷ ts) [] same = absurd same
 none_taken_at zero (t ∷ ts) (u ∷ us) same = inl same.0
 none_taken_at (suc k) (t ∷ ts) (u ∷ us) same = none_taken_at k ts us same.1
 
--- behind a turn that found no memory nothing is taken
+-- after a turn that found no memory nothing is taken
 pub none_taken : (a b : Now) → Untouched a b → TakesOut a b
 none_taken a b same = record { rest = untouched a b same; each = λ k low. none_taken_at k a.sessions b.sessions same.sessions }
 
@@ -186,14 +186,14 @@ script_history {at} {honest} {whole} steps {result} {a} {b} {old} {new} was is r
 
 -- ---- openings
 
--- what was just opened over a disk that does what it answers has gone on
+-- a history that was just opened over a disk that does what it answers has gone on
 pub just_gone : (layout : Layout) (honest whole : Bool) (moment : ℕ) (boot : List ℕ) (count sectors : ℕ) {disk : Past} {before : List Call} {b : Now} (past : History disk before b)
     → IsJustOpened (place_on layout) honest whole moment boot count sectors past → HasGoneOn layout past
 just_gone layout honest whole moment boot count sectors (opens sessions opened anew) is = is.0
 just_gone layout honest whole moment boot count sectors (turns past turned) is = absurd is
 just_gone layout honest whole moment boot count sectors (takes past out) is = absurd is
 
--- what an opening that is refused asked of the children is no order
+-- an opening that is refused gave the children no order
 refused_calls : (layout : Layout) {moment : ℕ} {boot : List ℕ} {sectors : ℕ} {disk left : Past} {past calls : List Call}
     → IsRefused layout true true moment boot sectors disk left past calls → (more : List Call) × (orders more ≡ []) × (past ++ more ≡ calls)
 refused_calls layout {past = past} (untaken none stays) = ([], refl, append-nil past ∙ sym none)
@@ -236,14 +236,14 @@ all_dropped [] (y ∷ ys) same = absurd (omega (arith, same))
 all_dropped (x ∷ xs) [] same = refl
 all_dropped (x ∷ xs) (y ∷ ys) same = all_dropped xs ys (omega (arith, same))
 
--- what a borrow of a whole list puts back
+-- a borrow of a whole list puts it back
 pub put_back : {X : Type 0} (n : ℕ) (xs ys : List X) → length xs ≡ n → length ys ≡ n → xs ≡ take n (xs ++ drop (length xs) ys)
 put_back n xs ys is was = sym
     (ap (λ l. take n (xs ++ l)) (all_dropped xs ys (was ∙ sym is)) ∙ ap (λ k. take k (xs ++ [])) (sym is) ∙ all_taken xs)
 
 -- ---- between two calls
 
--- behind the answer of its store a manager's disk has come to where it stands
+-- after the answer of its store a manager's disk has reached the place where it stands
 meanwhile_at : (layout : Layout) {disk : Past} {before : List Call} {b : Now} (past : History disk before b) → HasGoneOn layout past → IsMeanwhile (answered_at past) b.disk b.disk
 meanwhile_at layout (opens sessions opened anew) gone = record { calls = []; later = []; at_is = refl; new_is = refl }
 meanwhile_at layout (turns {at} past turned) gone =
@@ -268,7 +268,7 @@ pub taking_gone : (layout : Layout) {disk : Past} {before : List Call} {a b : No
     → HasGoneOn layout past → HasGoneOn layout all × (offers_in all ≡ offers_in past)
 taking_gone layout past all (is_taking out) gone = (gone, refl)
 
--- ---- what is put out is taken
+-- ---- output is taken
 
 same_taken : (t u : Option Session) → u ≡ t → IsTaken t u
 same_taken t u same = subst (λ x. IsTaken t x) (sym same) (by t)
@@ -282,7 +282,7 @@ is_taken None u out failed output = absurd output
 is_taken (Some t) None out failed output = absurd output
 is_taken (Some t) (Some u) out failed output = inr (out, output.0)
 
--- what was put out for one connection is taken, and the others stay
+-- the output of one connection is taken, and the others stay
 pub output_takes : (a b : Now) (k : ℕ) (out : List ℕ) (failed : Bool) → b ≡ record a { sessions = b.sessions } → IsOutput (slice_get a.sessions k) out failed (slice_get b.sessions k)
     → ((other : ℕ) → other ≢ k → slice_get b.sessions other ≡ slice_get a.sessions other) → TakesOut a b
 output_takes a b k out failed rest output others = record {
@@ -293,7 +293,7 @@ output_takes a b k out failed rest output others = record {
   ];
 }
 
--- what one session put out is taken of it in a list of them
+-- the output of one session is taken of it in a list of them
 pub output_at : (xs : List Session) (k : ℕ) (d new : Session) (out : List ℕ) (failed : Bool) → k < length xs → Does (get_or xs k d) (Take out) new → failed ≡ new.failed
     → IsOutput (slice_get xs k) out failed (slice_get (set xs k new) k)
 output_at [] k d new out failed low does is = absurd (omega (arith, low))

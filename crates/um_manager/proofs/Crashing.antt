@@ -1,4 +1,4 @@
--- What a crash leaves of turns that follow each other.
+-- The images that a crash leaves of turns that follow each other.
 use Rattle.std.proofs.Common.{◌≡◌, ℕ, List, [], ◌∷◌, length, map, Bool, Result, refl, ap, subst, arith}
 use Rattle.std.specs.Bool.{IsTrue}
 use Rattle.um_keeper.specs.Answering.{Answer, AreAnswered, taken}
@@ -21,7 +21,7 @@ use Rattle.um_manager.specs.Turns.{Now, Answers, Turned}
 use Rattle.um_manager.specs.declared.pieces.Piece.{Piece}
 use Rattle.um_manager.specs.declared.script.Step.{Step}
 
--- a life has come behind turns that ended
+-- the state that a life has reached after turns that ended
 turns_come : ArePartsOfLives → (place : Place) (h w : Bool) (steps : List Step) (a b : Now) (turns : AllTurned place h w steps a b) → place.size ≡ body_limit place.layout
     → HasCome place.layout a.state (all_offers turns) b.state
 turns_come offering place h w steps a b no_turn on = λ more image m. m

@@ -1,4 +1,5 @@
--- No more numbers are live than the marks have room for: a store holds at most so many units, of two live numbers each.
+-- No more numbers are live than the marks have room for: a store's units are limited in number, with two live numbers
+-- each.
 use Rattle.std.proofs.Common.{◌≡◌, ◌≢◌, ◌⊎◌, ◌+◌, ◌*◌, ◌≤◌, ◌<◌, ◌==◌, ℕ, List, [], ◌∷◌, ◌++◌, length, flat_map, AllPairs, Bool, true, false, not, ◌||◌, ◌&&◌, Option, Some, None, inl, inr, refl, sym, ap, subst, ◌∙◌, length-append, arith}
 use Rattle.std.proofs.lemmas.Bool.{eqb-true, eq-eqb, true≢false}
 use Rattle.std.proofs.lemmas.List.Kept.{AllPairs-cons}

@@ -1,4 +1,4 @@
--- What it comes to that connections are taken one behind the other.
+-- Connections that are taken in order, taken together.
 use Rattle.std.proofs.Common.{◌≡◌, ℕ, ◌+◌, List, [], ◌∷◌, ◌++◌, flat_map, map, Option, Result, ap, ◌∙◌, append_assoc, arith}
 use Rattle.um_model.specs.Machine.{Input}
 use Rattle.um_model.specs.Sessions.{Session}

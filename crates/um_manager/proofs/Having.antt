@@ -1,4 +1,4 @@
--- What was done with a manager, of one connection of it.
+-- The history of a manager, of one connection of it.
 use Rattle.std.proofs.Common.{◌≡◌, ◌≢◌, ◌<◌, ◌≤◌, ◌∙◌, inl, inr, ℕ, zero, suc, List, [], ◌∷◌, ◌++◌, length, Bool, Result, Option, Some, None, slice_get, append-nil, refl, sym, ap, subst, arith}
 use Rattle.std.specs.List.{AllByRecursion}
 use Rattle.um_model.specs.Children.{Call}
@@ -53,7 +53,7 @@ turned_had k {came = came} {taken = taken} {b = b} had turned None is =
     other : None ≡ Some Closed → ⊥
     other e = cc
 
--- what is taken of the connection's session
+-- the bytes that are taken of the connection's session
 taken_had : (k : ℕ) {came taken : List ℕ} {a b : Now} → HasHad k came taken a → (t : Session) → slice_get a.sessions k ≡ Some t → (x y : Option Session) → slice_get a.sessions k ≡ x
     → slice_get b.sessions k ≡ y → (is : IsTaken x y) → HasHad k came (taken ++ taken_now x y is) b
 taken_had k had t at None y was now is = absurd (none_some (sym was ∙ at))

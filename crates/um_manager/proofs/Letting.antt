@@ -1,4 +1,4 @@
--- What it comes to that numbers which aren't live are let go, one after another.
+-- The numbers that aren't live are forgotten, one after another.
 use Rattle.std.proofs.Common.{◌≡◌, ◌||◌, ◌+◌, ◌==◌, ℕ, List, [], ◌∷◌, ◌++◌, flat_map, length, length-append, Bool, true, false, true≢false, refl, sym, ap, ◌∙◌, append_assoc, append-nil, arith}
 use Rattle.std.proofs.lemmas.Bool.{eqb-true}
 use Rattle.std.proofs.lemmas.List.Concat.{flat_map-append}
@@ -54,6 +54,6 @@ nothing_of : {X : Type 0} (xs : List X) → length xs ≡ 0 → xs ≡ []
 nothing_of [] e = refl
 nothing_of (x ∷ xs) e = absurd (omega (arith, e))
 
--- where the history is as before nothing came
+-- if the history is as before nothing was added
 pub nothing_came : {X : Type 0} (xs ys : List X) → xs ≡ xs ++ ys → ys ≡ []
 nothing_came xs ys e = nothing_of ys (omega (arith, ap length e, length-append xs ys))

@@ -1,4 +1,4 @@
--- What a life of a manager comes to, by what its calls promise.
+-- A life of a manager, by the promises of its calls.
 use Rattle.std.proofs.Common.{◌≡◌, ◌∙◌, inl, inr, ◌≤◌, arith, length, ℕ, List, [], ◌∷◌, ◌++◌, map, Bool, true, Result, Ok, Err, append_assoc, append-nil, refl, sym, ap, subst, true≢false}
 use Rattle.std.specs.Bool.{IsTrue}
 use Rattle.std.specs.List.{AllByRecursion}
@@ -42,7 +42,7 @@ use Rattle.um_manager.specs.Places.{Place, place, place_on}
 use Rattle.um_manager.specs.Turns.{Now, Answers, each, fell, reopen, first_refusal, Turned, Untouched, IsMeanwhile}
 use Rattle.um_manager.specs.declared.pieces.Piece.{Piece}
 
--- ---- what is ordered
+-- ---- the orders
 
 pub orders_both : (a b : List Call) → orders (a ++ b) ≡ orders a ++ orders b
 orders_both a b = flat_map-append _ a b
@@ -63,7 +63,7 @@ signals_start_none : (signal : Signal) (numbers : List ℕ) → starts_in (signa
 signals_start_none signal [] = refl
 signals_start_none signal (n ∷ numbers) = signals_start_none signal numbers
 
--- what a call asks starts what it orders
+-- the calls made start the processes that are ordered
 called_start : (told : List Tale) (given : List Call) (actions : List Action) → orders given ≡ actions → starts_in (orders (map asks_for told ++ given)) ≡ starts_in actions
 called_start told given actions are =
     starts_of_both (map asks_for told) given ∙ ap (λ l. starts_in l ++ starts_in (orders given)) (orders_told told) ∙ ap starts_in are
@@ -74,7 +74,7 @@ since_then : (start : Image) (older later : List disks.Call) (t : ℕ) (image : 
 since_then start older [] t image there = there
 since_then start older (call ∷ later) t image there = inr (since_then start older later t image there)
 
--- what is so during the calls is so of each image at a moment of them
+-- a fact of the calls' duration holds of each image at a moment of them
 pub at_moment : (old new at : Past) (P : Image → Type 0) → During old new P → IsMeanwhile old new at → Images at P
 at_moment old new at P during while image there =
     during.each image
@@ -100,7 +100,7 @@ pub store_ok : (store later : Result Unit Refusal) → Ok tt ≡ first_refusal s
 store_ok (Ok tt) later is = refl
 store_ok (Err e) later is = cc
 
--- offers that aren't told
+-- offers whose answers aren't given
 untold_are : (inputs : List Input) (answers : List Answer) → all_untold (offers inputs answers) ≡ untold_offers inputs answers
 untold_are [] answers = refl
 untold_are (input ∷ inputs) [] = refl
@@ -108,8 +108,8 @@ untold_are (input ∷ inputs) (answer ∷ answers) = ap (λ l. record { input = 
 
 -- ---- a life so far
 
--- What a life so far comes to: of what state the store was that it found, that it has come from there to the manager's, that each image since its store
--- answered last is a store of that one, and what was asked for and done on the way.
+-- A life so far: the state of the store that it found, the way from there to the manager's state, and the actions
+-- wanted and commands done on it; each image since its store answered last is a store of the manager's state.
 record Stood (layout : Layout) (disk : Past) (before : List Call) (offered : List Offer) (told : ℕ → List Told) (answered : Past) (trusted : Type 0) (b : Now) : Type 0 where
   s : State
   found : StandsFor layout (seen disk) s
@@ -246,7 +246,8 @@ module _ (offering : ArePartsOfLives) (layout : Layout) where
       let (t, store) = stores (seen disk) read in
       subst (λ u. IsStoreOf layout (seen disk) u) (one_state layout (seen disk) t s store.stands stands) store
 
-  -- a run over what was kept of a life begins with what was done in it, and starts what was ordered
+  -- a run over the kept inputs of a life begins with the commands done in it, and starts the processes that were
+  -- ordered
   carried_on : (disk : Past) (before : List Call) (offered more : List Offer) (told : ℕ → List Told) (answered : Past) (trusted : Type 0) (b : Now)
       (stood : Stood layout disk before offered told answered trusted b) (here : List Input) (t : State) → RunsOver (body_limit layout) stood.s (offered ++ more) here t
       → (run : Run (body_limit layout) stood.s here t) × ((k : ℕ) → StandIn (told k) (done_in run))
@@ -267,7 +268,7 @@ module _ (offering : ArePartsOfLives) (layout : Layout) where
             (stand_front (starts_in stood.asked) (starts_in stood.asked) (starts_in first.later) (stand_all (starts_in stood.asked)))))),
       )
 
-  -- a stop behind an answer of the store
+  -- a stop after an answer of the store
   behind_leads : {disk : Past} {before : List Call} {b : Now} (past : History disk before b) (stop : Past) (calls : List Call) → IsByDisk layout (behind past) stop
       → MayLead layout (stopped (behind past) stop calls)
   behind_leads {disk} {before} {b} past stop calls by stores read image there = record {
@@ -342,7 +343,7 @@ module _ (offering : ArePartsOfLives) (layout : Layout) where
             (subst (λ l. StandIn l had) (sym (ap (λ l. starts_in (orders l)) are ∙ none_more life.before more empty)) so);
       }
 
-  -- what the disk held before
+  -- the image that the disk held before
   as_before : (disk : Past) (untold : List Offer) (image : Image) → AreUnanswered untold → HasStores layout disk → IsAsBefore layout disk image
       → (from : Image) × IsImage disk from × (s : State) × IsStoreOf layout from s × MayLeave layout s untold image
   as_before disk untold image untold_are_so stores so =
@@ -351,7 +352,7 @@ module _ (offering : ArePartsOfLives) (layout : Layout) where
       let held : IsStoreOf layout so.from so.state = subst (λ u. IsStoreOf layout so.from u) same store in
       (so.from, so.was, so.state, held, holds (so.now.store held) untold_are_so)
 
-  -- what an opening leaves: what its disk held before, or a beginning of what was offered
+  -- an opening leaves the store that its disk held before, or a beginning of its offers
   opening_comes : (disk : Past) (a : State) (untold : List Offer) (inputs : List Input) (image : Image) → StandsFor layout (seen disk) a → AreUnanswered untold
       → (IsBegun layout a inputs image → MayLeave layout a untold image) → HasStores layout disk → IsImage disk (seen disk) → IsOfOpening layout disk a inputs image
       → (from : Image) × IsImage disk from × (s : State) × IsStoreOf layout from s × MayLeave layout s untold image
@@ -364,7 +365,7 @@ module _ (offering : ArePartsOfLives) (layout : Layout) where
   leads_early life none silent image (from, there, s, store, leaves) =
       record { from = from; was = there; state = s; store = store; leaves = leaves; carries = nothing_more life s none silent }
 
-  -- the boot and what adoption was told, of which a beginning was taken
+  -- the boot and the fates reported to adoption, of which a beginning was taken
   boot_leaves : (a : State) (moment : ℕ) (boot : List ℕ) (inputs : List Input) (answers : List Answer) (image : Image) → NoReopen answers
       → IsBegun layout a (boot_at moment boot ∷ taken inputs answers) image → MayLeave layout a (boot_untold moment boot ∷ untold_offers inputs answers) image
   boot_leaves a moment boot inputs answers image stay begun =

@@ -1,4 +1,4 @@
--- What it comes to that a list of inputs is offered: answered one behind the other, or refused as a whole.
+-- A list of inputs that is offered: answered in order, or refused as a whole.
 use Rattle.std.proofs.Common.{◌≡◌, ◌≢◌, ◌⊎◌, ◌↔◌, inl, inr, ℕ, suc, List, [], ◌∷◌, ◌++◌, length, length-append, map, replicate, Bool, true, false, if◌then◌else◌, IsTrue, Result, Ok, Err, refl, sym, ap, subst, ◌∙◌, true≢false, arith}
 use Rattle.std.proofs.lemmas.List.{length-map, length-replicate}
 use Rattle.std.specs.Prelude.{IfErr}
@@ -129,7 +129,7 @@ never_recorded : (size : ℕ) (s : State) (inputs : List Input) (e : declared.Re
 never_recorded size s [] e = all_recorded
 never_recorded size s (input ∷ inputs) e = without_record tt (never_recorded size s inputs e)
 
--- the log is of the same generation, behind as many calls
+-- the log is of the same generation, after as many calls
 abbrev pub IsQuiet : LogEnd → LogEnd → Type 0
 IsQuiet l m = (m.generation ≡ l.generation) × (m.calls ≡ l.calls)
 
@@ -259,7 +259,7 @@ pub answers_of : (place : Place) (s t : State) (inputs : List Input) (answers : 
 answers_of place s t inputs answers true taken back = fell (back refl)
 answers_of place s t inputs answers false taken back = each (taken refl)
 
--- the result tells whether one failed
+-- the result shows whether one failed
 record Reports (failed : Bool) (result : Result Unit declared.Refusal) : Type 0 where
   pub good : result ≡ Ok tt → failed ≡ false
   pub bad : (e : declared.Refusal) → result ≡ Err e → (e ≡ refusal.Device) × (failed ≡ true)

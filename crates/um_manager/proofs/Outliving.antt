@@ -1,4 +1,5 @@
--- Lives of managers that follow one another are one run over what was kept of them, in which stands what their clients were told and what was started.
+-- Lives of managers that follow one another are one run over their kept inputs, in which stand the reports to their
+-- clients and the processes started.
 use Rattle.std.proofs.Common.{◌≡◌, ◌∙◌, ◌≤◌, ℕ, List, [], ◌∷◌, ◌++◌, map, flat_map, append_assoc, append-nil, refl, sym, ap, subst}
 use Rattle.std.specs.List.{AllByRecursion, All}
 use Rattle.std.proofs.lemmas.List.Elements.{All-weaker}
@@ -35,14 +36,14 @@ use Rattle.um_manager.specs.Living.{ManagerLife, offers_of, told_of, IsByChildre
 abbrev pub HasStores : Layout → Past → Type 0
 HasStores layout disk = Images disk (λ image. (s : State) × IsStoreOf layout image s)
 
--- what stands in a run over what was kept of a life: what its clients were told, and what was started in it
+-- the facts that a run over a life's kept inputs carries: the reports to its clients, and the processes started in it
 pub record Carries (size : ℕ) (life : ManagerLife) (s : State) (here : List Input) (t : State) : Type 0 where
   pub run : Run size s here t
   pub told : (k : ℕ) → StandIn (told_of k life.way) (done_in run)
   pub starts : IsByChildren life.way life.calls → (before : List Action) → StandIn (starts_in (orders life.before)) before
       → StandIn (starts_in (orders life.calls)) (before ++ starts_in (actions_in run))
 
--- where an image that the stop of a life leaves comes from
+-- the source of an image that the stop of a life leaves
 pub record ComesFrom (layout : Layout) (life : ManagerLife) (image : Image) : Type 0 where
   pub from : Image
   pub was : IsImage life.disk from
@@ -51,7 +52,7 @@ pub record ComesFrom (layout : Layout) (life : ManagerLife) (image : Image) : Ty
   pub leaves : MayLeave layout state (offers_of life.way) image
   pub carries : (here : List Input) (t : State) → RunsOver (body_limit layout) state (offers_of life.way) here t → Carries (body_limit layout) life state here t
 
--- what a life comes to, where it is opened on stores, and a read gives one of them
+-- the facts of a life that is opened on stores, where a read gives one of them
 abbrev pub MayLead : Layout → ManagerLife → Type 0
 MayLead layout life =
     HasStores layout life.disk → IsImage life.disk (seen life.disk) → (image : Image) → IsImage life.stop image → ComesFrom layout life image
@@ -94,7 +95,7 @@ carry_more size life lives s t u here more first rest = record {
       (append_assoc before (starts_in (actions_in first.run)) (starts_in (actions_in rest.run)) ∙ ap (λ l. before ++ l) (sym both)) two;
 }
 
--- what all lives come to, of one image that the last stop leaves
+-- the facts of all lives, of one image that the last stop leaves
 record AllCome (layout : Layout) (disk : Past) (lives : List ManagerLife) (last : Image) : Type 0 where
   first : Image
   was : IsImage disk first
@@ -136,7 +137,7 @@ all_come layout disk (life ∷ lives) stop stores follow lead last there =
     let leads = lead.0 (λ image is. stores image (found.no_other image is)) found.read in
     one_more layout disk life lives last found leads (all_come layout life.stop lives stop (left_stores layout life leads) follow.1 lead.1 last there)
 
--- ---- what outlives all stops
+-- ---- the facts that outlive all stops
 
 in_order : (some all : List Input) → HasInOrder some all → StandIn some all
 in_order some all HasInOrder.no_others = StandIn.no_others
@@ -163,7 +164,7 @@ pub each_in_turn : {size : ℕ} {s t : State} {inputs : List Input} (run : Run s
 each_in_turn Run.rests = tt
 each_in_turn (goes reply actions step run) = (λ k d lt. in_turn _ (begun_next step k d lt), each_in_turn run)
 
--- what um_keeper's laws say of an image that is opened
+-- the facts of an image that is opened, by um_keeper's laws
 pub record Opens : Type 0 where
   pub stands : (count : ℕ) (layout : Layout) (image : Image) (slot : Slot) (generation : ℕ) (s : State) → IsTakenUp count image layout slot generation s → StandsFor layout image s
   pub spent : (count : ℕ) (layout : Layout) (image : Image) (s : State) (e : Refusal) → store_sectors layout ≤ count → StandsFor layout image s → IsUntaken count image e → e ≡ GenerationsSpent

@@ -36,7 +36,7 @@ handed_back p q s u = cc
 pub ok_no_device : {A : Type 0} {x : A} → Ok x ≡ Err Device → ⊥
 ok_no_device p = cc
 
--- a store has failed behind two calls where it had, or where the second answers E16
+-- a store has failed after two calls if it had, or if the second answers E16
 pub failed_on : {A B : Type 0} {r : Result A Refusal} {t : Result B Refusal} {o m n : Bool} → m ≡ o → (t ≡ Err Device → r ≡ Err Device) → (r ≡ Err Device → t ≡ Err Device)
     → ((n ≡ true) ↔ ((m ≡ true) ⊎ (t ≡ Err Device))) → (n ≡ true) ↔ ((o ≡ true) ⊎ (r ≡ Err Device))
 failed_on still there back failed = (

@@ -1,4 +1,4 @@
--- What was put out for a connection is, taken out or not, the frames of the replies of which the history tells.
+-- The output of a connection is, taken or not, the frames of the replies that the history names.
 use Rattle.std.proofs.Common.{◌≡◌, ◌<◌, ◌∙◌, inl, inr, ℕ, zero, suc, List, [], ◌∷◌, ◌++◌, map, flat_map, drop, length, Bool, Option, Some, None, Result, slice_get, append_assoc, append-nil, refl, sym, ap, subst, arith}
 use Rattle.std.proofs.lemmas.List.Concat.{flat_map-append}
 use Rattle.um_model.specs.Children.{Call}
@@ -55,7 +55,8 @@ frames_put : (command : List Input) (replies : List Reply) → flat_map frame_in
 frames_put command [] = refl
 frames_put command (reply ∷ replies) = ap (λ l. frame_in reply ++ l) (frames_put command replies)
 
--- a turn puts out these frames behind what is there, or behind nothing where it was told that the connection closed
+-- a turn puts out these frames after the output that is there, or after none if it was informed that the connection
+-- closed
 pub turned_out : {place : Place} {honest whole : Bool} {result : Result Unit Refusal} {moment : ℕ} {pieces : List Piece} {a b : Now} (turned : Turned place honest whole result moment pieces a b)
     (k : ℕ) (t : Session) → slice_get a.sessions k ≡ Some t
     → (u : Session) × (slice_get b.sessions k ≡ Some u) × (u.output ≡ since_closed (slice_get pieces k) t.output ++ frames_of (put_out_in k turned))
@@ -103,7 +104,7 @@ out_of k low (takes {a = a} {b = b} past out) =
     let (t, t_at, are) = out_of k low past in
     taken_out (taken_of k low past) (frames_of (put_out_of k past)) t (slice_get a.sessions k) (slice_get b.sessions k) (out.each k low) t_at are
 
--- ---- what it was told
+-- ---- the reports to it
 
 told_more : (told earlier : List Told) (puts here : List PutOut) → told ≡ earlier ++ flat_map told_by puts → told ++ flat_map told_by here ≡ earlier ++ flat_map told_by (puts ++ here)
 told_more told earlier puts here is =

@@ -1,4 +1,4 @@
--- What a turn writes behind the answer of its store.
+-- The writes of a turn after the answer of its store.
 use Rattle.std.specs.Prelude.{IfErr, OnOk, min}
 use Rattle.std.proofs.Common.{◌≡◌, ◌≢◌, ◌⊎◌, ◌↔◌, ◌∙◌, ◌+◌, ◌≤◌, inl, inr, ℕ, List, [], ◌∷◌, ◌++◌, length, Bool, true, false, if◌then◌else◌, IsTrue, Result, Ok, Err, refl, sym, ap, subst, arith, true≢false}
 use Rattle.std.proofs.Math.Nat.{min-le_left}
@@ -23,9 +23,9 @@ use Rattle.um_manager.proofs.Placing.{same_failed}
 use Rattle.um_manager.specs.Places.{Place, LogEnd, is_trusted}
 use Rattle.um_manager.specs.Turns.{Now, MakesFewCalls, MakesFewerCalls, step_calls, with_step, WritesOn}
 
--- ---- a store of the state behind
+-- ---- a store of the state that follows
 
--- inputs that were answered lead to the state behind over those that were taken
+-- inputs that were answered lead to the state that follows, over those that were taken
 run_taken : (size : ℕ) (s t : State) (inputs : List Input) (answers : List Answer) → AreAnswered size s inputs answers t → Run size s (taken inputs answers) t
 run_taken size s t [] [] all_answered = rests
 run_taken size s t [] (answer ∷ answers) are = elim are [ ]
@@ -38,7 +38,7 @@ run_taken size s t (input ∷ inputs) (Err e ∷ answers) (and_next (refused of_
 run_taken size s t (input ∷ inputs) (Err e ∷ answers) (and_next (turned_away is) more) =
     subst (λ (b : Bool). Run size s ((if b then [] else (input ∷ [])) ++ taken inputs answers) t) (sym is) (run_taken size s t inputs answers more)
 
--- so it is one of a beginning of what was taken
+-- so it is one of a beginning of the inputs that were taken
 pub all_begun : (layout : Layout) (size : ℕ) (s t : State) (inputs : List Input) (answers : List Answer) (image : Image) → size ≡ body_limit layout
     → AreAnswered size s inputs answers t → IsStoreOf layout image t → IsBegun layout s (taken inputs answers) image
 all_begun layout size s t inputs answers image on are store = record {
@@ -51,7 +51,7 @@ all_begun layout size s t inputs answers image on are store = record {
 
 -- ---- on to the end
 
--- what is so up to the answer of the store, and of each store of the state behind it, is so up to the end
+-- a fact up to the answer of the store, which also holds of each store of the state that follows, holds up to the end
 pub and_behind : (place at : Place) (store result : Result Unit declared.Refusal) (a b : Now) → WritesOn at store result a b → at.layout ≡ place.layout
     → (store ≡ Ok tt → IsTrue at.trusted) → (disk : Past) (P : Image → Type 0) → (store ≡ Ok tt → (image : Image) → IsStoreOf place.layout image a.state → P image)
     → During disk a.disk P → During disk b.disk P
@@ -67,7 +67,7 @@ more_calls before mid now sectors snapshots few more = omega (arith, few, more)
 two_calls : (before mid now sectors : ℕ) → mid ≤ before + sectors + 2 → now ≤ mid + step_calls → now ≤ before + step_calls + sectors + 2
 two_calls before mid now sectors few more = omega (arith, few, more)
 
--- few calls, and those behind them
+-- few calls, and those after them
 pub few_behind : (place at : Place) (store result : Result Unit declared.Refusal) (s t : State) (inputs : List Input) (answers : List Answer) (old : LogEnd) (a b : Now)
     → WritesOn at store result a b → MakesFewCalls place s inputs answers t old a.log → MakesFewCalls place s inputs answers t (with_step old) b.log
 few_behind place at store result s t inputs answers old a b writes few = record {
@@ -89,9 +89,9 @@ fewer_behind place at store result s t inputs answers old a b writes fewer none_
       few = two_calls old.calls a.log.calls b.log.calls first.sectors first.few writes.calls;
     }
 
--- ---- what the whole answers
+-- ---- the answer of the whole
 
--- the frame of a store's call and of what is written behind it
+-- the frame of a store's call and of the writes after it
 pub store_kept : {D : Type 0} {g : disk.Ghosts D} (d : disk.Ghosts D) (store result : Result Unit declared.Refusal) (old mid new : Keeper D g) → KeepsStore d store old mid
     → OnOk store (KeepsStore d result mid new) → IfErr store (λ e. result ≡ Err e) → IfErr store (λ e. new ≡ mid) → KeepsStore d result old new
 store_kept d (Ok tt) result old mid new first later so still = record {
@@ -140,7 +140,7 @@ reopens (Ok tt) (Err e) failed exactly later still = (
 )
 reopens (Err e) result failed exactly later still = subst (λ r. (r ≡ Err Reopen) ↔ (failed ≡ true)) (sym still) exactly
 
--- what isn't refused for want of memory isn't behind it
+-- a result that isn't a refusal for want of memory isn't one after it
 pub not_want : (store result : Result Unit declared.Refusal) → store ≢ Err NoMemory → OnOk store (IfErr result (λ e. e ≡ Device)) → IfErr store (λ e. result ≡ Err e)
     → result ≢ Err NoMemory
 not_want (Ok tt) (Ok u) other later still is = not_both is
@@ -172,7 +172,7 @@ answered_works n (Err e) failed exactly = tt
 pub still_trusted : (honest sure failed now : Bool) → sure ≡ honest → now ≡ failed → IsTrue (is_trusted honest failed) → IsTrue (is_trusted sure now)
 still_trusted honest sure failed now same worked is = subst (λ f. IsTrue (is_trusted sure f)) (sym worked) (subst (λ h. IsTrue (is_trusted h failed)) (sym same) is)
 
--- what is told of a store that stays is as before
+-- the values of a store that stays are as before
 pub still_same : {K : Type 0} (store : Result Unit declared.Refusal) (f : K → ℕ) (mid new : K) → IfErr store (λ e. new ≡ mid) → IfErr store (λ e. f new ≡ f mid)
 still_same (Ok tt) f mid new still = tt
 still_same (Err e) f mid new still = ap f still
@@ -182,7 +182,7 @@ still_same (Err e) f mid new still = ap f still
 pub refusal_not_ok : {T E : Type 0} {x : T} {e : E} → Err e ≡ Ok x → ⊥
 refusal_not_ok p = cc
 
--- behind a store that works the only fault is the device's
+-- after a store that works the only fault is the device's
 pub only_device : {T : Type 0} {failed : Bool} (result : Result T declared.Refusal) (e : declared.Refusal) → result ≡ Err e → (e ≡ Device) ⊎ (e ≡ Reopen)
     → ((result ≡ Err Reopen) ↔ (failed ≡ true)) → failed ≡ false → e ≡ Device
 only_device result e is either exactly works =

@@ -1,4 +1,4 @@
--- What is taken up of an image is what it stands for.
+-- The state that is taken up of an image is the one it stands for.
 use Rattle.std.proofs.Common.{◌≡◌, ◌∙◌, ℕ, List, [], ◌∷◌, Some, refl}
 use Rattle.um_keeper.specs.Opening.{Replays, no_more, and_then, IsTakenUp}
 use Rattle.um_laws.proofs.ImageLaws.{newest_some}
@@ -20,7 +20,7 @@ replayed (and_then {records = records} {input = input} is leads more) =
     let (inputs, are, run) = replayed more in
     (input ∷ inputs, (λ k. is k >>= λ i. are k >>= λ more. Some (i ∷ more)), goes leads.reply leads.actions leads.step run)
 
--- what the newest slot and the records beside it hold
+-- the content of the newest slot and of the records beside it
 contents_told : (format : Format) (layout : Layout) (image : Image) {slot : Slot} {generation : ℕ} {body : List ℕ} {start s : State} {inputs : List Input}
     → sectors.newest_of layout image ≡ Some (record { slot = slot; generation = generation; body = body })
     → ComesTo (body_limit layout) body (all_records format layout generation image) start inputs s → contents_of format layout image ≡ Some (contents slot generation start inputs)

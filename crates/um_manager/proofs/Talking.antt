@@ -1,4 +1,4 @@
--- What a connection had since it was opened is served: each request is one of its own frames, and each reply is put out for it.
+-- A connection is served since it was opened: each request is one of its own frames, and each reply is put out for it.
 use Rattle.std.proofs.Common.{◌≡◌, ◌≢◌, ◌⊎◌, ◌∙◌, inl, inr, ℕ, List, [], ◌∷◌, ◌++◌, map, flat_map, Bool, true, false, Option, Some, None, Result, Ok, Err, slice_get, append_assoc, append-nil, refl, sym, ap, subst}
 use Rattle.std.proofs.lemmas.List.Concat.{flat_map-append}
 use Rattle.um_model.specs.Machine.{Reply}
@@ -12,7 +12,7 @@ use Rattle.um_manager.specs.Connections.{IsNew}
 use Rattle.um_manager.specs.Replies.{IsOutput}
 use Rattle.um_manager.specs.Turns.{Now}
 
--- what is known of a connection
+-- the facts known of a connection
 record Known (bytes taken : List ℕ) (exchanges : List Exchange) (t : Session) : Type 0 where
   first : Session
   is_new : IsNew first
@@ -27,7 +27,7 @@ record Known (bytes taken : List ℕ) (exchanges : List Exchange) (t : Session) 
 known_new : (t : Session) → IsNew t → Known [] [] [] t
 known_new t new = record { first = t; is_new = new; deeds = []; lives = Lives.rests; fed = refl; asked = []; reads = refl; given = tt; put = inl new.1 }
 
--- what a turn puts out, with what was taken before
+-- the output of a turn, with the bytes taken before
 put_with : (taken : List ℕ) (t u : Session) (replies : List Reply) → ArePut t.output replies u → ArePut (taken ++ t.output) replies (with_taken taken u)
 put_with taken t u replies (inl e) = inl (ap (λ l. taken ++ l) e ∙ sym (append_assoc taken t.output (flat_map frame_in replies)))
 put_with taken t u replies (inr (failed, most, last, is, e)) =

@@ -1,4 +1,4 @@
--- What a turn tells its clients of their commands is what the answers of its store did.
+-- A turn's reports to its clients that commands were done are the commands that the answers of its store did.
 use Rattle.std.proofs.Common.{◌≡◌, ◌⊎◌, ◌∙◌, ◌+◌, inl, inr, ℕ, zero, suc, List, [], ◌∷◌, ◌++◌, map, take, drop, length, flat_map, Bool, Option, Some, None, Result, Ok, Err, slice_get, append-nil, refl, sym, ap, subst, arith}
 use Rattle.std.proofs.lemmas.List.{length-append}
 use Rattle.um_keeper.specs.Answering.{Answer}
@@ -81,7 +81,7 @@ at_request moment (q ∷ requests) (suc k) r input at is =
     ∙ at_behind (inputs_asked moment q) (flat_map (inputs_asked moment) requests) (length (flat_map (inputs_asked moment) (take k requests)))
     ∙ at_request moment requests k r input at is
 
--- what the answer to one of the inputs did stands among what all did
+-- the command that the answer to one input did stands among those of all
 done_at : (inputs : List Input) (answers : List Answer) (i : ℕ) (input : Input) (answer : Answer) → slice_get inputs i ≡ Some input → slice_get answers i ≡ Some answer
     → StandIn (done_by input answer) (all_done inputs answers)
 done_at [] answers i input answer at told = absurd (none_some at)
@@ -101,7 +101,7 @@ done_is input (Err e) = refl
 abbrev puts : List Input → List Reply → List PutOut
 puts command replies = map (λ reply. record { command = command; reply = reply }) replies
 
--- those for none tell of none
+-- those for none report none
 no_told : (replies : List Reply) → flat_map told_by (puts [] replies) ≡ []
 no_told [] = refl
 no_told (reply ∷ replies) = no_told replies

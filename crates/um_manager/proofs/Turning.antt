@@ -1,4 +1,4 @@
--- What the parts of a turn come to together.
+-- The parts of a turn, taken together.
 use Rattle.std.specs.Prelude.{IfErr}
 use Rattle.std.proofs.Common.{◌≡◌, ◌⊎◌, ◌||◌, inl, inr, ℕ, List, [], ◌∷◌, ◌++◌, length, drop, map, flat_map, Bool, IsTrue, Option, Result, Ok, Err, cond, refl, sym, ap, subst, ◌∙◌, append_assoc, append-nil}
 use Rattle.um_keeper.specs.Answering.{all_asked, taken, AreSpentAsMeant}
@@ -37,7 +37,7 @@ pub all_same : (ts : List Session) → AllSame ts ts
 all_same [] = tt
 all_same (t ∷ ts) = ((refl, refl, refl), all_same ts)
 
--- room for a piece changes nothing of what it is behind
+-- room for a piece changes nothing of the state that follows it
 takes_roomy : (t r u : Session) (p : Piece) → Does t Room r → TakesPiece r p u → TakesPiece t p u
 takes_roomy t r u Nothing same takes = (takes.0 ∙ same.0, takes.1 ∙ same.1, takes.2 ∙ same.2)
 takes_roomy t r u (Bytes bytes) same takes = (takes.0 ∙ ap (λ b. cond b r.rest (r.rest ++ bytes.items)) same.2 ∙ ap (λ rest. cond t.failed rest (rest ++ bytes.items)) same.0, takes.1 ∙ same.1, takes.2 ∙ same.2)

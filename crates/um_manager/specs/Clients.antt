@@ -1,4 +1,4 @@
--- What one client has of a manager's turns: its own requests, each with its reply.
+-- One client over a manager's turns: its own requests, each with its reply.
 -- No manual page has this: it is the project's own protocol (docs/FORMATS.md, "Frames", "Replies").
 -- The laws of clients stand on this file.
 use Rattle.std.specs.Prelude.{◌≡◌, ◌≢◌, ◌⊎◌, ◌+◌, ℕ, List, [], ◌∷◌, ◌++◌, map, flat_map, take, length, Bool, true, Option, Some, None, Result, Ok, Err, slice_get, ⊤}
@@ -34,7 +34,8 @@ abbrev pub place_of : {place : Place} {honest whole : Bool} {result : Result Uni
     → Turned place honest whole result moment pieces a b → ℕ → ℕ
 place_of {moment = moment} turned k = length (firsts moment turned.told) + length (flat_map (inputs_asked moment) (take k turned.requests))
 
--- the reply to what was asked: the answer to just this input, a query's from the state after all inputs; the actions aren't told
+-- the reply to a request: the answer to exactly this input, a query's from the state after all inputs; the actions
+-- aren't listed
 abbrev pub IsReplyAsked : State → List Answer → ℕ → Asked → Reply → Type 0
 IsReplyAsked s answers at (asks.Event event) reply = (answer : Answer) × (slice_get answers at ≡ Some answer) × (reply ≡ reply_in answer)
 IsReplyAsked s answers at (asks.Query query) reply = TellsOf s (query_of query) reply
@@ -45,7 +46,7 @@ abbrev pub IsReplyOf : State → List Answer → ℕ → Result Request declared
 IsReplyOf s answers at (Ok request) reply = IsReplyAsked s answers at request.asked reply
 IsReplyOf s answers at (Err e) reply = reply ≡ Refusal (refused_of e)
 
--- what a turn took of a connection, with the reply: one request, or none
+-- the exchange of a turn with a connection: one request with its reply, or none
 abbrev pub IsExchange : State → List Answer → ℕ → Option (Option (Result Request declared.Refusal)) → List Exchange → Type 0
 IsExchange s answers at (Some (Some request)) here = (reply : Reply) × IsReplyOf s answers at request reply × (here ≡ (request, reply) ∷ [])
 IsExchange s answers at (Some None) here = here ≡ []
@@ -64,7 +65,7 @@ bytes_in (Some Nothing) = []
 bytes_in (Some Closed) = []
 bytes_in None = []
 
--- each request is what was read, or reading it found no memory
+-- each request is the one that was read, or reading it found no memory
 abbrev pub AreGiven : List (Result Request declared.Refusal) → List model.Asked → Type 0
 AreGiven [] [] = ⊤
 AreGiven (given ∷ more) (asked ∷ others) = Gives request_of given asked × AreGiven more others
@@ -74,7 +75,7 @@ AreGiven given asked = ⊥
 abbrev pub frame_in : Reply → List ℕ
 frame_in reply = frame_of (reply_text reply)
 
--- The frames of all replies are put out, one behind the other; only the last is wanting where the session failed for want of memory.
+-- The frames of all replies are put out, in order; only the last is missing if the session failed for want of memory.
 abbrev pub ArePut : List ℕ → List Reply → Session → Type 0
 ArePut before replies u = (u.output ≡ before ++ flat_map frame_in replies)
     ⊎ ((u.failed ≡ true) × (most : List Reply) × (last : Reply) × (replies ≡ most ++ last ∷ []) × (u.output ≡ before ++ flat_map frame_in most))
@@ -86,21 +87,22 @@ abbrev pub IsSameAt : Option Session → Option Session → Type 0
 IsSameAt (Some t) (Some u) = Does t Room u
 IsSameAt t u = ⊥
 
--- A connection since it was opened, over calls of a manager, whatever they answered: the bytes that came of it, and those that were taken out for it.
+-- A connection since it was opened, over calls of a manager, whatever they answered: the bytes that arrived on it, and
+-- those that were taken out for it.
 pub data HasHad (k : ℕ) : (bytes taken : List ℕ) → Now → Type 0 where
   -- the manager was opened
   opens : {a : Now} {t : Session} → slice_get a.sessions k ≡ Some t → IsNew t → HasHad k [] [] a
-  -- a turn was told that it closed: what was put out and not taken is given up, and another client may come
+  -- a turn was informed that it closed: its output that wasn't taken is given up, and another client may follow
   closes : {place : Place} {honest whole : Bool} {result : Result Unit declared.Refusal} {moment : ℕ} {pieces : List Piece} {bytes taken : List ℕ} {a b : Now}
       → HasHad k bytes taken a → Turned place honest whole result moment pieces a b → slice_get pieces k ≡ Some Closed → HasHad k [] [] b
-  -- a turn took what came of it
+  -- a turn took its piece
   turns : {place : Place} {honest whole : Bool} {result : Result Unit declared.Refusal} {moment : ℕ} {pieces : List Piece} {bytes taken : List ℕ} {a b : Now}
       → HasHad k bytes taken a → Turned place honest whole result moment pieces a b → slice_get pieces k ≢ Some Closed
       → HasHad k (bytes ++ bytes_in (slice_get pieces k)) taken b
-  -- what was put out for it was taken
+  -- its output was taken
   takes : {bytes taken : List ℕ} {a b : Now} (out : List ℕ) (failed : Bool) → HasHad k bytes taken a
       → IsOutput (slice_get a.sessions k) out failed (slice_get b.sessions k) → HasHad k bytes (taken ++ out) b
-  -- nothing was: a turn found no memory, or what was put out for another was taken
+  -- nothing changed: a turn found no memory, or the output of another was taken
   rests : {bytes taken : List ℕ} {a b : Now} → HasHad k bytes taken a → IsSameAt (slice_get a.sessions k) (slice_get b.sessions k) → HasHad k bytes taken b
 
 -- the requests that turns took of the connection since it was opened, in their order, each with its reply
@@ -117,8 +119,8 @@ AreHad (rests had same) all = AreHad had all
 abbrev pub with_taken : List ℕ → Session → Session
 with_taken taken t = record t { output = taken ++ t.output }
 
--- The requests taken of a connection are those of the frames of all its bytes, in their order; and what was put out for it, taken out or not, are the
--- frames of the replies to just these, one each, in their order. Only the last is wanting, where the session failed for want of memory.
+-- The requests taken of a connection are those of its bytes' frames, in order, and its output, taken or not, is the
+-- frames of one reply each, in order; only the last is missing, if the session failed for want of memory.
 pub record IsServed {k : ℕ} {bytes taken : List ℕ} {a : Now} (had : HasHad k bytes taken a) (t : Session) : Type 0 where
   pub exchanges : List Exchange
   pub are : AreHad had exchanges

@@ -1,4 +1,4 @@
--- What a turn takes of the connections, and what each is to be answered.
+-- The requests that a turn takes of the connections, and the replies that each is due.
 -- No manual page has this: it is the project's own protocol (docs/FORMATS.md, "Frames").
 -- The turn of the manager stands on this file.
 use Rattle.std.specs.Prelude.{◌≡◌, ◌≤◌, ℕ, List, [], ◌∷◌, ◌++◌, flat_map, map, length, false, Option, Some, None, Result, Ok, Err, ⊤}
@@ -19,7 +19,7 @@ use Rattle.um_manager.specs.declared.pieces.Piece.TheVariants.{Nothing, Bytes, C
 use Rattle.um_manager.specs.declared.taking.Due.{Due}
 use Rattle.um_manager.specs.declared.taking.Due.TheVariants as due
 
--- so many connections there are
+-- the number of connections
 abbrev pub connections : ℕ
 connections = 64
 
@@ -40,11 +40,11 @@ abbrev pub AllFit : List Piece → List Session → Type 0
 AllFit (p ∷ ps) (t ∷ ts) = (piece_len p ≤ t.room) × AllFit ps ts
 AllFit ps ts = ⊤
 
--- nothing came yet
+-- no bytes have arrived yet
 abbrev pub IsNew : Session → Type 0
 IsNew t = (t.rest ≡ []) × (t.output ≡ []) × (t.failed ≡ false)
 
--- nothing came of any connection yet
+-- no bytes have arrived on any connection yet
 abbrev pub AllNew : List Session → Type 0
 AllNew sessions = (length sessions ≡ 64) × AllByRecursion IsNew sessions
 
@@ -53,7 +53,7 @@ abbrev pub HoldsFrameAt : Option Session → Type 0
 HoldsFrameAt (Some t) = HoldsFrame t
 HoldsFrameAt None = ⊥
 
--- a session takes its piece: bytes come behind those that are there, and Closed ends it with what it holds
+-- a session takes its piece: bytes go after those that are there, and Closed ends it with the bytes it holds
 abbrev pub TakesPiece : Session → Piece → Session → Type 0
 TakesPiece t Nothing u = Does t Room u
 TakesPiece t (Bytes bytes) u = Does t (Feed bytes.items) u
@@ -73,26 +73,26 @@ abbrev pub inputs_of_asked : ℕ → Asked → List Input
 inputs_of_asked moment (asked.Event event) = record { profile = current; moment = moment; event = event_of event } ∷ []
 inputs_of_asked moment other = []
 
--- the input that a request asks for, at this moment
+-- the input that a request carries, at this moment
 abbrev pub inputs_asked : ℕ → Option (Result Request Refusal) → List Input
 inputs_asked moment (Some (Ok request)) = inputs_of_asked moment request.asked
 inputs_asked moment (Some (Err e)) = []
 inputs_asked moment None = []
 
--- the actions, which only a manager in memory keeps, aren't told
+-- the actions, which only a manager in memory keeps, aren't listed
 abbrev pub due_of_asked : Asked → Due
 due_of_asked (asked.Event event) = due.Input
 due_of_asked (asked.Query query) = due.Query query
 due_of_asked asked.Actions = due.Reply (reply.Refused refusal.BadRequest)
 
--- what is due for a request
+-- the reply that is due for a request
 abbrev pub due_of : Option (Result Request Refusal) → Due
 due_of None = due.Nothing
 due_of (Some (Ok request)) = due_of_asked request.asked
 due_of (Some (Err e)) = due.Reply (reply.Refused e)
 
--- Of each connection the piece is taken and the request of its first whole frame; the requests' inputs came behind the others, and
--- what is due for them behind what was.
+-- Of each connection the piece is taken and the request of its first whole frame; the requests' inputs go after the
+-- others, and the replies due for them after those due before.
 pub record Took (moment : ℕ) (ts : List Session) (pieces : List Piece) (us : List Session) (before after : List Input) (owed owing : List Due) : Type 0 where
   pub requests : List (Option (Result Request Refusal))
   pub cuts : CutsAll ts pieces requests us

@@ -1,4 +1,4 @@
--- The frame of a call over a store and children: what it leaves as it was, whatever it does besides and whatever it answers.
+-- The frame of a call over a store and children: the parts it leaves as they were, whatever else it does and answers.
 -- No manual page has it: it is the project's own.
 -- The manager's calls and the server's stand on this file.
 use Rattle.std.specs.Prelude.{◌≡◌, ◌⊎◌, ◌↔◌, true, Result, Err}
@@ -10,8 +10,8 @@ use Rattle.um_sector.specs.declared.disk.Disk as disk
 use Rattle.um_wire.specs.declared.refusal.Refusal.{Refusal}
 use Rattle.um_wire.specs.declared.refusal.Refusal.TheVariants.{Device}
 
--- A store behind a call stands where it stood, as it was opened, on a disk that is as honest as before; and it has failed where it had, or where the
--- call answers E16.
+-- The store after a call stands where it stood, as it was opened, on a disk that is as honest as before; and it has
+-- failed if it had, or if the call answers E16.
 pub record KeepsStore {D T : Type 0} {g : _} (d : disk.Ghosts D) (result : Result T Refusal) (old new : Keeper D g) : Type 0 where
   pub place : IsSamePlace old new
   pub disk : d.honest (disk_in new) ≡ d.honest (disk_in old)

@@ -1,6 +1,6 @@
--- How the calls of a manager go on with what was done, and where a life stands behind them.
+-- How the calls of a manager extend its history, and where a life stands after them.
 -- No manual page has it: crash safety is this project's own promise (docs/HEADLINE.md, "Which call gives what").
--- The manager's calls and the law of what was done stand on this file.
+-- The manager's calls and the law of histories stand on this file.
 use Rattle.std.specs.Prelude.{◌≡◌, ◌≢◌, ℕ, List, [], ◌++◌, Bool, IsTrue, Result, Ok, Err}
 use Rattle.um_keeper.specs.Offers.{offers}
 use Rattle.um_model.specs.Children.{Call}
@@ -35,35 +35,35 @@ pub data IsTurn (at : Place) (honest whole : Bool) (result : Result Unit declare
   is_turn : (turned : Turned at honest whole result moment pieces a b) → IsTurn at honest whole result moment pieces past (turns past turned)
   is_none : result ≡ Err NoMemory → Untouched a b → (out : TakesOut a b) → IsTurn at honest whole result moment pieces past (takes past out)
 
--- what was put out is taken
+-- output is taken
 pub data IsTaking {disk : Past} {before : List Call} {a b : Now} (past : History disk before a) : History disk before b → Type 0 where
   is_taking : (out : TakesOut a b) → IsTaking past (takes past out)
 
--- ---- where a life stands behind them
+-- ---- where a life stands after them
 
--- what offers are where the store answered so: where it failed none is told
+-- the offers as they are known by the store's answer: if it failed no outcome is given
 abbrev pub offers_told : Result Unit declared.Refusal → List Offer → List Offer
 offers_told (Ok done) offered = offered
 offers_told (Err e) offered = all_untold offered
 
--- what one turn offered, with what came of each
+-- the offers of one turn, with the outcome of each
 abbrev pub offers_in_turn : {at : Place} {honest whole : Bool} {result : Result Unit declared.Refusal} {moment : ℕ} {pieces : List Piece} {disk : Past}
     {before : List Call} {a b : Now} {past : History disk before a} {all : History disk before b} → IsTurn at honest whole result moment pieces past all
     → List Offer
 offers_in_turn (is_turn turned) = offers_told turned.store (offers_of_turn turned)
 offers_in_turn (is_none want still out) = []
 
--- what a connection was told before the last call, where that was a turn
+-- the reports to a connection before the last call, if that was a turn
 abbrev pub told_before : ℕ → {disk : Past} {before : List Call} {b : Now} → History disk before b → List Told
 told_before k (opens sessions opened anew) = []
 told_before k (turns past turned) = told_to k past
 told_before k (takes past out) = told_before k past
 
--- a life that came so far, and stopped so
+-- a life that got this far, and stopped so
 abbrev pub stopped : {disk : Past} {before : List Call} → Way disk before → (stop : Past) (calls : List Call) → ManagerLife
 stopped {disk} {before} way stop calls = record { disk = disk; before = before; way = way; stop = stop; calls = calls }
 
--- A life that ends where these calls ended, and offered and told this.
+-- A life that ends where these calls ended, with these offers and reports.
 pub record EndsThere (layout : Layout) {disk : Past} {before : List Call} {b : Now} (all : History disk before b) (offered : List Offer) (told : ℕ → List Told)
     (life : ManagerLife) : Type 0 where
   pub by_disk : IsByDisk layout life.way life.stop
@@ -83,7 +83,8 @@ pub record IsRefusedLife (layout : Layout) {honest whole : Bool} {moment : ℕ} 
   pub told_is : (k : ℕ) → told_of k life.way ≡ []
   pub asked : IsTrue honest → IsTrue whole → IsByChildren life.way life.calls × (life.before ≡ past) × (life.calls ≡ calls)
 
--- How a life stands behind calls that offered more, and were answered so: it goes on; or its store refused the last of them, and there it has stopped.
+-- A life after calls that offered more, and were answered so: it goes on; or its store refused the last of them, and
+-- there it has stopped.
 pub data Continues (layout : Layout) {disk : Past} {before : List Call} {a b : Now} (past : History disk before a) (all : History disk before b)
     (more : List Offer) (result : Result Unit declared.Refusal) : Type 0 where
   goes_on : HasGoneOn layout all → offers_in all ≡ offers_in past ++ more → Continues layout past all more result

@@ -1,4 +1,5 @@
--- What was done with a manager from its opening on: what it offered to its store, what its clients were told, and what that rests on.
+-- The history of a manager from its opening on: the offers to its store, the reports to its clients, and the facts that
+-- they rest on.
 -- No manual page has it: crash safety is this project's own promise (docs/HEADLINE.md reads the theorem line by line).
 -- The calls of the manager, its lives and the laws of its clients stand on this file.
 use Rattle.std.specs.Prelude.{◌≡◌, ℕ, List, [], ◌++◌, Bool, IsTrue, Result, Ok}
@@ -16,24 +17,24 @@ use Rattle.um_manager.specs.Places.{Place, place_on}
 use Rattle.um_manager.specs.Turns.{Now, Turned}
 use Rattle.um_manager.specs.declared.pieces.Piece.{Piece}
 
--- What was done with a manager up to now, over a disk and children as they were before it.
+-- The history of a manager up to now, over a disk and children as they were before it.
 pub data History (disk : Past) (before : List Call) : Now → Type 0 where
-  -- it was opened, and no client had come
+  -- it was opened, and no client had connected
   opens : {at : Place} {honest whole : Bool} {moment : ℕ} {boot : List ℕ} {count sectors : ℕ} {b : Now} (sessions : List Session)
       → Opened at honest whole moment boot count sectors disk before b → AllNew sessions → History disk before (record b { sessions = sessions })
   -- a turn was made, whatever it answered
   turns : {at : Place} {honest whole : Bool} {result : Result Unit Refusal} {moment : ℕ} {pieces : List Piece} {a b : Now} → History disk before a
       → Turned at honest whole result moment pieces a b → History disk before b
-  -- what was put out for clients was taken, or nothing was: a turn that found no memory is none
+  -- output of clients was taken, or nothing was: a turn that found no memory is none
   takes : {a b : Now} → History disk before a → TakesOut a b → History disk before b
 
--- all that was offered, in its order, with what came of each
+-- all that was offered, in its order, with the outcome of each
 abbrev pub offers_in : {disk : Past} {before : List Call} {b : Now} → History disk before b → List Offer
 offers_in (opens sessions opened anew) = offers_of_opening opened
 offers_in (turns past turned) = offers_in past ++ offers_of_turn turned
 offers_in (takes past out) = offers_in past
 
--- all that a connection was told of its commands that were done
+-- all reports to a connection that its commands were done
 abbrev pub told_to : ℕ → {disk : Past} {before : List Call} {b : Now} → History disk before b → List Told
 told_to k (opens sessions opened anew) = []
 told_to k (turns past turned) = told_to k past ++ told_in k turned

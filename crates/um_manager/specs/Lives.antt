@@ -1,4 +1,5 @@
--- Lives of managers over one store, how one follows another, what is taken for granted of them, and what outlives all stops.
+-- Lives of managers over one store, how one follows another, the premises on them, and the facts that outlive all
+-- stops.
 -- No manual page has it: crash safety is this project's own promise (docs/HEADLINE.md reads the theorem line by line).
 -- The theorem of managers that outlive crashes stands on this file.
 use Rattle.std.specs.Prelude.{◌≡◌, ◌≢◌, ◌≤◌, ⊤, ℕ, List, [], ◌∷◌, ◌++◌, map, flat_map, All, Some}
@@ -27,7 +28,7 @@ use Rattle.um_wire.specs.declared.refusal.Refusal.TheVariants.{GenerationsSpent}
 use Rattle.um_manager.specs.Done.{Told, where_done}
 use Rattle.um_manager.specs.Living.{ManagerLife, offers_of, told_of, IsByDisk, IsByChildren}
 
--- each life finds what the one before it left
+-- each life finds the disk that the one before it left
 abbrev pub FollowOnDisk : (disk : Past) → List ManagerLife → (stop : Past) → Type 0
 FollowOnDisk disk [] stop = stop ≡ disk
 FollowOnDisk disk (life ∷ lives) stop = IsLeftBy disk life.disk × FollowOnDisk life.stop lives stop
@@ -37,7 +38,7 @@ abbrev pub FollowInCalls : (calls : List Call) → List ManagerLife → (all : L
 FollowInCalls calls [] all = all ≡ calls
 FollowInCalls calls (life ∷ lives) all = (life.before ≡ calls) × FollowInCalls life.calls lives all
 
--- ---- what is taken for granted
+-- ---- the premises
 
 -- no entry, no unit, no job and no boot, the clock at 0, and the next number 1; the profile is either
 pub record IsEmpty (s : State) : Type 0 where
@@ -49,20 +50,20 @@ pub record IsEmpty (s : State) : Type 0 where
   pub units : s.units ≡ maps.empty
   pub pending : s.pending ≡ maps.empty
 
--- What is taken for granted of the disk under all lives of managers over one store, up to the last stop.
+-- The premises on the disk under all lives of managers over one store, up to the last stop.
 pub record DiskPremises (layout : Layout) (first : State) (lives : List ManagerLife) (stop : Past) : Type 0 where
   -- the disk as the store was made on it, by a `create` that answered Ok: a store of an empty state
   pub made : Past
   pub empty : IsEmpty first
   pub created : Images made (λ image. IsStoreOf layout image first)
-  -- nobody else writes the disk: each life finds what the one before it left
+  -- nobody else writes the disk: each life finds the disk that the one before it left
   pub follow : FollowOnDisk made lives stop
   -- the disk does what it answers, and after a fault the store is opened again: each life ends with the first turn that its store refuses
   pub each : AllByRecursion (λ (life : ManagerLife). IsByDisk layout life.way life.stop) lives
 
--- What is taken for granted of the children.
+-- The premises on the children.
 pub record ChildrenPremises (lives : List ManagerLife) (calls : List Call) : Type 0 where
-  -- what was asked of them before the store was made: they had started nothing
+  -- the calls made of them before the store was made: they had started nothing
   pub before : List Call
   pub unstarted : started_numbers (orders before) ≡ []
   -- nobody else calls them
@@ -70,10 +71,10 @@ pub record ChildrenPremises (lives : List ManagerLife) (calls : List Call) : Typ
   -- they do what they answer, and no call is missing from their history
   pub each : AllByRecursion (λ (life : ManagerLife). IsByChildren life.way life.calls) lives
 
--- ---- what outlives them
+-- ---- the facts that outlive them
 
--- One run through all lives: of each over a beginning of what it offered, without what was turned away. Each offer that was answered is in it, and
--- got the reply of its step.
+-- One run through all lives: of each over a beginning of its offers, without those that were turned away; each offer
+-- that was answered is in it, and got the reply of its step.
 pub data RunsThroughAll (size : ℕ) : State → List (List Offer) → List Input → State → Type 0 where
   at_end : {s : State} → RunsThroughAll size s [] [] s
   and_on : {s t u : State} {offers : List Offer} {lives : List (List Offer)} {here more : List Input} → RunsOver size s offers here t
@@ -112,12 +113,12 @@ abbrev pub EachInTurn : {size : ℕ} {s t : State} {inputs : List Input} → Run
 EachInTurn Run.rests = ⊤
 EachInTurn (goes reply actions step run) = All BeginsInTurn (begun_in step) × EachInTurn run
 
--- What outlives all stops, told by one image that the last of them leaves.
+-- The facts that outlive all stops, of one image that the last of them leaves.
 pub record Outlives (layout : Layout) (first : State) (lives : List ManagerLife) (image : Image) : Type 0 where
-  -- what was kept of all that was offered, and the state to which it leads
+  -- the inputs that were kept of all offers, and the state to which they lead
   pub kept : List Input
   pub state : State
-  -- the image is a store of the state to which one run comes, from the empty state over a beginning of what was offered
+  -- the image is a store of the state that one run reaches, from the empty state over a beginning of the offers
   pub store : IsStoreOf layout image state
   pub run : RunsThroughAll (body_limit layout) first (map (λ (life : ManagerLife). offers_of life.way) lives) kept state
   -- an opening takes up that state and no other; and, where the disk has room, it is refused for the last generation alone, or for want of memory or the device
@@ -125,14 +126,16 @@ pub record Outlives (layout : Layout) (first : State) (lives : List ManagerLife)
   pub reopens : (count : ℕ) (e : Refusal) → store_sectors layout ≤ count → IsUntaken count image e → e ≡ GenerationsSpent
   -- all that was answered is in it, in its order
   pub answered : StandIn (flat_map answered_in (map (λ (life : ManagerLife). offers_of life.way) lives)) kept
-  -- what any connection was told of its commands that were done is what the steps of the run did, in their order
+  -- the reports to any connection that its commands were done are the commands that the steps of the run did, in their
+  -- order
   pub told : (k : ℕ) (run : Run (body_limit layout) first kept state) → StandIn (flat_map (λ (life : ManagerLife). told_of k life.way) lives) (done_in run)
   -- each job that begins in the run does so in its turn
   pub ready : (run : Run (body_limit layout) first kept state) → EachInTurn run
-  -- no oneshot that finished begins anew before a command's plan puts a start of it
+  -- no oneshot that finished begins again before a command's plan puts a start of it
   pub finished : (run : Run (body_limit layout) first kept state) → RepeatsNone run
   -- no number was started twice, and each that was lies below the next number of that state
   pub started : (calls : List Call) → ChildrenPremises lives calls → AreNew first.next state.next (started_numbers (orders calls))
-  -- each start that was ordered, with its number, words and environment, is one that the steps of the run asked for, in their order
+  -- each start that was ordered, with its number, words and environment, is one that the steps of the run want, in
+  -- their order
   pub carried : (calls : List Call) → ChildrenPremises lives calls → (run : Run (body_limit layout) first kept state)
       → StandIn (starts_in (orders calls)) (starts_in (actions_in run))

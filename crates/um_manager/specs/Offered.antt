@@ -1,6 +1,6 @@
--- What openings and turns of a manager offer to its store, with what came of each.
+-- The offers of openings and turns of a manager to its store, with the outcome of each.
 -- No manual page has this: it is the project's own (docs/HEADLINE.md reads the theorem line by line).
--- What was done with a manager, and its lives, stand on this file.
+-- The history of a manager, and its lives, stand on this file.
 use Rattle.std.specs.Prelude.{ℕ, List, [], ◌∷◌, map, Bool, Result}
 use Rattle.um_keeper.specs.Offers.{offers, untold}
 use Rattle.um_model.specs.Children.{Call}
@@ -19,12 +19,12 @@ abbrev pub offered_in : {at : Place} {honest whole : Bool} {result : Result Unit
     → Turned at honest whole result moment pieces a b → List Input
 offered_in {moment = moment} turned = inputs_of moment turned.told turned.requests
 
--- what a turn offered
+-- the offers of a turn
 abbrev pub offers_of_turn : {at : Place} {honest whole : Bool} {result : Result Unit Refusal} {moment : ℕ} {pieces : List Piece} {a b : Now}
     → Turned at honest whole result moment pieces a b → List Offer
 offers_of_turn turned = offers (offered_in turned) turned.answers
 
--- what an opening offered: the boot, and what adoption was told
+-- the offers of an opening: the boot, and the fates reported to adoption
 abbrev pub offers_of_opening : {at : Place} {honest whole : Bool} {moment : ℕ} {boot : List ℕ} {count sectors : ℕ} {disk : Past} {past : List Call} {b : Now}
     → Opened at honest whole moment boot count sectors disk past b → List Offer
 offers_of_opening {moment = moment} {boot = boot} opened =
@@ -41,7 +41,7 @@ all_untold offered = map (λ (offer : Offer). record { input = offer.input; outc
 abbrev pub boot_untold : ℕ → List ℕ → Offer
 boot_untold moment boot = record { input = boot_at moment boot; outcome = unanswered }
 
--- what an opening that is refused offered
+-- the offers of an opening that is refused
 abbrev pub untold_of_refused : {layout : Layout} {honest whole : Bool} {moment : ℕ} {boot : List ℕ} {sectors : ℕ} {disk left : Past} {past calls : List Call}
     → IsRefused layout honest whole moment boot sectors disk left past calls → List Offer
 untold_of_refused (untaken none stays) = []

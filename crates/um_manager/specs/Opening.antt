@@ -1,4 +1,4 @@
--- What opening does: the store is taken up, the boot is offered, and the processes that are live are adopted.
+-- The opening: the store is taken up, the boot is offered, and the processes that are live are adopted.
 -- No manual page has this: it is the project's own.
 -- `Manager::open` stands on this file.
 use Rattle.std.specs.Prelude.{◌≡◌, ◌⊎◌, ℕ, List, [], ◌∷◌, ◌++◌, length, flat_map, map, Bool, true, IsTrue, Result, Ok, Err}
@@ -29,7 +29,7 @@ use Rattle.um_manager.specs.Orders.{LetGo, signals}
 use Rattle.um_manager.specs.Places.{Place, place}
 use Rattle.um_manager.specs.Turns.{Now, Answers, Tells, AreSpent, MakesFewCalls, Leaves, Holds, Called}
 
--- the inputs of adoption: those of the fates told, where a number that is absent is lost
+-- the inputs of adoption: those of the fates reported, where a number that is absent is lost
 abbrev pub adoptions : ℕ → List Tale → List Input
 adoptions moment told = flat_map (inputs_of_tale lost moment) told
 
@@ -37,9 +37,8 @@ adoptions moment told = flat_map (inputs_of_tale lost moment) told
 abbrev pub boot_at : ℕ → List ℕ → Input
 boot_at moment boot = happens_at moment (Booted boot)
 
--- What the children's calls were: what is kept of all but the live numbers was let go, of those below the next number, each fate that was told was
--- asked, then the orders were given, which are these actions, and then of the adopted numbers TERM to those whose unit is in stop-sigterm, and KILL
--- to those whose unit is in stop-sigkill.
+-- The children's calls: all but the live numbers below the next one were forgotten, the fates reported were queried,
+-- these actions were ordered, and adopted numbers got TERM if their unit is in stop-sigterm, KILL if in stop-sigkill.
 pub record Ended (units : ByUnit UnitState) (live : List ℕ) (next : ℕ) (told : List Tale) (actions : List Action) (old new : List Call)
     (marked : List ℕ) : Type 0 where
   pub termed : List ℕ
@@ -48,14 +47,14 @@ pub record Ended (units : ByUnit UnitState) (live : List ℕ) (next : ℕ) (told
   pub are_killed : AreIn units StopSigkill live killed
   pub called : Called units (Ok tt) told (actions ++ (signals Term termed ++ signals Kill killed)) (old ++ ForgotOthers live next ∷ []) new live marked
 
--- so it is where the store took the inputs; where it failed all but the live numbers were let go, the fates were asked, and nothing else
+-- so it is if the store took the inputs; if it failed all but the live numbers were forgotten, the fates were queried,
+-- and nothing else
 abbrev pub CallsOf : Result Unit Refusal → ByUnit UnitState → List ℕ → ℕ → List Tale → List Action → (old new : List Call) → List ℕ → Type 0
 CallsOf (Ok done) units live next told actions old new marked = Ended units live next told actions old new marked
 CallsOf (Err e) units live next told actions old new marked = new ≡ old ++ (ForgotOthers live next ∷ map asks_for told)
 
--- What adoption did. It let go what is kept of all but the live numbers, told the next number of the state that it found, asked the fate of each of
--- these once, ascending, with a claim, and offered what was told; an absent number is lost.
--- Marked are the numbers that were live and those whose start was refused.
+-- Adoption forgot all but the live numbers below the next one, queried each live number's fate once, ascending, with a
+-- claim, offered the fates, an absent number as lost, and marked the live numbers and those whose start was refused.
 pub record Adopted (place : Place) (honest whole : Bool) (store : Result Unit Refusal) (moment : ℕ) (a b : Now) : Type 0 where
   pub live : List ℕ
   pub are_live : AreLive a.state.units live
@@ -71,8 +70,8 @@ pub record Adopted (place : Place) (honest whole : Bool) (store : Result Unit Re
   pub stored : IsTrue place.trusted → store ≡ Ok tt → Holds place b.state b.disk
   pub called : IsTrue honest → IsTrue whole → CallsOf store b.state.units live a.state.next told (all_asked answers) a.past b.past b.marks
 
--- What follows once the store is taken up: the boot is offered, which asks for nothing, and then the numbers that are live, so many, are
--- adopted.
+-- The steps once the store is taken up: the boot is offered, which has no actions, and then the numbers that are live
+-- are adopted.
 pub record Began (place : Place) (honest whole : Bool) (store : Result Unit Refusal) (moment : ℕ) (boot : List ℕ) (count : ℕ) (a b : Now) : Type 0 where
   pub mid : Now
   pub reply : Reply
@@ -84,8 +83,8 @@ pub record Began (place : Place) (honest whole : Bool) (store : Result Unit Refu
   pub numbers_are : AreLive mid.state.units numbers
   pub count_is : count ≡ length numbers
 
--- What an opening that is refused did, once the store was taken up: the boot was refused, and nothing was asked of the children; or it was
--- taken, and the store failed while adoption's inputs were offered.
+-- The steps of an opening that is refused, once the store was taken up: the boot was refused, and no call of the
+-- children was made; or it was taken, and the store failed while adoption's inputs were offered.
 pub data Refuses (place : Place) (honest whole : Bool) (refusal : Refusal) (moment : ℕ) (boot : List ℕ) (a b : Now) : Type 0 where
   unbooted : b.state ≡ a.state → b.past ≡ a.past
       → (IsTrue place.trusted → During a.disk b.disk (IsBegun place.layout a.state (boot_at moment boot ∷ [])))
@@ -93,15 +92,15 @@ pub data Refuses (place : Place) (honest whole : Bool) (refusal : Refusal) (mome
   unadopted : {count : ℕ} → refusal ≡ Device → Began place honest whole (Err refusal) moment boot count a b
       → Refuses place honest whole refusal moment boot a b
 
--- the state that a disk of so many sectors is read as, and stands for
+-- the state that a disk of this many sectors is read as, and stands for
 pub record IsFound (sectors : ℕ) (disk : Past) (layout : Layout) (s : State) : Type 0 where
   pub slot : Slot
   pub generation : ℕ
   pub taken_up : IsTakenUp sectors (seen disk) layout slot generation s
   pub stands : StandsFor layout (seen disk) s
 
--- An opening that is refused, of a store of this layout: it wasn't taken up, and nothing was offered or asked; or it was, and the boot or adoption
--- was refused behind that.
+-- An opening that is refused, of a store of this layout: it wasn't taken up, and nothing was offered or called; or it
+-- was, and the boot or the adoption after it was refused.
 pub data IsRefused (layout : Layout) (honest whole : Bool) (moment : ℕ) (boot : List ℕ) (sectors : ℕ) (disk left : Past) (past calls : List Call) : Type 0 where
   untaken : calls ≡ past → During disk left (IsAsBefore layout disk) → IsRefused layout honest whole moment boot sectors disk left past calls
   taken_up : {refusal : Refusal} (a b : Now) → IsFound sectors disk layout a.state → a.past ≡ past → During disk a.disk (IsAsBefore layout disk)
@@ -112,8 +111,8 @@ pub data IsRefused (layout : Layout) (honest whole : Bool) (moment : ℕ) (boot 
 abbrev pub IsOfOpening : Layout → Past → State → List Input → Image → Type 0
 IsOfOpening layout disk s inputs image = IsAsBefore layout disk image ⊎ IsBegun layout s inputs image
 
--- Opening: the store is taken up of a disk of so many sectors, and what follows. A crash meanwhile leaves a store of a state from before, or of
--- one that the boot and a beginning of adoption's inputs give.
+-- Opening: the store is taken up of a disk of this many sectors, and the steps that follow; a crash meanwhile leaves a
+-- store of a state from before, or of one that the boot and a beginning of adoption's inputs give.
 pub record Opened (place : Place) (honest whole : Bool) (moment : ℕ) (boot : List ℕ) (count sectors : ℕ) (disk : Past) (past : List Call) (b : Now)
     : Type 0 where
   pub a : Now
@@ -123,8 +122,8 @@ pub record Opened (place : Place) (honest whole : Bool) (moment : ℕ) (boot : L
   pub left : IsTrue place.trusted → Images disk (IsSomeStore place.layout) → During disk b.disk (IsOfOpening place.layout disk a.state
       (boot_at moment boot ∷ taken (adoptions moment began.adopted.told) began.adopted.answers))
 
--- What an opening asks of the children that is refused behind the boot of this state: what is kept of all but the numbers that are live then is let
--- go, below the number that is next then, and fates are asked.
+-- The children's calls of an opening that is refused after the boot of this state: all numbers that aren't live then
+-- are forgotten, below the number that is next then, and fates are queried.
 pub record AsksAlone (size : ℕ) (s : State) (moment : ℕ) (boot : List ℕ) (told : List Tale) (old new : List Call) : Type 0 where
   pub reply : Reply
   pub booted : State
@@ -133,7 +132,7 @@ pub record AsksAlone (size : ℕ) (s : State) (moment : ℕ) (boot : List ℕ) (
   pub are_live : AreLive booted.units live
   pub past_is : new ≡ old ++ (ForgotOthers live booted.next ∷ map asks_for told)
 
--- nothing at all is asked, or so it is
+-- no call at all is made, or these are
 abbrev pub IsSilentIn : ℕ → State → ℕ → List ℕ → List Tale → List Call → List Call → Type 0
 IsSilentIn size s moment boot told old new = ((told ≡ []) × (new ≡ old)) ⊎ AsksAlone size s moment boot told old new
 
@@ -145,7 +144,7 @@ pub record IsSilent (sectors : ℕ) (disk : Past) (honest : Bool) (moment : ℕ)
   pub told : List Tale
   pub asked : AsksAlone (body_limit layout) state moment boot told old new
 
--- a store of a state that the boot and some of adoption's inputs give, of those that the children told meanwhile
+-- a store of a state that the boot and some of adoption's inputs give, of those that the children reported meanwhile
 pub record IsCutShort (layout : Layout) (moment : ℕ) (boot : List ℕ) (sectors : ℕ) (disk : Past) (honest whole : Bool) (old new : List Call)
     (image : Image) : Type 0 where
   pub state : State
@@ -167,8 +166,8 @@ pub record Signalled (units : ByUnit UnitState) (sub : SubState) (signal : Signa
   pub are : AreIn units sub numbers chosen
   pub past_is : new ≡ old ++ map (λ n. Sent n signal) chosen
 
--- TERM was sent to those of these numbers whose unit is in stop-sigterm, then KILL to those whose unit is in stop-sigkill, and then numbers that
--- aren't live were let go.
+-- TERM was sent to those of these numbers whose unit is in stop-sigterm, then KILL to those whose unit is in
+-- stop-sigkill, and then numbers that aren't live were forgotten.
 pub record Ends (units : ByUnit UnitState) (numbers : List ℕ) (old new : List Call) : Type 0 where
   pub termed : List Call
   pub terms : Signalled units StopSigterm Term numbers old termed

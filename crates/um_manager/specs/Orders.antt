@@ -1,4 +1,4 @@
--- What becomes of the actions that receipts hand out.
+-- The actions that receipts hand out, carried out.
 -- No manual page has this: processes under numbers are the project's own.
 -- The turn of the manager and its opening stand on this file.
 use Rattle.std.specs.Prelude.{◌≡◌, ◌||◌, ℕ, List, [], ◌++◌, map, Bool, true, false, IsTrue}
@@ -10,8 +10,8 @@ use Rattle.um_model.specs.declared.service.Signal.{Signal}
 use Rattle.um_model.specs.declared.service.UnitState.{UnitState}
 use Rattle.um_fates.specs.Live.{has, is_live, HasFewLive}
 
--- Just these orders were given then, no fate was asked, and nothing was let go; of the live numbers those whose start was refused are marked
--- beside the others.
+-- Exactly these orders were given then, no fate was queried, and no number was forgotten; of the live numbers those
+-- whose start was refused are marked beside the others.
 pub record Grew (units : ByUnit UnitState) (old new : List Call) (marks marked : List ℕ) (actions : List Action) : Type 0 where
   pub given : List Call
   pub past_is : new ≡ old ++ given
@@ -20,11 +20,11 @@ pub record Grew (units : ByUnit UnitState) (old new : List Call) (marks marked :
   pub kept : list_any lets_any given ≡ false
   pub marks_are : HasFewLive units → (n : ℕ) → is_live units n ≡ true → has n marked ≡ (has n marks || has n (refused given))
 
--- the same of children who are honest, and whose history is whole
+-- the same of children that are honest, and whose history is whole
 abbrev pub Carries : Bool → Bool → ByUnit UnitState → List Call → List Call → List ℕ → List ℕ → List Action → Type 0
 Carries honest whole units old new marks marked actions = IsTrue honest → IsTrue whole → Grew units old new marks marked actions
 
--- What is kept of numbers that aren't live was let go, and nothing else was asked.
+-- Numbers that aren't live were forgotten, and no other call was made.
 pub record LetGo (units : ByUnit UnitState) (old new : List Call) : Type 0 where
   pub given : List Call
   pub past_is : new ≡ old ++ given

@@ -17,7 +17,7 @@ pub record Place : Type 0 where
 abbrev pub place : ℕ → Layout → Bool → Place
 place size layout trusted = record { size = size; layout = layout; trusted = trusted }
 
--- where a store of this layout stands, on a disk that does what it answers, and on which no call has failed
+-- the place of a store of this layout, on a disk that does what it answers, and on which no call has failed
 abbrev pub place_on : Layout → Place
 place_on layout = place (body_limit layout) layout true
 
@@ -26,7 +26,7 @@ abbrev pub is_trusted : (honest failed : Bool) → Bool
 is_trusted honest false = honest
 is_trusted honest true = false
 
--- where a keeper's store stands, on a disk that does what it answers or doesn't
+-- the place of a keeper's store, on a disk that does what it answers or doesn't
 abbrev pub place_in : {D : Type 0} {g : _} → (honest : Bool) → Keeper D g → Place
 place_in honest k = place (size_in k) (layout_in k) (is_trusted honest (has_failed k))
 
@@ -41,7 +41,7 @@ pub record LogEnd : Type 0 where
 abbrev pub log_in : {D : Type 0} {g : disk.Ghosts D} → Keeper D g → LogEnd
 log_in {g = g} k = record { generation = log_generation_in k; next = next_in k; left = left_in k; calls = g.calls (disk_in k) }
 
--- in the last generation, now or once it comes to that, the log is free from this sector on
+-- in the last generation, now or once the log reaches it, the log is free from this sector on
 pub record IsFreeFrom (layout : Layout) (log : LogEnd) (from : ℕ) : Type 0 where
   pub start : log_start layout (2 ^ 64 - 1) ≤ from
   pub behind : log.generation ≡ 2 ^ 64 - 1 → log.next ≤ from

@@ -1,4 +1,4 @@
--- What is put out for the connections.
+-- The replies that are put out for the connections.
 -- No manual page has this: it is the project's own protocol (docs/FORMATS.md, "Replies").
 -- The turn of the manager stands on this file.
 use Rattle.std.specs.Prelude.{◌≡◌, ◌⊎◌, ◌+◌, ℕ, zero, suc, List, [], ◌∷◌, Bool, Option, Some, Ok, Err, ⊤}
@@ -13,7 +13,7 @@ use Rattle.um_wire.specs.Refusal.{refused_of}
 use Rattle.um_manager.specs.declared.taking.Due.{Due}
 use Rattle.um_manager.specs.declared.taking.Due.TheVariants as due
 
--- the reply that an answer of the store tells
+-- the reply that an answer of the store gives
 abbrev pub reply_in : Answer → Reply
 reply_in (Ok accepted) = accepted.0
 reply_in (Err e) = Refusal (refused_of e)
@@ -35,7 +35,7 @@ abbrev pub replies_owed : List Due → ℕ
 replies_owed [] = 0
 replies_owed (d ∷ ds) = replies_due d + replies_owed ds
 
--- what is due is put out: an input's is the first of the replies at hand, a query's is the one of the state
+-- the due reply is put out: an input's is the first of the replies at hand, a query's is the one of the state
 abbrev pub Pays : State → Due → (replies left : List Reply) → Session → Session → Type 0
 Pays s due.Nothing replies left t u = (left ≡ replies) × (u ≡ t)
 Pays s due.Input replies left t u = (reply : Reply) × (replies ≡ reply ∷ left) × Puts t reply u
@@ -53,7 +53,7 @@ abbrev pub where_put : (t u : Session) (reply : Reply) → Puts t reply u → Li
 where_put t u reply (inl put) = reply ∷ []
 where_put t u reply (inr given_up) = []
 
--- what was put out of what was due
+-- the reply that was put out of those that were due
 abbrev pub put_by : (s : State) (d : Due) (replies left : List Reply) (t u : Session) → Pays s d replies left t u → List Reply
 put_by s due.Nothing replies left t u paid = []
 put_by s due.Input replies left t u paid = where_put t u paid.0 paid.2
@@ -66,7 +66,7 @@ put_at zero s (d ∷ ds) replies (t ∷ ts) (u ∷ us) paid = put_by s d replies
 put_at (suc k) s (d ∷ ds) replies (t ∷ ts) (u ∷ us) paid = put_at k s ds paid.0 ts us paid.2
 put_at k s ds replies ts us paid = []
 
--- what was put out for a connection is taken, with whether its session has failed
+-- the output of a connection is taken, with whether its session has failed
 abbrev pub IsOutput : Option Session → List ℕ → Bool → Option Session → Type 0
 IsOutput (Some t) bytes failed (Some u) = Does t (Take bytes) u × (failed ≡ u.failed)
 IsOutput t bytes failed u = ⊥

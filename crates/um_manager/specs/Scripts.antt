@@ -1,4 +1,4 @@
--- What a script of turns does.
+-- A script of turns.
 -- No manual page has this: it is the project's own.
 -- `run_script` and the laws of the manager stand on this file.
 use Rattle.std.specs.Prelude.{◌≡◌, ◌≢◌, ◌⊎◌, List, [], ◌∷◌, ◌++◌, Bool, Result, Ok, Err}
@@ -27,7 +27,7 @@ Runs place honest whole (step ∷ steps) result a b =
     Stops place honest whole step result a b
     ⊎ ((mid : Now) × Turned place honest whole (Ok tt) step.moment step.pieces a mid × Runs place honest whole steps result mid b)
 
--- what was done goes on with a turn a step; a refusal is the last
+-- the history goes on with a turn a step; a refusal is the last
 pub data AreTurns (at : Place) (honest whole : Bool) {disk : Past} {before : List Call} : List Step → Result Unit Refusal → (a b : Now)
     → History disk before a → History disk before b → Type 0 where
   no_step : {a : Now} {past : History disk before a} → AreTurns at honest whole [] (Ok tt) a a past past
@@ -38,7 +38,7 @@ pub data AreTurns (at : Place) (honest whole : Bool) {disk : Past} {before : Lis
       (turned : Turned at honest whole (Ok tt) step.moment step.pieces a mid) → AreTurns at honest whole steps result mid b (turns past turned) all
       → AreTurns at honest whole (step ∷ steps) result a b past all
 
--- what these turns offered, in their order, with what came of each
+-- the offers of these turns, in their order, with the outcome of each
 abbrev pub offers_in_turns : {at : Place} {honest whole : Bool} {disk : Past} {before : List Call} {steps : List Step} {result : Result Unit Refusal}
     {a b : Now} {past : History disk before a} {all : History disk before b} → AreTurns at honest whole steps result a b past all → List Offer
 offers_in_turns no_step = []

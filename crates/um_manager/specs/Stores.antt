@@ -1,4 +1,4 @@
--- What a store answers that refuses all inputs of a list.
+-- The answers of a store that refuses all inputs of a list.
 -- No manual page has it: it is the project's own protocol (docs/FORMATS.md, "Refusals").
 -- The turn of the manager and its opening stand on this file.
 use Rattle.std.specs.Prelude.{◌≡◌, ◌≢◌, List, Bool, Result, Ok, Err}
@@ -19,6 +19,6 @@ abbrev pub StoreAnswers : StoreFault → Result Unit Refusal → Type 0
 StoreAnswers fault.NoMemory result = result ≡ Ok tt
 StoreAnswers fault.Reopen result = result ≡ Err refusal.Reopen
 
--- the inputs were offered; want of memory is told of single inputs alone
+-- the inputs were offered; want of memory is reported of single inputs alone
 abbrev pub Submits : Place → Result Unit Refusal → List Input → List Reply → (honest whole : Bool) → Now → Now → Type 0
 Submits place result inputs replies honest whole a b = (result ≢ Err refusal.NoMemory) × Submitted place result inputs replies honest whole a b

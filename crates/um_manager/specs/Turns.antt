@@ -1,4 +1,4 @@
--- What a turn of the manager does.
+-- A turn of the manager.
 -- No manual page has this: it is the project's own (docs/ARCHITECTURE.md, "The way of one input").
 -- The manager's calls stand on this file.
 use Rattle.std.specs.Prelude.{◌≡◌, ◌≢◌, ◌⊎◌, ◌↔◌, ◌+◌, ◌≤◌, ◌||◌, ℕ, List, [], ◌∷◌, ◌++◌, length, drop, map, flat_map, replicate, Bool, true, false, IsTrue, Option, Result, Ok, Err}
@@ -35,8 +35,8 @@ pub record IsMeanwhile (old new at : Past) : Type 0 where
   pub at_is : at ≡ onto calls old
   pub new_is : new ≡ onto later at
 
--- a manager at a moment: its state, the children's calls, the numbers whose fate is asked with a claim, the sessions, the disk's calls, and where
--- the next record goes, with the count of those calls
+-- a manager at a moment: its state, the children's calls, the numbers whose fate is queried with a claim, the sessions,
+-- the disk's calls, and where the next record goes, with the count of those calls
 pub record Now : Type 0 where
   pub state : State
   pub past : List Call
@@ -52,11 +52,11 @@ now state past marks sessions disk log = record { state = state; past = past; ma
 abbrev pub now_in : {D : Type 0} {g : _} → Keeper D g → List Call → List ℕ → List Session → Past → Now
 now_in k past marks sessions disk = now (state_in k) past marks sessions disk (log_in k)
 
--- the inputs that stand before the requests: those of the fates told, and a tick
+-- the inputs that stand before the requests: those of the fates reported, and a tick
 abbrev pub firsts : ℕ → List Tale → List Input
 firsts moment told = flat_map (inputs_of_tale unexecuted moment) told ++ tick_at moment ∷ []
 
--- The answers of the store to a list of inputs, and the state behind them.
+-- The answers of the store to a list of inputs, and the state after them.
 pub data Answers (place : Place) (s : State) (inputs : List Input) (answers : List Answer) (t : State) : Type 0 where
   -- to one input after another
   each : AreAnswered place.size s inputs answers t → Answers place s inputs answers t
@@ -65,18 +65,20 @@ pub data Answers (place : Place) (s : State) (inputs : List Input) (answers : Li
   -- one failed before, and each is E17
   reopen : place.trusted ≡ false → answers ≡ replicate (length inputs) (Err Reopen) → t ≡ s → Answers place s inputs answers t
 
--- What the result of the offer tells of the answers: at Ok they are to one input after another; it is E16 exactly where an answer is; and it is
--- another refusal only where all answers are.
+-- The result of the offer by its answers: at Ok they are to one input after another; it is E16 exactly if an answer is;
+-- and it is another refusal only if all answers are.
 pub record Tells (store : Result Unit Refusal) (size : ℕ) (s : State) (inputs : List Input) (answers : List Answer) (t : State) : Type 0 where
   pub ok : store ≡ Ok tt → AreAnswered size s inputs answers t
   pub device : (store ≡ Err Device) ↔ HasFault answers
   pub other : (e : Refusal) → store ≡ Err e → e ≢ Device → (answers ≡ replicate (length inputs) (Err e)) × (t ≡ s)
 
--- what a crash leaves while inputs are offered: each image is a store of the state after a beginning of those that were taken
+-- the images that a crash leaves while inputs are offered: each is a store of the state after a beginning of those that
+-- were taken
 abbrev pub Leaves : Place → State → List Input → List Answer → Past → Past → Type 0
 Leaves place s inputs answers old new = During old new (IsBegun place.layout s (taken inputs answers))
 
--- E20 turns one of these inputs away only where the log's generation is the last, and its record has no room behind those before it
+-- E20 turns one of these inputs away only if the log's generation is the last, and its record has no room after those
+-- before it
 abbrev pub AreSpent : Place → State → List Input → List Answer → LogEnd → LogEnd → Type 0
 AreSpent place s inputs answers old new = (from : ℕ) → IsFreeFrom place.layout old from
     → AreSpentAsMeant place.layout new.generation place.size from s inputs answers
@@ -92,7 +94,8 @@ abbrev pub MakesFewerCalls : Place → State → List Input → List Answer → 
 MakesFewerCalls place s inputs answers t old new =
     old.left ≡ 0 → new.generation ≤ old.generation + 1 → BeginsOne old.calls new.calls place.size s inputs answers t
 
--- the most calls that a turn makes behind the answer of its store: 16 sectors of a snapshot under way, a sync, its header, and a sync
+-- the most calls that a turn makes after the answer of its store: 16 sectors of a snapshot under way, a sync, its
+-- header, and a sync
 abbrev pub step_calls : ℕ
 step_calls = 19
 
@@ -123,8 +126,8 @@ abbrev pub first_refusal : Result Unit Refusal → Result Unit Refusal → Resul
 first_refusal (Ok done) behind = behind
 first_refusal (Err e) behind = Err e
 
--- What a turn writes behind the answer of its store: where that was Ok, the next sectors of a snapshot under way. Each image meanwhile is a store of
--- the state, which stays as it is, and so does the place of the next record. A fault on the disk is told.
+-- The writes of a turn after its store's Ok: the next sectors of a snapshot under way, while each image is a store of
+-- the state, which stays, as does the next record's place; a fault on the disk is returned.
 pub record WritesOn (place : Place) (store result : Result Unit Refusal) (a b : Now) : Type 0 where
   pub behind : Result Unit Refusal
   pub result_is : result ≡ first_refusal store behind
@@ -136,8 +139,8 @@ pub record WritesOn (place : Place) (store result : Result Unit Refusal) (a b : 
   pub still : (e : Refusal) → store ≡ Err e → b.disk ≡ a.disk
   pub steady : IsTrue place.trusted → store ≡ Ok tt → During a.disk b.disk (λ image. IsStoreOf place.layout image a.state)
 
--- What the children's calls were: each fate that was told was asked, and then the orders were given, which are these actions. What is kept of a
--- live number isn't let go, and where the store failed nothing is. Of the live numbers those whose start was refused are marked beside the others.
+-- The children's calls: each fate reported was queried, then these actions were ordered; no live number is forgotten,
+-- none at all if the store failed, and live numbers whose start was refused are marked beside the others.
 pub record Called (units : ByUnit UnitState) (store : Result Unit Refusal) (told : List Tale) (actions : List Action) (old new : List Call)
     (marks marked : List ℕ) : Type 0 where
   pub given : List Call
@@ -148,16 +151,18 @@ pub record Called (units : ByUnit UnitState) (store : Result Unit Refusal) (told
   pub kept : (e : Refusal) → store ≡ Err e → list_any lets_any given ≡ false
   pub marks_are : (n : ℕ) → is_live units n ≡ true → has n marked ≡ (has n marks || has n (refused given))
 
--- the inputs that a turn offers: those of the fates told, a tick, and those of the requests, in this order
+-- the inputs that a turn offers: those of the fates reported, a tick, and those of the requests, in this order
 abbrev pub inputs_of : ℕ → List Tale → List (Option (Result Request Refusal)) → List Input
 inputs_of moment told requests = firsts moment told ++ flat_map (inputs_asked moment) requests
 
--- What a turn did. It asked the fate of each live number once, ascending, of the marked ones with a claim. It took the pieces and of each
--- connection the request of the first whole frame. It offered the inputs of the fates told, a tick and the requests, in this order, and each of
--- them was answered, and the numbers that were started are new. Each request's reply is put out for its own
--- connection, a query's from the state after all inputs. A crash meanwhile leaves a store of the state after a beginning of the inputs taken, and
--- one behind it, where the store failed none, of all. `offered` is the disk as the store had answered: where it answered Ok, each image since then is
--- a store of the state behind; and only then something is written, of which a fault is told. The history of children that are honest has, where it is whole, just what was asked.
+-- A turn. It queried the fate of each live number once, ascending, of the marked ones with a claim. It took the pieces
+-- and of each connection the request of the first whole frame. It offered the inputs of the fates reported, a tick and
+-- the requests, in this order, and each of them was answered, and the numbers that were started are new. Each request's
+-- reply is put out for its own connection, a query's from the state after all inputs. A crash meanwhile leaves a store
+-- of the state after a beginning of the inputs taken, and afterwards, if the store failed none, of all. `offered` is
+-- the disk as the store had answered: if it answered Ok, each image since then is a store of the state that followed;
+-- and only then something is written, of which a fault is returned. The history of children that are honest has, if it
+-- is whole, exactly the calls made.
 pub record Turned (place : Place) (honest whole : Bool) (result : Result Unit Refusal) (moment : ℕ) (pieces : List Piece) (a b : Now) : Type 0 where
   pub live : List ℕ
   pub are_live : AreLive a.state.units live
@@ -185,7 +190,7 @@ pub record Turned (place : Place) (honest whole : Bool) (result : Result Unit Re
   pub steady : IsTrue place.trusted → store ≡ Ok tt → During offered b.disk (λ image. IsStoreOf place.layout image b.state)
   pub called : IsTrue honest → IsTrue whole → Called b.state.units store told (all_asked answers) a.past b.past a.marks b.marks
 
--- nothing was taken, asked or offered
+-- nothing was taken, queried or offered
 pub record Untouched (a b : Now) : Type 0 where
   pub state : b.state ≡ a.state
   pub past : b.past ≡ a.past
@@ -194,7 +199,7 @@ pub record Untouched (a b : Now) : Type 0 where
   pub disk : b.disk ≡ a.disk
   pub log : b.log ≡ a.log
 
--- a turn that finds no memory for itself is none; a refusal of the store is told after the replies
+-- a turn that finds no memory for itself is none; a refusal of the store is returned after the replies
 abbrev pub Turns : Place → Result Unit Refusal → Bool → Bool → ℕ → List Piece → Now → Now → Type 0
 Turns place result honest whole moment pieces a b =
     (result ≡ Err NoMemory → Untouched a b) × (result ≢ Err NoMemory → Turned place honest whole result moment pieces a b)

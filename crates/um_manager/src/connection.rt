@@ -1,8 +1,9 @@
+//! The number of a connection.
 ghost use Rattle.std.specs.Prelude.{◌≡◌, ◌≤◌, ◌<◌, ℕ, MatchOption};
 
 use std::marker::Model;
 
-/// So many connections a manager has.
+/// The number of connections of a manager.
 pub const CONNECTIONS: usize = 64;
 
 /// The number of a connection: 0 to 63.
@@ -32,7 +33,7 @@ impl Connection {
         Some(Connection { number })
     }
 
-    /// The number.
+    /// The number, below 64.
     pub fn get(self) -> usize
         ensures value { result ≡ self }
         ensures small { self < 64 }

@@ -1,4 +1,4 @@
-//! What the turns of a script say together, as functions that do nothing.
+//! Laws of the turns of a script and of lives of managers, as functions that do nothing.
 ghost use Rattle.std.specs.Prelude.{◌≡◌, ◌<◌, ◌++◌, ℕ, List, flat_map, Bool, Some, Result, Ok, IsTrue, slice_get};
 ghost use Rattle.um_manager.specs.Clients.{AllTurned, HasHad, IsServed};
 ghost use Rattle.um_manager.specs.Crashes.{all_offers, IsLeft};
@@ -23,11 +23,14 @@ ghost use Rattle.um_model.specs.Store.{body_limit};
 ghost use Rattle.um_model.specs.declared.layout.Layout.{Layout};
 ghost use Rattle.um_wire.specs.declared.refusal.Refusal.{Refusal};
 
-/// Each connection is served from its opening on, over any calls and whatever these answer, with what is put out taken at any moment: the requests
-/// taken of it are those of the frames of all its bytes, in their order, and what was put out for it, taken out or not, are the frames of the
-/// replies to just these, one each, in their order. Only the last may be wanting, where the session failed for want of memory. So it is of what was
-/// done with a manager, of each of its connections since that was opened last: what was put out for it are the frames of the replies that its history
-/// tells, each beside the command that it answers, and of those that were done is what it was told last.
+/// Each connection is served from its opening on, over any calls and whatever they answer, with its output taken at any
+/// moment. The requests taken of it are those of the frames of all its bytes, in their order. The output for it, taken
+/// or not, is the frames of the replies to exactly these, one each, in their order. Only the last may be missing, if
+/// the session failed for want of memory.
+///
+/// The same holds of the history of a manager, for each of its connections since that was opened last. The output for
+/// it is the frames of the replies that its history names, each beside the command that it answers. Those of commands
+/// that were done are the ones reported to it last.
 pub fn each_connection_is_served()
     ensures served { (k : ℕ) (bytes taken : List ℕ) (a : Now) (had : HasHad k bytes taken a)
         → (t : Session) × (slice_get a.sessions k ≡ Some t) × IsServed had t }
@@ -39,8 +42,9 @@ pub fn each_connection_is_served()
         → (earlier : List Told) × (told_to k past ≡ earlier ++ flat_map told_by (put_out_of k past)) }
 {}
 
-/// What a crash leaves of a script. A script that ends Ok is one turn a step. Behind turns that ended Ok, each image of each moment of the next one, however that ends, is what a life of
-/// the store may leave that began where the first of these turns did: it takes all inputs that these turns answered, and a beginning of those
+/// A crash of a script leaves a life of its store. A script that ends Ok is one turn a step. After turns that ended Ok,
+/// each image of each moment of the next one, however that ends, is one that a life of the store may leave that began
+/// where the first of these turns did. That life takes all inputs that these turns answered, and a beginning of those
 /// of the next that weren't turned away. So `um_keeper::laws::lives` holds of it, over any number of crashes.
 pub fn what_a_crash_leaves()
     ensures turns { (place : Place) (honest whole : Bool) (steps : List Step) (a b : Now) → Runs place honest whole steps (Ok tt) a b
@@ -53,9 +57,10 @@ pub fn what_a_crash_leaves()
     um_keeper::laws::offers_are_parts_of_lives();
 }
 
-/// What follows of what was done with a manager, over a disk that does what it answers. What was just opened is a life so far; each turn goes on with
-/// it as long as its store answers Ok, and behind one that its store refuses it has stopped; what was put out may be taken; it may stop between any
-/// two calls; and an opening that is refused is a life of its own.
+/// The history of a manager over a disk that does what it answers is a life. A manager that was just opened is a life
+/// so far. Each turn goes on with it as long as its store answers Ok; after a turn that its store refuses it has
+/// stopped. Its output may be taken, and it may stop between any two calls. An opening that is refused is a life of its
+/// own.
 pub fn what_was_done_is_a_life()
     ensures opened { (layout : Layout) (honest whole : Bool) (moment : ℕ) (boot : List ℕ) (count sectors : ℕ) (disk : Past) (before : List Call) (b : Now)
         (past : History disk before b) → IsJustOpened (place_on layout) honest whole moment boot count sectors past → HasGoneOn layout past }
@@ -72,12 +77,14 @@ pub fn what_was_done_is_a_life()
         → (life : ManagerLife) × IsRefusedLife layout refused life }
 {}
 
-/// A service manager outlives crashes. However many lives managers have over one store, each stopped at any moment of any call and the next one
-/// opened on what the disk holds then: the disk is a store of the state to which one run of the machine comes, from the empty state over a
-/// beginning of what each life offered, which holds all that was answered, with the replies that were told. What an opening takes up is that state.
-/// What any client was told of its commands stands among the steps of that run, in their order; each job that begins in it does so in its turn, and
-/// no oneshot that finished begins anew before a command's plan puts a start of it. And over children that do what they answer no process number was
-/// started twice in all lives, and each start that was ordered is one that the run asks for, in their order.
+/// A service manager outlives crashes. Over one store there may be any number of lives of managers, each stopped at any
+/// moment of any call and the next one opened on the disk as it then is. The disk is a store of the state that one run
+/// of the machine reaches from the empty state. The run is over a beginning of the inputs that each life offered; it
+/// holds all that was answered, with the replies that were given. An opening takes up that state. Each report to a
+/// client that its command was done stands among the steps of that run, in their order. Each job that begins in it does
+/// so in its turn, and no oneshot that finished begins again before a command's plan puts a start of it. And over
+/// children that do what they answer no process number was started twice in all lives, and each start that was ordered
+/// is one that the run wants, in their order.
 pub fn a_service_manager_outlives_crashes()
     ensures { (layout : Layout) (first : State) (lives : List ManagerLife) (stop : Past) (image : Image) → DiskPremises layout first lives stop
         → IsImage stop image → Outlives layout first lives image }

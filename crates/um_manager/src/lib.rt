@@ -1,6 +1,6 @@
-//! The running manager: one loop over a store, children and clients. A turn hears what became of processes, takes the pieces that came of
-//! each connection, offers all of it to the store in one list, carries out the actions of its receipts, puts out the replies, and writes the
-//! next part of a snapshot under way.
+//! The running manager: one loop over a store, children and clients. A turn hears the fates of processes, takes the
+//! pieces that arrived on each connection, and offers all of it to the store in one list. Then it carries out the
+//! actions of the receipts, puts out the replies, and writes the next part of a snapshot under way.
 #![tactic(auto)]
 
 mod connection;

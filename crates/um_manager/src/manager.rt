@@ -1,3 +1,4 @@
+//! The running manager, and its turn.
 ghost use Rattle.std.specs.Prelude.{◌≡◌, ◌≢◌, ◌⊎◌, ◌↔◌, ℕ, List, [], length, true, false, Err, IsTrue, IfOk, IfErr, slice_get};
 ghost use Rattle.std.specs.List.{AllByRecursion};
 ghost use Rattle.um_children.specs.Frames.{KeepsChildren};
@@ -34,7 +35,7 @@ use um_session::Session;
 use um_state::{BootId, State};
 use um_wire::Refusal;
 
-/// What a connection puts out.
+/// The output of a connection.
 #[derive(Drop)]
 pub struct Output {
     pub bytes: Vec<u8>,
@@ -68,12 +69,13 @@ impl<D: Disk + Drop, C: Children + Drop> Drop for Manager<D, C> {
 }
 
 impl<D: Disk, C: Children> Manager<D, C> {
-    /// Opens the store that a disk holds, offers the boot, and adopts the processes that are live: it asks the fate of each, offers what is
-    /// told, and ends those that were being ended. It starts nothing by itself. A refusal hands disk and children back.
+    /// Opens the store that a disk holds, offers the boot, and adopts the processes that are live: it queries the fate
+    /// of each, offers the fates that are reported, and ends those that were being ended. It starts nothing by itself.
+    /// A refusal hands disk and children back.
     ///
-    /// Its refusals are those of `Keeper::open`, for the same causes. Behind each but E15 and E16 nothing was written. E16 comes exactly where the
-    /// count of the disk's failures rises; then what is kept of numbers that aren't live behind the boot may have been let go, and fates asked, and
-    /// nothing else, and behind each of the others not even these.
+    /// Its refusals are those of `Keeper::open`, for the same causes. With each but E15 and E16 nothing was written.
+    /// E16 is given exactly if the count of the disk's failures rises. Then the numbers that aren't live after the boot
+    /// may have been forgotten, and fates queried, and nothing else; with each of the others not even that.
     pub fn open(
         alloc: Global,
         disk: D,
@@ -133,12 +135,13 @@ impl<D: Disk, C: Children> Manager<D, C> {
         }
     }
 
-    /// One turn at this moment over what came of the connections.
+    /// One turn at this moment over the pieces of the connections.
     ///
-    /// Behind an Ok of the store 16 sectors of a snapshot under way go out, or all that are left.
+    /// After an Ok of the store 16 sectors of a snapshot under way go out, or all that are left.
     ///
-    /// E15 before anything is taken, asked or offered. The store's E16 and E17, after the replies are put out, and E16 of what goes out behind them,
-    /// though the inputs were answered: E16 exactly where the count of the disk's failures rises, E17 exactly where it rose in an earlier call.
+    /// E15 before anything is taken, queried or offered. The store's E16 and E17 are returned after the replies are put
+    /// out. So is E16 of the writes that follow them, though the inputs were answered. E16 is given exactly if the
+    /// count of the disk's failures rises, E17 exactly if it rose in an earlier call.
     pub fn turn(&mut self, moment: Moment, pieces: &Pieces) -> Result<(), Refusal>
         ensures turns { Turns (place_in (D.honest (disk_in self.old.keeper)) self.old.keeper) result (C.honest self.old.children)
             (C.whole self.new.children) moment pieces.now
@@ -206,7 +209,7 @@ impl<D: Disk, C: Children> Manager<D, C> {
         )
     }
 
-    /// Takes what was put out for a connection, and tells whether its session has failed.
+    /// Takes the output for a connection, and returns it with whether its session has failed.
     pub fn output(&mut self, connection: Connection) -> Output
         ensures taken { IsOutput (slice_get self.old.sessions.items connection) result.bytes.items result.failed
             (slice_get self.new.sessions.items connection) }
@@ -229,15 +232,16 @@ impl<D: Disk, C: Children> Manager<D, C> {
         }
     }
 
-    /// Whether a whole frame of a connection is held. The next turn takes its request, whatever bytes come; so who serves the manager can leave
-    /// further bytes where they are until then, and no client makes it hold more than a frame and one piece.
+    /// Whether a whole frame of a connection is held. The next turn takes its request, whatever bytes arrive. So the
+    /// server can leave further bytes where they are until then, and no client makes the manager hold more than a frame
+    /// and one piece.
     pub fn holds_frame(&self, connection: Connection) -> bool
         ensures { (result ≡ true) ↔ HoldsFrameAt (slice_get self.now.sessions.items connection) }
     {
         self.sessions[connection.get()].holds_frame()
     }
 
-    /// The state.
+    /// The state of its store.
     pub fn state(&self) -> &State
         ensures { state_of result.now ≡ state_in self.now.keeper }
     {
@@ -251,22 +255,22 @@ impl<D: Disk, C: Children> Manager<D, C> {
         &self.children
     }
 
-    /// So many sectors of a body are left of the snapshot under way, and 0 exactly where none is: each turn writes the next of them, so one is to be
-    /// made soon, whatever comes.
+    /// The number of body sectors that are left of the snapshot under way, and 0 exactly if none is. Each turn writes
+    /// the next of them, so one is to be made soon, even if nothing arrives.
     pub fn left(&self) -> u32
         ensures { result ≡ left_in self.now.keeper }
     {
         self.keeper.left()
     }
 
-    /// What was read of the store when the manager was opened.
+    /// The findings of the opening of the store.
     pub fn opened(&self) -> OpenedStore
         ensures { result ≡ opened_in self.now.keeper }
     {
         self.keeper.opened()
     }
 
-    /// So many processes were live when the manager was opened.
+    /// The number of processes that were live when the manager was opened.
     pub fn adopted(&self) -> usize
         ensures { result ≡ self.now.adopted }
     {

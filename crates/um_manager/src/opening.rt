@@ -33,12 +33,12 @@ use um_session::Session;
 use um_state::{BootId, Event, Happening, Input, Reply, State, Units};
 use um_wire::Refusal;
 
-/// What a manager has from its opening on.
+/// The state of a manager from its opening on.
 #[derive(Drop)]
 pub struct Held {
     pub marks: Marks,
     pub sessions: Vec<Session>,
-    /// So many processes were live.
+    /// The number of processes that were live.
     pub adopted: usize,
 }
 
@@ -90,8 +90,8 @@ fn signal_all<C: Children>(
     }
 }
 
-/// Lets go what is kept of processes that aren't live any more, and asks the fate of each that is, with a claim. What isn't let go for a fault is
-/// let go by a later opening.
+/// Forgets the processes that aren't live any more, and queries the fate of each that is, with a claim. One that isn't
+/// forgotten because of a fault is forgotten by a later opening.
 fn claim_live<C: Children>(
     children: &mut C,
     live: &[ProcessNumber],
@@ -110,8 +110,8 @@ fn claim_live<C: Children>(
     claim_all(children, live, moment, inputs);
 }
 
-/// Sends TERM to those of these numbers whose unit is in stop-sigterm, and KILL to those whose unit is in stop-sigkill, and lets go what is kept of
-/// those that aren't live any more.
+/// Sends TERM to those of these numbers whose unit is in stop-sigterm, and KILL to those whose unit is in stop-sigkill,
+/// and forgets those that aren't live any more.
 fn end_all<C: Children>(children: &mut C, units: &Units, numbers: &[ProcessNumber])
     ensures ends { IsTrue (C.honest children.old) → IsTrue (C.whole children.new) → Ends units.now.held numbers.now (C.past children.old) (C.past children.new) }
     ensures children { KeepsChildren C.Children children.old children.new }
@@ -133,8 +133,8 @@ fn end_all<C: Children>(children: &mut C, units: &Units, numbers: &[ProcessNumbe
     forget_ended(children, units, numbers);
 }
 
-/// Adopts the live numbers: it asks the fate of each with a claim, offers what is told, and, where the store took it, ends those that were being
-/// ended.
+/// Adopts the live numbers: it queries the fate of each with a claim, offers the fates that are reported, and, if the
+/// store took them, ends those that were being ended.
 fn adopt<D: Disk, C: Children>(
     keeper: &mut Keeper<D>,
     children: &mut C,
@@ -166,7 +166,7 @@ fn adopt<D: Disk, C: Children>(
     Ok(())
 }
 
-/// Offers the boot, which asks for nothing.
+/// Offers the boot, which has no actions.
 fn offer_boot<D: Disk>(keeper: &mut Keeper<D>, boot: BootId, moment: Moment) -> Result<(), Refusal>
     requires { has_failed keeper.old ≡ false }
     ensures booted { OnOk result ((reply : model.Reply) × Step (size_in keeper.old) (state_in keeper.old) (boot_at moment boot) reply []
@@ -199,7 +199,7 @@ fn live_in(alloc: Global, state: &State, boot: &BootId) -> Result<Vec<ProcessNum
     }
 }
 
-/// What an opening fills. Room for all of it is taken before the boot is offered.
+/// The vectors that an opening fills. Room for all of them is taken before the boot is offered.
 struct Room {
     sessions: Vec<Session>,
     live: Vec<ProcessNumber>,
@@ -229,8 +229,8 @@ fn room_for(alloc: Global, state: &State, boot: &BootId) -> Result<Room, AllocEr
     })
 }
 
-/// Offers the boot, and adopts the processes that are live then. Want of memory comes before the boot is offered, or is the boot's own; E20 is the
-/// boot's alone.
+/// Offers the boot, and adopts the processes that are live then. Want of memory is found before the boot is offered, or
+/// is the boot's own; E20 is the boot's alone.
 pub fn begin<D: Disk, C: Children>(
     alloc: Global,
     keeper: &mut Keeper<D>,

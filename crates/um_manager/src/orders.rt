@@ -14,7 +14,8 @@ use um_keeper::{Handed, Receipt};
 use um_state::{Reply, Units};
 use um_wire::Refusal;
 
-/// Asks one order. The number of a start that is refused is marked; a signal that fails isn't repeated.
+/// Gives one order to the children. The number of a start that is refused is marked; a signal that fails isn't
+/// repeated.
 fn ask<C: Children>(children: &mut C, marks: &mut Marks, units: &Units, handed: Handed)
     ensures carries { Carries (C.honest children.old) (C.whole children.new) units.now.held (C.past children.old) (C.past children.new) marks.old marks.new
         (handed_of handed ∷ []) }
@@ -63,7 +64,7 @@ pub fn put_reply(replies: &mut Vec<Reply>, reply: Reply)
     replies.push_reserved(reply);
 }
 
-/// Carries out what the answer to an input hands out, and gives the reply.
+/// Carries out the actions of the answer to an input, and returns the reply.
 fn carry_one<C: Children>(
     children: &mut C,
     marks: &mut Marks,
@@ -81,7 +82,7 @@ fn carry_one<C: Children>(
     }
 }
 
-/// Carries out what the answers hand out, in their order, and notes the replies.
+/// Carries out the actions of the answers, in their order, and notes the replies.
 pub fn carry_all<C: Children>(
     children: &mut C,
     marks: &mut Marks,

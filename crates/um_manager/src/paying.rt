@@ -1,4 +1,4 @@
-//! Replies put out, each to the connection that asked.
+//! Replies put out, each to the connection that sent the request.
 
 ghost use Rattle.std.specs.Prelude.{◌≡◌, ◌≤◌, ◌+◌, [], ◌∷◌, ℕ, List, length, map};
 ghost use Rattle.um_keeper.specs.Keepers.{state_in};
@@ -36,7 +36,7 @@ fn told<D: Disk>(keeper: &Keeper<D>, query: &Query) -> Reply
     }
 }
 
-/// Puts out what is due: an input's reply is the first of those at hand, and the others are left.
+/// Puts out the reply that is due: an input's is the first of the replies at hand, and the others are left.
 fn pay<'a, D: Disk>(
     alloc: Global,
     keeper: &Keeper<D>,
@@ -69,7 +69,7 @@ fn pay<'a, D: Disk>(
     }
 }
 
-/// Puts out what is due for each connection.
+/// Puts out the reply that is due for each connection.
 pub fn pay_all<D: Disk>(
     alloc: Global,
     keeper: &Keeper<D>,

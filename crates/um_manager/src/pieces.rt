@@ -1,3 +1,4 @@
+//! The pieces of the connections that a turn takes.
 ghost use Rattle.std.specs.Prelude.{◌≡◌, List, length, replicate, IfOk, slice_get, Some, ◌≢◌, ℕ};
 ghost use Rattle.um_manager.specs.declared.pieces.Piece.{Piece};
 ghost use Rattle.um_manager.specs.declared.pieces.Piece.TheVariants.{Nothing};
@@ -6,17 +7,17 @@ use crate::connection::{CONNECTIONS, Connection};
 use std::alloc::{AllocError, Global};
 use std::marker::Model;
 
-/// What came of a connection since the last turn.
+/// The news of a connection since the last turn.
 #[derive(Debug, Drop)]
 pub enum Piece {
     Nothing,
     /// These bytes. The first ones, also after `Closed`, open a session.
     Bytes(Vec<u8>),
-    /// The client is gone: its session ends with what it holds.
+    /// The client is gone: its session ends with the bytes it holds.
     Closed,
 }
 
-/// What came of each of the 64 connections.
+/// The pieces of the 64 connections.
 #[derive(Debug, Drop)]
 pub struct Pieces {
     pieces: Vec<Piece>,
@@ -42,7 +43,7 @@ impl Pieces {
         Ok(Pieces { pieces })
     }
 
-    /// Sets what came of a connection, in the place of what was set before.
+    /// Sets the piece of a connection, in the place of the one set before.
     pub fn set(&mut self, connection: Connection, piece: Piece)
         ensures set { slice_get self.new connection ≡ Some piece }
         ensures others { (other : ℕ) → other ≢ connection → slice_get self.new other ≡ slice_get self.old other }

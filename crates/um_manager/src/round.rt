@@ -35,7 +35,7 @@ fn tick(moment: Moment) -> Input
     Input::new(moment, Event::Happened(Happening::Tick))
 }
 
-/// What a turn fills. Room for all of it is taken before anything is heard.
+/// The vectors that a turn fills. Room for all of them is taken before anything is heard.
 struct Room {
     inputs: Vec<Input>,
     replies: Vec<Reply>,
@@ -60,7 +60,7 @@ impl Room {
     }
 }
 
-/// The replies behind so many.
+/// The replies after the first `count`.
 fn behind(replies: &[Reply], count: usize) -> &[Reply]
     requires { count ≤ length replies.now }
     ensures { result.now ≡ drop count replies.now }
@@ -68,7 +68,7 @@ fn behind(replies: &[Reply], count: usize) -> &[Reply]
     &replies[count..]
 }
 
-/// Notes the numbers of which these inputs tell an end, where there is room.
+/// Notes the numbers whose end these inputs report, where there is room.
 fn note_ended(inputs: &[Input], ended: &mut Vec<ProcessNumber>) {
     for input in inputs {
         if let Event::Happened(Happening::ProcessEnded { number, end: _ }) = input.event() {
@@ -90,7 +90,8 @@ fn forget_one<C: Children>(children: &mut C, units: &Units, number: ProcessNumbe
     }
 }
 
-/// Forgets each of these numbers that isn't live any more. What isn't forgotten for a fault is forgotten by a later opening.
+/// Forgets each of these numbers that isn't live any more. One that isn't forgotten because of a fault is forgotten by
+/// a later opening.
 pub fn forget_ended<C: Children>(children: &mut C, units: &Units, numbers: &[ProcessNumber])
     ensures let_go { IsTrue (C.honest children.old) → IsTrue (C.whole children.new) → LetGo units.now.held (C.past children.old) (C.past children.new) }
     ensures children { KeepsChildren C.Children children.old children.new }
@@ -100,7 +101,7 @@ pub fn forget_ended<C: Children>(children: &mut C, units: &Units, numbers: &[Pro
     }
 }
 
-/// The same where the store took what was offered; where it failed no end is recorded, and nothing is forgotten.
+/// The same if the store took the inputs that were offered. If it failed no end is recorded, and nothing is forgotten.
 fn forget_recorded<C: Children>(
     children: &mut C,
     units: &Units,
@@ -117,10 +118,12 @@ fn forget_recorded<C: Children>(
     }
 }
 
-/// So many sectors of a snapshot under way go out behind each answer of the store, and what finishes it.
+/// The number of sectors of a snapshot under way that go out after each answer of the store, besides the calls that
+/// finish it.
 const STEP: u32 = 16;
 
-/// Behind an Ok of the store the next sectors of a snapshot under way go out; E16 where a call on the disk fails then. A refusal of the store stays.
+/// After an Ok of the store the next sectors of a snapshot under way go out; E16 where a call on the disk fails then. A
+/// refusal of the store stays.
 fn write_on<D: Disk>(keeper: &mut Keeper<D>, submitted: Result<(), Refusal>) -> Result<(), Refusal>
     requires working { OnOk submitted (has_failed keeper.old ≡ false) }
     ensures writes { WritesOn (place_in (D.honest (disk_in keeper.old)) keeper.old) submitted result

@@ -48,7 +48,7 @@ impl StoreFault {
         }
     }
 
-    /// What the manager answers: where the list as a whole found no memory each of its inputs did, and the store goes on.
+    /// The answer of the manager: if the list as a whole found no memory each of its inputs did, and the store goes on.
     fn answer(self) -> Result<(), Refusal>
         ensures { StoreAnswers self result }
     {
@@ -59,7 +59,7 @@ impl StoreFault {
     }
 }
 
-/// So many replies are this refusal.
+/// Makes `count` replies of this refusal.
 fn deny(replies: &mut Vec<Reply>, count: usize, fault: StoreFault)
     requires { vec_len replies.old + count ≤ vec_capacity replies.old }
     ensures items { map reply_of replies.new.items ≡ map reply_of replies.old.items ++ replicate count (model.Refusal (refused_of (refusal_of fault))) }

@@ -1,4 +1,4 @@
-//! What a turn takes of the connections.
+//! The requests that a turn takes of the connections.
 
 ghost use Rattle.std.specs.Prelude.{◌≡◌, ◌≤◌, ◌+◌, ◌++◌, ◌∷◌, [], OnOk, length, vec_len, vec_capacity};
 ghost use Rattle.um_manager.specs.Connections.{AllSame, AllFit, piece_len, Cuts, Took, inputs_asked, due_of};
@@ -15,7 +15,7 @@ use um_session::Session;
 use um_state::{Input, Query, Reply};
 use um_wire::Refusal;
 
-/// What a connection is to be answered.
+/// The reply that a connection is due.
 #[derive(Drop)]
 pub enum Due {
     Nothing,
@@ -74,7 +74,7 @@ fn cut_one(alloc: Global, session: &mut Session, piece: &Piece) -> Option<Result
     session.next_request()
 }
 
-/// Notes the input that a request asks for, and tells what is due for it.
+/// Notes the input that a request carries, and returns the reply that is due for it.
 fn note(moment: Moment, request: Option<Result<Request, Refusal>>, inputs: &mut Vec<Input>) -> Due
     requires { vec_len inputs.old + 1 ≤ vec_capacity inputs.old }
     ensures due { result ≡ due_of request }
@@ -96,7 +96,7 @@ fn note(moment: Moment, request: Option<Result<Request, Refusal>>, inputs: &mut 
     }
 }
 
-/// Notes what is due, where there is room.
+/// Notes a reply that is due, where there is room.
 fn put_due(owed: &mut Vec<Due>, due: Due)
     requires { vec_len owed.old + 1 ≤ vec_capacity owed.old }
     ensures items { owed.new.items ≡ owed.old.items ++ due ∷ [] }
@@ -106,8 +106,8 @@ fn put_due(owed: &mut Vec<Due>, due: Due)
     owed.push_reserved(due);
 }
 
-/// Takes each piece and of each connection the request of the first whole frame; the inputs that they ask for come behind the others,
-/// and what is due for them behind what was.
+/// Takes each piece, and of each connection the request of its first whole frame. The inputs of the requests go after
+/// the others, and the replies due for them after those due before.
 pub fn take_all(
     alloc: Global,
     sessions: &mut [Session],

@@ -5,11 +5,11 @@ use um_asserts::same;
 use um_backlog::Backlog;
 use um_gate::Gate;
 
-/// Bytes that are put for a client, and whether they are its last; then what the gate has taken for it, in how many writes, and
-/// whether it was given up.
+/// Bytes that are put for a client, and whether they are its last; then the bytes that the gate has taken for it, in
+/// how many writes, and whether it was given up.
 type Put = (&'static [u8], bool, &'static [u8], usize, bool);
 
-/// Clients, how many bytes each takes of a write, and what is put for it, one behind the other.
+/// Clients, how many bytes each takes of a write, and the bytes put for it, in order.
 const CLIENTS: &[(usize, usize, &[Put])] = &[
     // one gets all in order
     (

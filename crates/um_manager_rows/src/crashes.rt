@@ -1,4 +1,4 @@
-//! Managers that are opened behind a crash.
+//! Managers that are opened after a crash.
 use crate::managers::{
     DONE, InMemory, PUT, RELOAD, SHOW, START, boot, frames, has_output, new_store, over, parts_of,
     play, started,
@@ -20,7 +20,7 @@ const LOST: &str =
 /// The text of a service.
 const SLEEPS: &str = "[Service]\nExecStart=/bin/sleep 9\n";
 
-/// What came of an event at moment 0: how many actions it asked for. None of them is carried out.
+/// The result of an event at moment 0: how many actions it has. None of them is carried out.
 fn submit<D: Disk>(keeper: &mut Keeper<D>, event: Event) -> Result<usize, Refusal> {
     let mut receipt = keeper.submit(Input::new(Moment::FIRST, event))?;
     let mut count: usize = 0;
@@ -32,7 +32,7 @@ fn submit<D: Disk>(keeper: &mut Keeper<D>, event: Event) -> Result<usize, Refusa
     Ok(count)
 }
 
-/// Submits an event that is taken, and asserts that it asks for so many actions.
+/// Submits an event that is taken, and asserts how many actions it has.
 fn take<D: Disk>(rt: &impl Abort, keeper: &mut Keeper<D>, event: Event, actions: usize) {
     same!(rt, submit(keeper, event).expect(rt, "not taken"), actions);
 }
@@ -61,7 +61,8 @@ fn with_order(rt: &(impl AllocGlobal + Abort), fails: u64) -> Box<Keeper<Fuse<Me
     keeper
 }
 
-/// What a crash leaves within the record of two sectors behind the start: of each of them the old or the new value.
+/// The disk that a crash leaves within the record of two sectors after the start: of each of them the old or the new
+/// value.
 fn left(rt: &(impl AllocGlobal + Abort), picks: &[usize]) -> MemDisk {
     let calls = Box::into_inner(with_order(rt, 0)).into_disk().calls();
     // the record's sync: two sectors are written before it
@@ -76,8 +77,8 @@ fn left(rt: &(impl AllocGlobal + Abort), picks: &[usize]) -> MemDisk {
     disk.crash(rt.alloc(), picks).expect(rt, "no memory")
 }
 
-/// Asserts that all but the number were let go, below the one behind it, that it was asked for once, with a claim, and told to be absent, that it was
-/// let go then, and that nothing was started or signalled.
+/// Asserts that all but the number were forgotten, below the next one, that it was queried once, with a claim, and
+/// reported absent, that it was forgotten then, and that nothing was started or signalled.
 fn told_absent(rt: &impl Abort, calls: &[Call]) {
     let [
         Call::ForgotOthers { live, next },
@@ -97,7 +98,7 @@ fn told_absent(rt: &impl Abort, calls: &[Call]) {
     same!(rt, next.get(), 2);
 }
 
-/// The manager that is opened behind the crash.
+/// The manager that is opened after the crash.
 fn again(rt: &(impl AllocGlobal + Abort), picks: &[usize]) -> Box<InMemory> {
     let manager = over(rt, left(rt, picks));
     same!(rt, manager.adopted(), 1);
@@ -107,7 +108,8 @@ fn again(rt: &(impl AllocGlobal + Abort), picks: &[usize]) -> Box<InMemory> {
 /// What a crash leaves of the torn record, and how many files the manager has then: that of the record is absent where the record is.
 const LEFT: &[([usize; 2], usize)] = &[([0, 0], 1), ([1, 0], 1), ([0, 1], 1), ([1, 1], 2)];
 
-/// Asserts that the manager that is opened behind the crash has so many files, and that its children were told of the order.
+/// Asserts that the manager that is opened after the crash has this many files, and that the number of the order is
+/// absent.
 fn is_lost(rt: &(impl AllocGlobal + Abort), picks: &[usize], files: usize) {
     let manager = again(rt, picks);
     same!(rt, manager.state().tree().len(), files);
@@ -126,7 +128,7 @@ fn answers<D: Disk, C: Children>(
     has_output(rt, manager, 0, replies);
 }
 
-/// Asserts that the manager that is opened behind the crash starts the next number.
+/// Asserts that the manager that is opened after the crash starts the next number.
 fn starts_next(rt: &(impl AllocGlobal + Abort), picks: &[usize]) {
     let mut manager = again(rt, picks);
     let requests = frames(rt, &[SHOW, START]);

@@ -4,7 +4,7 @@ use um_asserts::{same, same_at};
 use um_ctl::exchange;
 use um_stream::Fault;
 
-/// What is written for a request, and the text of the reply.
+/// The bytes written for a request, and the text of the reply.
 fn exchanged(
     rt: &(impl AllocGlobal + Abort),
     request: &[u8; 2],
@@ -26,7 +26,7 @@ fn a_frame_goes_and_a_frame_comes(rt: HostRuntime) {
     );
 }
 
-/// What is no frame of a reply.
+/// Bytes that are no frame of a reply.
 const CUT: &[&[u8]] = &[b"", b"\0\0\0", b"\0\0\0\x03ab", b"\x01\0\0\x01abcd"];
 
 #[test]

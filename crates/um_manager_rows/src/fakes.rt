@@ -20,13 +20,13 @@ fn started(rt: &(impl AllocGlobal + Abort)) -> FakeChildren {
     children
 }
 
-/// Asserts that the fate of number 1 can't be asked.
+/// Asserts that the query of number 1's fate fails.
 fn fails(rt: &impl Abort, children: &mut FakeChildren, claim: bool) {
     let answer = children.fate(number(rt, 1), claim);
     same!(rt, answer, Err(ChildFault::Device));
 }
 
-/// Asserts that so many calls have failed.
+/// Asserts that this many calls have failed.
 fn has_failed(rt: &impl Abort, children: &FakeChildren, wanted: u64) {
     same!(rt, children.failures(), wanted);
 }
@@ -139,7 +139,7 @@ fn is_refused(rt: &impl Abort, children: &FakeChildren) {
     has_failed(rt, children, 0);
 }
 
-/// The lines of a service of which one word is so many bytes long, or its value is said so many times.
+/// The lines of a service of which one word is `bytes` bytes long, or its value is given `times` times.
 fn long_lines(rt: &(impl AllocGlobal + Abort), bytes: usize, times: usize) -> String {
     let mut lines = text!(rt, "Environment=X=");
     for _ in 0..bytes {

@@ -29,7 +29,7 @@ fn holds(
     same!(rt, bytes.as_slice(), wanted);
 }
 
-/// The children of a folder, in a box, which a row lets go in one call.
+/// The children of a folder, in a box, which a row drops in one call.
 fn children<'a, R: AllocGlobal + Files + Processes + Clock + Abort>(
     rt: &'a R,
     folder: &str,
@@ -50,7 +50,7 @@ fn forget<C: Children>(rt: &impl Abort, children: &mut C, n: u64) {
     children.forget(number(rt, n)).expect(rt, "not forgotten");
 }
 
-/// Files of another form, and what they hold.
+/// Files of another form, and their contents.
 const ODD: &[(&str, &[u8])] = &[
     ("1.status", b""),
     ("2.status", b"code 256\n"),
@@ -69,7 +69,7 @@ fn put_odd(rt: &(impl AllocGlobal + Files<File = File> + Abort), folder: &str) {
     put(rt, folder, "7.status", [b'7'; 1_000_000].as_slice());
 }
 
-/// Asserts what these files tell, and that the number whose pid is none can be killed.
+/// Asserts the reports of these files, and that the number whose pid is none can be killed.
 fn tell_no_error<C: Children>(rt: &impl Abort, children: &mut C) {
     for n in [1, 2, 3, 6, 7, 8] {
         told(rt, children, n, true, Fate::Ended(End::Lost));
@@ -203,7 +203,7 @@ fn second_of(rt: &impl Abort, time: SystemTime) -> SystemTime {
     second.expect(rt, "no second of a time")
 }
 
-/// The time of some folders goes on in whole seconds: it is here as before the status came.
+/// The time of some folders goes on in whole seconds: it is here as before the status was written.
 #[test]
 fn an_end_is_found_within_a_second_where_the_folder_s_time_is_of_whole_seconds(
     rt: HostRuntime,
@@ -224,13 +224,13 @@ fn an_end_is_found_within_a_second_where_the_folder_s_time_is_of_whole_seconds(
     Ok(())
 }
 
-/// Asserts that nothing is let go where the next number is the one whose files stand there.
+/// Asserts that no number is forgotten if the next number is the one whose files stand there.
 fn lets_none_go<C: Children>(rt: &impl Abort, children: &mut C) {
     let refused = children.forget_others(&[], next(rt, 7));
     same!(rt, refused, Err(ChildFault::Device));
 }
 
-/// Asserts that no fate can be asked.
+/// Asserts that no fate can be queried.
 fn tells_nothing<C: Children>(rt: &impl Abort, children: &mut C) {
     let refused = children.fate(number(rt, 1), true);
     same!(rt, refused, Err(ChildFault::Device));

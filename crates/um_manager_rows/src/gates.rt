@@ -1,4 +1,4 @@
-//! Gates in memory, and what they took.
+//! Gates in memory, and the bytes that they took.
 use std::process::Abort;
 use um_asserts::same;
 use um_gate::{FakeGate, Gate, MOST_BYTES, Note};
@@ -8,12 +8,12 @@ pub fn bytes(rt: &(impl AllocGlobal + Abort), text: &[u8]) -> Vec<u8> {
     Vec::from_slice(rt.alloc(), text).expect(rt, "no memory")
 }
 
-/// A gate to which no client came yet.
+/// A gate to which no client has connected yet.
 pub fn new_gate(rt: &(impl AllocGlobal + Abort)) -> FakeGate {
     FakeGate::new(rt.alloc()).expect(rt, "no memory")
 }
 
-/// A client that sends these bytes in one part, stays, and takes at most so many bytes of a write.
+/// A client that sends these bytes in one part, stays, and takes at most `limit` bytes of a write.
 pub fn add_client(
     rt: &(impl AllocGlobal + Abort),
     gate: &mut FakeGate,
@@ -26,7 +26,7 @@ pub fn add_client(
         .expect(rt, "no memory");
 }
 
-/// A gate that has accepted a client that sends nothing, and takes at most so many bytes of a write.
+/// A gate that has accepted a client that sends nothing, and takes at most `limit` bytes of a write.
 pub fn with_client(rt: &(impl AllocGlobal + Abort), number: usize, limit: usize) -> FakeGate {
     let mut gate = new_gate(rt);
     add_client(rt, &mut gate, number, b"", limit);
@@ -34,8 +34,8 @@ pub fn with_client(rt: &(impl AllocGlobal + Abort), number: usize, limit: usize)
     gate
 }
 
-/// What the gate took for a connection, one write behind the other, how many writes it was offered, and whether the connection was
-/// given up.
+/// The bytes that the gate took for a connection, write after write, how many writes it was offered, and whether the
+/// connection was given up.
 #[derive(Drop)]
 pub struct Taken {
     pub bytes: Vec<u8>,
@@ -43,7 +43,7 @@ pub struct Taken {
     pub is_dropped: bool,
 }
 
-/// What the gate took for the connection of this number.
+/// The bytes that the gate took for the connection of this number.
 pub fn what_was_taken(rt: &(impl AllocGlobal + Abort), gate: &FakeGate, number: usize) -> Taken {
     let mut bytes = Vec::new(rt.alloc());
     let mut writes: usize = 0;
@@ -71,7 +71,7 @@ pub fn what_was_taken(rt: &(impl AllocGlobal + Abort), gate: &FakeGate, number: 
     }
 }
 
-/// What the gate was offered for a connection, a part a write.
+/// The bytes that the gate was offered for a connection, a part a write.
 pub fn what_was_offered(
     rt: &(impl AllocGlobal + Abort),
     gate: &FakeGate,
@@ -95,7 +95,7 @@ pub fn what_was_offered(
     parts
 }
 
-/// What a read of at most so many bytes gives; the client is there still.
+/// The bytes of a read of at most `most` bytes; the client is there still.
 fn read_of(
     rt: &(impl AllocGlobal + Abort),
     gate: &mut FakeGate,
@@ -108,7 +108,7 @@ fn read_of(
     read
 }
 
-/// Reads of a client that sends `abcde`, one after another: of how many bytes at most, and what they give.
+/// Reads of a client that sends `abcde`, one after another: of how many bytes at most, and the bytes they give.
 const READS: &[(usize, &[u8])] = &[(0, b""), (2, b"ab"), (0, b""), (4096, b"cde"), (4096, b"")];
 
 #[test]

@@ -1,4 +1,4 @@
-//! What the help says of verbs and refusals, and text as it is shown.
+//! The help on verbs and refusals, and text as it is shown.
 use std::process::Abort;
 use um_asserts::{same, same_at};
 use um_ctl::{meaning_line, on_terminal, shown, verb_lines};

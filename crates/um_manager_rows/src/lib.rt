@@ -1,5 +1,5 @@
-//! Worked rows of processes, the manager and its clients: runners and children, scripts of turns, openings behind a crash, what is served over
-//! a gate, and what the client asks and tells, by public calls alone.
+//! Worked rows of processes, the manager and its clients: runners and children, scripts of turns, openings after a
+//! crash, serving over a gate, and the requests and output of the client, by public calls alone.
 #![tactic(auto)]
 
 #[cfg(test)]

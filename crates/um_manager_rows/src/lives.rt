@@ -54,7 +54,7 @@ fn copies(
     (disk, children)
 }
 
-/// What a crash leaves of the disk, with what is picked of the sectors that weren't synced.
+/// The disk that a crash leaves, by the picks of the sectors that weren't synced.
 fn left(rt: &(impl AllocGlobal + Abort), disk: Fuse<MemDisk>, picks: &[usize]) -> MemDisk {
     let crashed = disk.into_inner().crash(rt.alloc(), picks);
     crashed.expect(rt, "no memory")
@@ -73,7 +73,7 @@ fn calls_of(
     disk.calls()
 }
 
-/// Plays the turns, which are answered so, and asserts that the disk fails behind the last request.
+/// Plays the turns, which are answered so, and asserts that the disk fails after the last request.
 fn is_torn<D: Disk, C: Children>(
     rt: &(impl AllocGlobal + Abort),
     manager: &mut Manager<D, C>,
@@ -88,7 +88,8 @@ fn is_torn<D: Disk, C: Children>(
     drop(torn);
 }
 
-/// A life: these requests are answered, and then the disk fails at the sync of the last one's record, of which the crash keeps what is picked.
+/// A life: these requests are answered, and then the disk fails at the sync of the last one's record, of which the
+/// crash keeps the picked sectors.
 fn life(
     rt: &(impl AllocGlobal + Abort),
     disk: MemDisk,
@@ -110,8 +111,8 @@ fn life(
     (left(rt, disk, picks), children)
 }
 
-/// A life that ends in its opening: the disk fails at the last call of that, the sync of the snapshot's header, of which the crash keeps what is
-/// picked.
+/// A life that ends in its opening: the disk fails at the last call of that, the sync of the snapshot's header, of
+/// which the crash keeps the picked sectors.
 fn opening(
     rt: &(impl AllocGlobal + Abort),
     disk: MemDisk,
@@ -130,7 +131,7 @@ fn opening(
     }
 }
 
-/// What both lives and the opening leave.
+/// The disk and the children that both lives and the opening leave.
 fn lived(rt: &(impl AllocGlobal + Abort), picks: &[usize]) -> (MemDisk, FakeChildren) {
     let children = FakeChildren::new(rt.alloc());
     let (disk, children) = life(
@@ -163,9 +164,10 @@ fn both_run<D: Disk, C: Children>(rt: &(impl AllocGlobal + Abort), manager: &mut
     same!(rt, manager.state().tree().len(), 2);
 }
 
-/// By hand: what is kept is a put, a reload and a start, the put that wasn't answered and whose record stood there, and then a reload and a start.
-/// The stop whose record didn't stand there is none of them, and the third opening offers nothing that has an effect, whether its snapshot stood
-/// there or not. So both units run, under 1 and 2, and no number was started twice.
+/// By hand: the inputs kept are a put, a reload and a start, the put that wasn't answered and whose record stood there,
+/// and then a reload and a start. The stop whose record didn't stand there is none of them, and the third opening
+/// offers nothing that has an effect, whether its snapshot stood there or not. So both units run, under 1 and 2, and no
+/// number was started twice.
 #[test]
 fn three_lives_are_one_run(rt: HostRuntime) {
     for picks in &[[0], [1]] {
@@ -176,11 +178,11 @@ fn three_lives_are_one_run(rt: HostRuntime) {
     }
 }
 
-/// What shows `b.service` where the end of its process is lost.
+/// The text that shows `b.service` if the end of its process is lost.
 const B_LOST: &str =
     r#"{"ok":true,"value":{"ActiveState":"failed","Description":"","Id":"b.service","LoadState":"loaded","MainNumber":0,"Result":"lost","SubState":"failed","Warnings":[]}}"#;
 
-/// A turn in which this comes of connection 0, and which answers Done.
+/// A turn in which this piece arrives on connection 0, and which answers Done.
 fn done(rt: &(impl AllocGlobal + Abort), manager: &mut InMemory, request: &str) {
     play(rt, manager, &[frames(rt, &[request]).as_slice()]);
     has_output(rt, manager, 0, &[DONE]);
@@ -199,7 +201,8 @@ fn two_clients(rt: &(impl AllocGlobal + Abort), manager: &mut InMemory) {
     has_output(rt, manager, 1, &[]);
 }
 
-/// A life of two clients, whose last order is cut off by the stop: its store had answered, and the children weren't asked yet.
+/// A life of two clients, whose last order is cut off by the stop: its store had answered, and the children had no call
+/// yet.
 fn cut_off(rt: &(impl AllocGlobal + Abort)) -> (MemDisk, FakeChildren) {
     let mut manager = over(rt, new_store(rt));
     two_clients(rt, &mut manager);
@@ -227,9 +230,10 @@ fn are_carried(rt: &(impl AllocGlobal + Abort), calls: &[Call]) {
     }
 }
 
-/// By hand: kept is all that both clients were told, which is each put, the reload and both starts; the second put too, of which the client that
-/// closed took nothing. The run asks for the starts of 1 and 2, and behind the second opening of 3: those that were ordered are 1 and 3, in that order.
-/// The end of 2, whose order was cut off, is told as lost.
+/// By hand: the inputs kept are all that were answered to both clients, which are each put, the reload and both starts;
+/// the second put too, of which the client that closed took nothing. The run wants the starts of 1 and 2, and after the
+/// second opening of 3: those that were ordered are 1 and 3, in that order. The end of 2, whose order was cut off, is
+/// reported as lost.
 #[test]
 fn what_two_clients_were_told_outlives_a_stop_that_cuts_off_an_order(rt: HostRuntime) {
     let (disk, children) = cut_off(&rt);

@@ -1,4 +1,4 @@
-//! Managers over a disk and children in memory, and what is sent to them.
+//! Managers over a disk and children in memory, and the requests sent to them.
 use std::process::Abort;
 use um_asserts::{same, text};
 use um_children::{Call, Children, FakeChildren};
@@ -42,7 +42,7 @@ pub fn new_store(rt: &(impl AllocGlobal + Abort)) -> MemDisk {
     disk
 }
 
-/// The manager that is opened over a disk, with these children, in a box, which a row lets go in one call.
+/// The manager that is opened over a disk, with these children, in a box, which a row drops in one call.
 pub fn over_children<D: Disk, C: Children>(
     rt: &(impl AllocGlobal + Abort),
     disk: D,
@@ -69,7 +69,7 @@ pub fn frames(rt: &(impl AllocGlobal + Abort), texts: &[&str]) -> Vec<u8> {
     um_asserts::frames(rt.alloc(), texts).expect(rt, "no memory")
 }
 
-/// What comes of connections, by their numbers.
+/// The pieces of connections, by their numbers.
 pub fn pieces(rt: &(impl AllocGlobal + Abort), sent: &[(usize, &[u8])]) -> Pieces {
     let mut pieces = Pieces::none(rt.alloc()).expect(rt, "no memory");
     for (number, bytes) in sent {
@@ -80,7 +80,7 @@ pub fn pieces(rt: &(impl AllocGlobal + Abort), sent: &[(usize, &[u8])]) -> Piece
     pieces
 }
 
-/// The turns in each of which one of these comes of connection 0.
+/// The turns in each of which one of these arrives on connection 0.
 fn steps(rt: &(impl AllocGlobal + Abort), sent: &[&[u8]]) -> Vec<Step> {
     let mut steps = Vec::new(rt.alloc());
     for bytes in sent {
@@ -93,7 +93,7 @@ fn steps(rt: &(impl AllocGlobal + Abort), sent: &[&[u8]]) -> Vec<Step> {
     steps
 }
 
-/// A turn for each of these, in which it comes of connection 0.
+/// A turn for each of these, in which it arrives on connection 0.
 pub fn turns<D: Disk, C: Children>(
     rt: &(impl AllocGlobal + Abort),
     manager: &mut Manager<D, C>,
@@ -102,7 +102,7 @@ pub fn turns<D: Disk, C: Children>(
     manager.run_script(&steps(rt, sent))
 }
 
-/// Plays a turn for each of these, in which it comes of connection 0.
+/// Plays a turn for each of these, in which it arrives on connection 0.
 pub fn play<D: Disk, C: Children>(
     rt: &(impl AllocGlobal + Abort),
     manager: &mut Manager<D, C>,
@@ -111,7 +111,7 @@ pub fn play<D: Disk, C: Children>(
     turns(rt, manager, sent).expect(rt, "refused");
 }
 
-/// A turn in which this comes.
+/// A turn in which these pieces arrive.
 pub fn turn<D: Disk, C: Children>(
     manager: &mut Manager<D, C>,
     sent: &Pieces,
@@ -119,7 +119,7 @@ pub fn turn<D: Disk, C: Children>(
     manager.turn(Moment::FIRST, sent)
 }
 
-/// Asserts that just the frames of these texts were put out for a connection, and that its session hasn't failed.
+/// Asserts that exactly the frames of these texts were put out for a connection, and that its session hasn't failed.
 pub fn has_output<D: Disk, C: Children>(
     rt: &(impl AllocGlobal + Abort),
     manager: &mut Manager<D, C>,

@@ -16,12 +16,12 @@ pub fn next(rt: &impl Abort, n: u64) -> NextNumber {
     NextNumber::new(n).expect(rt, "no next number")
 }
 
-/// Asserts what is told of a number.
+/// Asserts the fate of a number.
 pub fn told<C: Children>(rt: &impl Abort, children: &mut C, n: u64, claim: bool, wanted: Fate) {
     same_at!(rt, children.fate(number(rt, n), claim), Ok(wanted), n);
 }
 
-/// The keeper that is opened over a disk, in a box, which a row lets go in one call.
+/// The keeper that is opened over a disk, in a box, which a row drops in one call.
 pub fn keeper_over<D: Disk>(rt: &(impl AllocGlobal + Abort), disk: D) -> Box<Keeper<D>> {
     match Keeper::open(rt.alloc(), disk) {
         Ok(keeper) => Box::new(rt.alloc(), keeper).expect(rt, "no memory"),
@@ -58,7 +58,7 @@ fn order_in(mut receipt: Receipt) -> Option<SpawnOrder> {
     order
 }
 
-/// What came of a command at moment 0 that is accepted: its order, if any.
+/// The order of a command at moment 0 that is accepted, if any.
 fn take<D: Disk>(rt: &impl Abort, keeper: &mut Keeper<D>, command: Command) -> Option<SpawnOrder> {
     let input = Input::new(Moment::FIRST, Event::Commanded(command));
     order_in(keeper.submit(input).expect(rt, "not taken"))

@@ -1,4 +1,4 @@
-//! Folders of tests, and what stands in them.
+//! Folders of tests, and the files in them.
 use std::fs;
 use std::fs::{File, Files};
 use std::path::PathBuf;
@@ -6,7 +6,7 @@ use std::process::Abort;
 use std::test::Fail;
 use um_asserts::{place, same_at};
 
-/// A new folder of this name for a test, free of what an earlier process left there.
+/// A new folder of this name for a test, free of files that an earlier process left there.
 pub fn folder(rt: &HostRuntime, name: &str) -> Result<PathBuf, Fail> {
     let path = place(rt, rt.process(), name)?;
     let _ = fs::remove_dir_all(rt, &path);

@@ -1,11 +1,11 @@
-//! Replies, and what is printed for them.
+//! Replies, and the output for them.
 use serde_json::Value;
 use std::process::Abort;
 use um_asserts::{same, same_at};
 use um_ctl::{Told, told_of};
 use um_proto::Verb;
 
-/// A verb, a reply to it, what is printed on standard output and standard error, and the exit status.
+/// A verb, a reply to it, the text on standard output and standard error, and the exit status.
 const TOLD: &[(Verb, &str, &str, &str, u8)] = &[
     (Verb::Start, "{\"ok\":true}", "", "", 0),
     (Verb::ListJobs, "{\"ok\":true,\"value\":[]}", "[]\n", "", 0),
@@ -128,12 +128,12 @@ fn value(rt: &(impl AllocGlobal + Abort), text: &str) -> Value {
     Value::from_str(rt.alloc(), text).expect(rt, "no JSON")
 }
 
-/// What is told of the reply to the verb.
+/// The result of the reply to the verb.
 fn told(rt: &(impl AllocGlobal + Abort), verb: Verb, reply: &str) -> Option<Told> {
     told_of(rt.alloc(), verb, &value(rt, reply)).expect(rt, "no memory")
 }
 
-/// Asserts what is told.
+/// Asserts the output, the error and the status of a result.
 fn is_told(rt: &impl Abort, told: &Told, output: &str, error: &str, status: u8) {
     let got = (told.output.as_str(), told.error.as_str(), told.status);
     same!(rt, got, (output, error, status));
@@ -147,7 +147,7 @@ fn replies_are_told(rt: HostRuntime) {
     }
 }
 
-/// What is no reply.
+/// Texts that are no reply.
 const NONE: &[&str] = &[
     "[]",
     "{}",

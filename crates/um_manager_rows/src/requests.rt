@@ -3,7 +3,7 @@ use std::process::Abort;
 use um_asserts::{same, same_at};
 use um_ctl::{CtlFault, Words, prepare};
 
-/// The words of a line behind `ctl`.
+/// The words of a line after `ctl`.
 fn words_of<'a>(rt: &(impl AllocGlobal + Abort), line: &'a str) -> Vec<&'a str> {
     let mut words = Vec::new(rt.alloc());
     for word in line.split(' ') {
@@ -12,7 +12,7 @@ fn words_of<'a>(rt: &(impl AllocGlobal + Abort), line: &'a str) -> Vec<&'a str> 
     words
 }
 
-/// What becomes of a line with this standard input: the text of a request, or the status of its fault.
+/// The result of a line with this standard input: the text of a request, or the status of its fault.
 fn prepared(
     rt: &(impl AllocGlobal + Abort),
     line: &str,
@@ -107,7 +107,7 @@ fn words_become_requests(rt: HostRuntime) {
     }
 }
 
-/// A line whose text comes on the input.
+/// A line whose text is read from the input.
 const PUT: &str = "put-file lib/a.service";
 
 #[test]
@@ -141,7 +141,7 @@ fn wrong_words_are_wrong_before_the_text_is_read(rt: HostRuntime) {
     }
 }
 
-/// So many times the byte.
+/// `count` times the byte.
 fn bytes_of(rt: &(impl AllocGlobal + Abort), count: usize, byte: u8) -> Vec<u8> {
     vec![in rt.alloc(); byte; count].expect(rt, "no memory")
 }

@@ -12,7 +12,7 @@ use um_runner::{
     Claimant, Claiming, End, Folder, FolderFault, Job, Told, claim, pid_in, run, status_in,
 };
 
-/// Runs the words, of which the first are so many entries, under this number.
+/// Runs the words, of which the first `count` are entries, under this number.
 fn runs(
     rt: &(impl AllocGlobal + Files<File = File> + Net + Processes + Clock + Abort),
     folder: &str,
@@ -31,7 +31,7 @@ fn runs(
     run(&mut host, &job).is_ok()
 }
 
-/// Asserts what the status file tells.
+/// Asserts the content of the status file.
 fn ended(
     rt: &(impl AllocGlobal + Files<File = File> + Abort),
     folder: &str,
@@ -127,7 +127,7 @@ fn a_claimed_number_starts_nothing(rt: HostRuntime) -> Result<(), Fail> {
     Ok(())
 }
 
-/// A draft that was left behind is the claim under another name.
+/// A draft that was left over is the claim under another name.
 #[test]
 fn a_claim_that_stands_is_not_written_again(rt: HostRuntime) -> Result<(), Fail> {
     let place = folder(&rt, "drafts")?;

@@ -57,7 +57,7 @@ fn refused<D: Disk, C: Children>(
     }
 }
 
-/// Asserts that the unit is put, started and shown by these bytes, which come in two parts.
+/// Asserts that the unit is put, started and shown by these bytes, which arrive in two parts.
 fn is_shown(rt: &(impl AllocGlobal + Abort), front: &[u8], rest: &[u8]) {
     let mut manager = over(rt, new_store(rt));
     play(rt, &mut manager, &[front, rest, &[], &[], &[]]);
@@ -80,7 +80,7 @@ fn load<D: Disk, C: Children>(rt: &(impl AllocGlobal + Abort), manager: &mut Man
     has_output(rt, manager, 0, &[DONE, DONE]);
 }
 
-/// Asserts that one connection is shown what the other one starts in the same turn.
+/// Asserts that one connection is shown the unit that the other one starts in the same turn.
 fn shows_what_starts<D: Disk, C: Children>(
     rt: &(impl AllocGlobal + Abort),
     manager: &mut Manager<D, C>,
@@ -93,7 +93,7 @@ fn shows_what_starts<D: Disk, C: Children>(
     has_output(rt, manager, 2, &[DONE]);
 }
 
-/// Asserts that the first of them is answered its second query in the turn behind it.
+/// Asserts that the first of them has its second query answered in the next turn.
 fn lists_no_job<D: Disk, C: Children>(
     rt: &(impl AllocGlobal + Abort),
     manager: &mut Manager<D, C>,

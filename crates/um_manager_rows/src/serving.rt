@@ -31,7 +31,7 @@ fn buffered<G: Gate + Drop>(rt: &(impl AllocGlobal + Abort), gate: G) -> Box<Buf
     Box::new(rt.alloc(), buffered).expect(rt, "no memory")
 }
 
-/// So many rounds of a manager over a gate, and whether the last one was busy.
+/// Serves `limit` rounds of a manager over a gate, and returns whether the last one was busy.
 fn rounds<D: Disk, C: Children, G: Gate, M: Moments>(
     rt: &impl Abort,
     manager: &mut Manager<D, C>,
@@ -51,7 +51,7 @@ struct Served {
     clock: FakeMoments,
 }
 
-/// What this manager serves over this gate.
+/// A server of this manager over this gate.
 fn served_by(rt: &(impl AllocGlobal + Abort), gate: FakeGate, manager: Box<InMemory>) -> Served {
     Served {
         gate: buffered(rt, gate),
@@ -60,12 +60,12 @@ fn served_by(rt: &(impl AllocGlobal + Abort), gate: FakeGate, manager: Box<InMem
     }
 }
 
-/// What is served over this gate.
+/// A server over this gate.
 fn served_over(rt: &(impl AllocGlobal + Abort), gate: FakeGate) -> Served {
     served_by(rt, gate, over(rt, new_store(rt)))
 }
 
-/// Serves so many rounds, and tells whether the last one was busy.
+/// Serves `limit` rounds, and returns whether the last one was busy.
 fn serve_rounds(rt: &impl Abort, served: &mut Served, limit: usize) -> bool {
     rounds(
         rt,
@@ -84,7 +84,7 @@ fn two_clients(rt: &(impl AllocGlobal + Abort)) -> FakeGate {
     gate
 }
 
-/// Asserts what the first of them has by now, and what the second.
+/// Asserts the bytes that the first of them has by now, and the second.
 fn have(rt: &(impl AllocGlobal + Abort), gate: &FakeGate, first: &[u8], second: &[u8]) {
     for (number, wanted) in [(0, first), (1, second)] {
         let got = what_was_taken(rt, gate, number);
@@ -93,7 +93,7 @@ fn have(rt: &(impl AllocGlobal + Abort), gate: &FakeGate, first: &[u8], second: 
     }
 }
 
-/// So many rounds, whether the last one was busy, and what the first client has then, and what the second.
+/// A number of rounds, whether the last one was busy, and the bytes that the first client has then, and the second.
 const ROUNDS: &[(usize, bool, &[u8], &[u8])] = &[
     (1, true, b"\x00\x00\x00", b""),
     (9, false, DONE, NONE),
@@ -108,7 +108,7 @@ fn clients_that_take_few_bytes_get_their_own_replies(rt: HostRuntime) {
     }
 }
 
-/// What each of the two is offered in its rounds with a write: all that is left of its reply.
+/// The bytes that each of the two is offered in its rounds with a write: all that are left of its reply.
 const OFFERS: &[(usize, &[&[u8]])] = &[
     (
         0,
@@ -131,7 +131,7 @@ const OFFERS: &[(usize, &[&[u8]])] = &[
     ),
 ];
 
-/// Asserts that the gate was offered just these for the client, a part a write.
+/// Asserts that the gate was offered exactly these for the client, a part a write.
 fn was_offered(rt: &(impl AllocGlobal + Abort), gate: &FakeGate, number: usize, wanted: &[&[u8]]) {
     let offered = what_was_offered(rt, gate, number);
     same!(rt, offered.len(), wanted.len());
@@ -150,7 +150,7 @@ fn a_client_that_takes_few_bytes_is_offered_all_that_waits_each_round(rt: HostRu
     }
 }
 
-/// Nine rounds, so many in each call.
+/// Nine rounds, as the sum of the rounds of each call.
 const CALLS: &[&[usize]] = &[&[4, 5], &[3, 0, 6], &[1, 1, 1, 1, 1, 1, 1, 1, 1]];
 
 #[test]
@@ -184,7 +184,8 @@ fn a_round_whose_accept_fails_serves_those_that_are_there(rt: HostRuntime) {
     have(&rt, &served.gate.gate, DONE, NONE);
 }
 
-/// The manager in which `a.service` was put, loaded and started. Its process is over once it was started, and nobody has asked for it yet.
+/// The manager in which `a.service` was put, loaded and started. Its process is over once it was started, and nobody
+/// has queried it yet.
 fn with_process(rt: &(impl AllocGlobal + Abort)) -> Box<InMemory> {
     let mut children = FakeChildren::new(rt.alloc());
     children
@@ -204,12 +205,13 @@ fn live_processes(rt: &(impl AllocGlobal + Abort), manager: Box<InMemory>) -> us
     over(rt, disk).adopted()
 }
 
-/// What is shown of `a.service` behind the end of its process.
+/// The text shown of `a.service` after the end of its process.
 const ENDED: &str =
     r#"{"ok":true,"value":{"ActiveState":"inactive","Description":"","Id":"a.service","LoadState":"loaded","MainNumber":0,"Result":"success","SubState":"dead","Warnings":[]}}"#;
 
-/// Serves three rounds to a client that takes so many bytes of a write, one that holds back the last byte of its request, and one that asks
-/// to be shown `a.service`. Asserts that the last one has its reply, and the other two have these bytes and none.
+/// Serves three rounds to a client that takes at most `limit` bytes of a write, one that holds back the last byte of
+/// its request, and one that wants to be shown `a.service`. Asserts that the last one has its reply, and the other two
+/// have these bytes and none.
 fn three_rounds(rt: &(impl AllocGlobal + Abort), limit: usize, first: &[u8]) -> Box<InMemory> {
     let mut gate = new_gate(rt);
     let (front, _) = LOADS.split_at(LOADS.len() - 1);
@@ -239,8 +241,9 @@ fn a_client_that_holds_back_a_byte_and_one_that_never_reads_hold_up_nobody(rt: H
     }
 }
 
-/// Rounds one by one, of a client that sends two requests in one part and then a third: how many bytes are to be read of it at most, how many
-/// bytes of replies it has then, each of 26, and whether the round was busy.
+/// Rounds one by one, of a client that sends two requests in one part and then a third. Of each round: how many bytes
+/// are to be read of the client at most, how many bytes of replies it has then, each of 26, and whether the round was
+/// busy.
 const ONE_BY_ONE: &[(usize, usize, bool)] = &[
     (4096, 26, true),
     // the second request waits for its turn

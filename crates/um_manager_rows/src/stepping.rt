@@ -1,4 +1,4 @@
-//! Turns behind whose answer a snapshot goes out.
+//! Turns after whose answer a snapshot goes out.
 use crate::managers::{DONE, frames, has_output, new_store, over, parts_of, pieces, turn};
 use crate::orders::keeper_over;
 use std::process::Abort;
@@ -17,7 +17,7 @@ const PUT_C: &str = r#"{"verb":"put-file","path":"lib/c.service","text":""}"#;
 
 const PUT_D: &str = r#"{"verb":"put-file","path":"lib/d.service","text":""}"#;
 
-/// A request that puts so many bytes as a file.
+/// A request that puts a file of `length` bytes.
 fn put_long(rt: &(impl AllocGlobal + Abort), length: usize) -> String {
     let bytes = "#".repeat(rt.alloc(), length).expect(rt, "no memory");
     let mut text = String::new(rt.alloc());
@@ -31,7 +31,7 @@ fn put_long(rt: &(impl AllocGlobal + Abort), length: usize) -> String {
     text
 }
 
-/// A turn in which this comes of connection 0.
+/// A turn in which this request arrives on connection 0.
 fn take(rt: &(impl AllocGlobal + Abort), manager: &mut Counted, request: &str) {
     let sent = frames(rt, &[request]);
     turn(manager, &pieces(rt, &[(0, &sent)])).expect(rt, "refused");
@@ -64,12 +64,12 @@ fn both(rt: &(impl AllocGlobal + Abort), manager: &mut Counted) -> Result<(), Re
     turn(manager, &pieces(rt, &[(0, &first), (1, &second)]))
 }
 
-/// A turn in which nothing comes.
+/// A turn in which nothing arrives.
 fn idle(rt: &(impl AllocGlobal + Abort), manager: &mut Counted) -> Result<(), Refusal> {
     turn(manager, &pieces(rt, &[]))
 }
 
-/// Asserts what both clients are answered.
+/// Asserts the answer to both clients.
 fn answered(rt: &(impl AllocGlobal + Abort), manager: &mut Counted, reply: &str) {
     has_output(rt, manager, 0, &[reply]);
     has_output(rt, manager, 1, &[reply]);
@@ -81,7 +81,7 @@ fn took(rt: &(impl AllocGlobal + Abort), manager: Counted, calls: u64) {
     same!(rt, Some(disk.calls()), calls_before(rt).checked_add(calls));
 }
 
-/// A manager behind the turn of both clients.
+/// A manager after the turn of both clients.
 fn begun(rt: &(impl AllocGlobal + Abort)) -> Counted {
     let mut manager = nearly_full(rt, 0);
     both(rt, &mut manager).expect(rt, "refused");
@@ -89,7 +89,8 @@ fn begun(rt: &(impl AllocGlobal + Abort)) -> Counted {
     manager
 }
 
-/// Asserts how many sectors are left behind so many turns in which nothing comes, and how many calls the disk has made by then.
+/// Asserts how many sectors are left after this many turns in which nothing arrives, and how many calls the disk has
+/// made by then.
 fn goes_out(rt: &(impl AllocGlobal + Abort), turns: usize, left: u32, calls: u64) {
     let mut manager = begun(rt);
     for _ in 0..turns {
@@ -113,7 +114,8 @@ fn files_on(rt: &(impl AllocGlobal + Abort), disk: MemDisk) -> usize {
     keeper_over(rt, disk).state().tree().len()
 }
 
-/// Asserts how many files its store has behind a crash that loses what wasn't synced, and behind one that loses nothing.
+/// Asserts how many files its store has after a crash that loses the unsynced sectors, and after one that loses
+/// nothing.
 fn holds(rt: &(impl AllocGlobal + Abort), manager: Counted, least: usize, most: usize) {
     let (disk, _) = parts_of(manager);
     let disk = disk.into_inner();
@@ -132,7 +134,7 @@ const BEFORE: &[(u64, usize, usize)] = &[
     // the first record, and the sync before the other area
     (1, 1, 1),
     (2, 1, 2),
-    // the second record, and the sync behind both
+    // the second record, and the sync after both
     (3, 2, 2),
     (4, 2, 3),
 ];
@@ -162,7 +164,7 @@ fn a_fault_behind_the_answer_is_the_turns_alone(rt: HostRuntime) {
     }
 }
 
-/// Asserts that a fault at this call is that of the turn behind both clients', whose files stay.
+/// Asserts that a fault at this call is that of the turn after both clients', whose files stay.
 fn fails_behind(rt: &(impl AllocGlobal + Abort), call: u64) {
     let mut manager = failing(rt, call);
     both(rt, &mut manager).expect(rt, "refused");

@@ -3,7 +3,7 @@ use std::process::Abort;
 use um_asserts::{same_at, text};
 use um_runner::{Claimant, End, entries_text, read_claim, read_entries, read_pid, read_status};
 
-/// Texts of a status file, and the ends that they tell.
+/// Texts of a status file, and the ends that they name.
 const STATUSES: &[(&[u8], Option<End>)] = &[
     (b"code 0\n", Some(End::Code(0))),
     (b"code 3\n", Some(End::Code(3))),
@@ -39,7 +39,7 @@ fn a_status_is_read_in_its_one_form(rt: HostRuntime) {
     }
 }
 
-/// Texts of a pid file, and the pids that they tell.
+/// Texts of a pid file, and the pids that they name.
 const PIDS: &[(&[u8], Option<u32>)] = &[
     (b"1\n", None),
     (b"2\n", Some(2)),
@@ -81,7 +81,7 @@ fn every_other_claim_is_a_runners(rt: HostRuntime) {
     }
 }
 
-/// Texts of a file of entries, and the entries that they tell, told behind each other with a `;`.
+/// Texts of a file of entries, and the entries that they hold, joined with a `;`.
 const ENTRIES: &[(&str, Option<&str>)] = &[
     ("\0", Some("")),
     ("\0\0\0", Some("")),
@@ -96,7 +96,7 @@ const ENTRIES: &[(&str, Option<&str>)] = &[
     ("A=b\0C=d", None),
 ];
 
-/// The entries, told behind each other.
+/// The entries, joined.
 fn joined(rt: &(impl AllocGlobal + Abort), entries: &[String]) -> String {
     let mut told = String::new(rt.alloc());
     for entry in entries {
@@ -115,7 +115,7 @@ fn entries_are_read_up_to_an_empty_one(rt: HostRuntime) {
     }
 }
 
-/// Asserts how long the text of one entry is: NAME=value with a value of so many bytes.
+/// Asserts how long the text of one entry is: NAME=value with a value of `size` bytes.
 fn measures(rt: &(impl AllocGlobal + Abort), size: usize, wanted: usize) {
     let value = "x".repeat(rt.alloc(), size).expect(rt, "no memory");
     let entry = format!(in rt.alloc(); "NAME={value}").expect(rt, "no memory");

@@ -71,6 +71,6 @@ fn a_turn_makes_a_disk_call_a_record_and_a_sync(rt: HostRuntime) {
     let before = calls(counted(&rt));
     let mut manager = counted(&rt);
     puts_all(&rt, &mut manager);
-    // 64 records of one sector, and the sync behind them
+    // 64 records of one sector, and the sync after them
     same!(&rt, Some(calls(manager)), before.checked_add(65));
 }

@@ -22,11 +22,11 @@ stands_in {image = image} {layout = layout} {s = s} mine l t store =
 
 -- ---- disks in memory
 
--- what a read gives of a disk in memory is a store, where each image is
+-- the image that a read gives of a disk in memory is a store, if each image is
 pub seen_store : (d : MemDisk) (layout : Layout) (s : State) → Images (history d) (λ image. IsStoreOf layout image s) → IsStoreOf layout (seen (history d)) s
 seen_store d layout s each = each (seen (history d)) (seen_is_image d.start.items d.noted.items)
 
--- a settled disk shows what it showed
+-- a read of a settled disk gives the same as before
 pub same_seen : (d e : MemDisk) → e.start.items ≡ d.held.items → e.noted.items ≡ [] → seen (history e) ≡ seen (history d)
 same_seen d e start none =
     ap (λ (n : List Noted). seen (past_of e.start.items n)) none ∙ ap (λ (s : List Sector). seen (past_of s [])) start ∙ (λ i k. d.shown k i)
@@ -49,6 +49,6 @@ opened_first d layout l t each stands = stands layout empty_state (seen_store d 
 pub size_again : (size n : ℕ) (layout l : Layout) → size ≡ body_limit l → n ≡ body_limit layout → l ≡ layout → size ≡ n
 size_again size n layout l is was same = is ∙ ap (λ (m : Layout). body_limit m) same ∙ sym was
 
--- that of this layout is the one told
+-- that of this layout is the one named
 pub size_first : (size : ℕ) (layout l : Layout) → size ≡ body_limit l → l ≡ layout → layout.slot_sectors ≡ 16384 → size ≡ memory_size
 size_first size layout l is same slot = is ∙ ap (λ (m : Layout). body_limit m) same ∙ ap (λ n. (n - 1) * 512) slot

@@ -1,4 +1,4 @@
--- What was read, as a frame or as the end of a stream.
+-- The piece that was read: a frame, or the end of a stream.
 use Rattle.std.proofs.Common.{◌≡◌, ℕ, ◌<◌, ◌≤◌, List, [], ◌++◌, length, Option, Some, None, Vec, Global, sym, ap, ◌∙◌, subst, append-nil}
 use Rattle.std.specs.Io.KnownBytes.{Consumes, IsAtEnd}
 use Rattle.byteorder.specs.Endian.{big_number}
@@ -25,7 +25,7 @@ whole_frame (Some xs) (Some ys) None h v p q four is low = absurd q
 whole_frame (Some xs) (Some ys) (Some zs) h v p q four is low =
     record { header = h; four = four; length_is = is; short = low; whole = p ∙ ap (λ l. h ++ l) q }
 
--- a length came, and behind it a frame or less
+-- a length was read, and after it a frame or less
 pub comes_body : (a b d : Option (List ℕ)) (h : List ℕ) (size : ℕ) (piece : Piece) → Consumes a b h → length h ≡ 4 → size ≡ big_number 4 h → size ≤ frame_limit
     → IsBodyOf size piece b d → Comes piece a d
 comes_body a b d h size (End ending) p four is low (inside, part, short, taken, end) =

@@ -1,4 +1,4 @@
--- What two clauses say of one result, and refusals.
+-- The joint facts of two clauses on one result, and refusals.
 use Rattle.std.proofs.Common.{◌≡◌, ◌≢◌, ◌⊎◌, ◌↔◌, inl, inr, ⊎_elim, ℕ, Bool, true, false, [], Result, Ok, Err, sym, subst, ◌∙◌}
 use Rattle.std.proofs.lemmas.Bool.{cases_Bool, false≢true}
 use Rattle.std.specs.Result.{IfOk, OnOk}

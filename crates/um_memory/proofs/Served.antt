@@ -1,4 +1,4 @@
--- Replies to a stream, frame by frame, where reader and writer tell their bytes.
+-- Replies to a stream, frame by frame, where the bytes of reader and writer are known.
 use Rattle.std.proofs.Common.{◌≡◌, ℕ, List, [], ◌++◌, Option, Some, None, Vec, Global, subst}
 use Rattle.std.specs.Io.KnownBytes.{Appends}
 use Rattle.std.proofs.KnownBytes.{Appends-trans}

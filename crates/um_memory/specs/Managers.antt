@@ -1,4 +1,4 @@
--- What a manager in memory holds, and what it writes for what it reads.
+-- The state that a manager in memory holds, and its output for its input.
 use Rattle.std.specs.Prelude.{◌≡◌, ℕ, List, [], ◌++◌, map, Option}
 use Rattle.std.specs.Io.KnownBytes.{Appends}
 use Rattle.um_model.specs.Machine.{State, Event, Reply, Told, Step}
@@ -20,12 +20,12 @@ size_of m = size_in m.keeper
 abbrev pub kept_of : Manager → List Action
 kept_of m = map action_of m.kept.items
 
--- the actions that a reply tells
+-- the actions that a reply names
 abbrev pub actions_told : Reply → List Action
 actions_told (Told actions) = actions
 actions_told other = []
 
--- one step for an event at the moment told, or at the clock's; its actions are kept
+-- one step for an event at the given moment, or at the clock's; its actions are kept
 abbrev pub StepsTo : Manager → Option ℕ → Event → Reply → Manager → Type 0
 StepsTo m at event reply n =
     (actions : List Action) × Step (size_of m) (state_of m) (input_of (state_of m) at event) reply actions (state_of n) × (kept_of n ≡ kept_of m ++ actions)
@@ -45,7 +45,7 @@ pub data BeginsReply (m : Manager) (bytes : List ℕ) (old new : Option (List �
   front : (reply : Reply) (t : State) (left : List Action) (part more : List ℕ) → Answers (size_of m) (state_of m) (kept_of m) bytes reply t left
       → frame_of (reply_text reply) ≡ part ++ more → Appends old new part → BeginsReply m bytes old new
 
--- what was written for what was read, from this manager on
+-- the output written for the input read, from this manager on
 abbrev pub WritesReplies : Manager → Option (List ℕ) → Option (List ℕ) → Option (List ℕ) → Ending → Type 0
 WritesReplies m = WritesFrom (size_of m) (state_of m) (kept_of m)
 

@@ -1,4 +1,4 @@
--- What a store in memory stands for, and what it refuses.
+-- The state that a store in memory stands for, and its refusals.
 use Rattle.std.specs.Prelude.{◌≡◌, ◌≢◌, ℕ}
 use Rattle.um_model.specs.Disk.{Image}
 use Rattle.um_model.specs.Machine.{State}

@@ -9,7 +9,7 @@ use std::alloc::{AllocError, Global};
 use um_keeper::{Handed, Receipt};
 use um_state::{Action, Reply};
 
-/// The actions that a reply tells.
+/// The actions that a reply names.
 pub fn told_in(alloc: Global, reply: Reply) -> Vec<Action>
     ensures { map action_of result.items ≡ actions_told (reply_of reply) }
 {
@@ -19,7 +19,7 @@ pub fn told_in(alloc: Global, reply: Reply) -> Vec<Action>
     }
 }
 
-/// What was handed out, as an action again.
+/// A handed action, as an action again.
 fn action_in(handed: Handed) -> Action
     ensures { action_of result ≡ handed_of handed }
 {

@@ -1,3 +1,4 @@
+//! Reads and writes the frames of a stream.
 ghost use Rattle.std.specs.Prelude.{IfOk};
 ghost use Rattle.um_memory.specs.Streams.{Comes, IsBodyOf};
 
@@ -10,7 +11,7 @@ use um_stream::{Fault, HEADER, read_up_to};
 /// The longest frame of a request, in bytes.
 const FRAME_LIMIT: usize = 524_288;
 
-/// What comes next on an input.
+/// The next piece of an input.
 #[derive(Debug, Drop)]
 pub enum Piece {
     /// A frame, by the bytes that it holds.
@@ -18,7 +19,7 @@ pub enum Piece {
     End(Ending),
 }
 
-/// The frame behind its length, or its end.
+/// The frame after its length, or the end of the input.
 fn next_body<R: Read>(alloc: Global, input: &mut R, size: usize) -> Result<Piece, Fault>
     ensures frame { IfOk result (λ piece. IsBodyOf size piece (R.remaining input.old) (R.remaining input.new)) }
 {

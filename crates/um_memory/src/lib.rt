@@ -1,4 +1,5 @@
-//! One client over a store in memory: `memory` writes exactly the frames of the replies to what it reads, however that is cut.
+//! One client over a store in memory: `memory` writes exactly the frames of the replies to the frames it reads, however
+//! the input is cut.
 #![tactic(auto)]
 
 mod actions;

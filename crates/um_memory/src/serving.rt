@@ -1,3 +1,4 @@
+//! Serves one client from a stream of frames.
 ghost use Rattle.std.specs.Prelude.{◌≡◌, ◌≤◌, ◌++◌, ℕ, List, [], length, Option, Ok, None, MatchOption, ⊤, false, IfOk, OnOk, OnErr};
 ghost use Rattle.std.specs.Io.KnownBytes.{Appends};
 ghost use Rattle.um_memory.specs.Managers.{state_of, size_of, kept_of, StepsTo, IsAnswered, WritesReply, BeginsReply, WritesReplies, WritesBeginning};
@@ -27,8 +28,8 @@ use um_state::{Action, Event, Input, Reply};
 use um_stream::{Fault, put_frame};
 use um_wire::{Limit, Refusal};
 
-/// The store is renewed behind so many inputs, or fewer where they are long: each counts one, and one more for each whole sector of
-/// its request.
+/// The store is renewed after this many inputs, or fewer if they are long: each counts one, and one more for each whole
+/// sector of its request.
 const RENEWAL: usize = 512;
 
 /// The text of a reply.
@@ -39,7 +40,7 @@ fn text_of(alloc: Global, reply: Reply) -> Result<Vec<u8>, Fault>
     Ok(write_reply(alloc, &reply)?.bytes)
 }
 
-/// The reply that tells the refusal of a step. Any other refusal ends `memory`.
+/// The reply that reports the refusal of a step. Any other refusal ends `memory`.
 fn reply_to(refusal: Refusal) -> Result<Reply, Fault>
     ensures told { IfOk result (λ reply. reply_of reply ≡ model.Refusal (refused_of refusal)) }
     ensures step { OnOk result (IsOfStep refusal) }
@@ -55,9 +56,9 @@ fn reply_to(refusal: Refusal) -> Result<Reply, Fault>
 /// The manager in memory.
 struct Manager {
     keeper: Keeper<MemDisk>,
-    /// The actions since they were last asked for.
+    /// The actions since they were last requested.
     kept: Vec<Action>,
-    /// What the inputs count since the store was renewed.
+    /// The count of the inputs since the store was renewed.
     taken: usize,
 }
 
@@ -111,7 +112,7 @@ impl Manager {
         })
     }
 
-    /// The reply to an event at the moment told, or at the clock's.
+    /// The reply to an event at the given moment, or at the clock's.
     fn take_event(&mut self, at: Option<Moment>, event: Event) -> Result<Reply, Fault>
         requires { has_failed self.old.keeper ≡ false }
         ensures step { IfOk result (λ reply. StepsTo self.old at (event_of event) (reply_of reply) self.new) }
@@ -125,7 +126,7 @@ impl Manager {
         }
     }
 
-    /// The text that tells the actions since they were last asked for. They are kept where it would be too long.
+    /// The text that lists the actions since they were last requested. They are kept if it would be too long.
     fn tell_actions(&mut self, alloc: Global) -> Result<Vec<u8>, Fault>
         ensures text { IfOk result (λ text. text.items ≡ reply_text (Told (kept_of self.old))) }
         ensures short { IfOk result (λ text. length text.items ≤ reply_limit) }
@@ -233,10 +234,10 @@ fn serve_one<R: Read, W: Write>(
     }
 }
 
-/// Answers each frame of the input from the empty state on, over a store in memory, and tells how the input ended.
+/// Answers each frame of the input from the empty state on, over a store in memory, and returns how the input ended.
 ///
-/// Whatever the bytes and however they come, what is written are the frames of the replies to what is read. Where a write or a
-/// read fails, or a growth of memory is refused, it ends and a beginning of them was written.
+/// Whatever the bytes and however they are cut, the output is the frames of the replies to the input. If a write or a
+/// read fails, or a growth of memory is refused, it ends, and a beginning of them was written.
 pub fn memory<R: Read, W: Write>(
     alloc: Global,
     input: &mut R,

@@ -1,3 +1,4 @@
+//! A store on a disk in memory.
 ghost use Rattle.std.specs.Prelude.{◌≡◌, false, IfOk};
 ghost use Rattle.um_memory.specs.Stores.{StandsIn};
 ghost use Rattle.um_keeper.specs.Keepers.{state_in, size_in, layout_in, has_failed};
@@ -63,8 +64,8 @@ pub fn new_store(alloc: Global) -> Result<Keeper<MemDisk>, Fault>
     }
 }
 
-/// The keeper of the same store over its disk as it stands, which keeps nothing of the calls before. It is opened just as behind a
-/// crash, and so it is in the same state.
+/// The keeper of the same store over its disk as it stands, which keeps nothing of the calls before. It is opened as
+/// after a crash, and so it is in the same state.
 pub fn renewed(alloc: Global, keeper: Keeper<MemDisk>) -> Result<Keeper<MemDisk>, Fault>
     requires working { has_failed keeper ≡ false }
     ensures state { IfOk result (λ k. state_in k ≡ state_in keeper) }

@@ -1,4 +1,4 @@
--- What a text of entries tells, entry by entry, and that what is written for entries is read back.
+-- The entries that a text holds, entry by entry, and that the text written for entries is read back.
 use Rattle.std.proofs.Common.{◌≡◌, ◌<◌, ℕ, suc, ◌+◌, Bool, true, false, not, cond, List, [], ◌∷◌, ◌++◌, length, take, drop, Option, Some, None, option_map, refl, sym, ap, ◌∙◌, arith, append_assoc}
 use Rattle.std.specs.List.{list_all, list_any, before_first, after_first, position_or_len}
 use Rattle.std.proofs.lemmas.Bool.{and_parts, or_parts, cond-true, cond-false, false≢true}
@@ -6,11 +6,11 @@ use Rattle.std.proofs.lemmas.List.{append-nil}
 use Rattle.um_model.specs.Text.{is_empty}
 use Rattle.um_runner.specs.Handed.{is_zero, ended, entries_behind, entries_in, entries_text, can_be_handed}
 
--- one entry in front of those that are told
+-- one entry in front of the others
 abbrev pub onto : List ℕ → Option (List (List ℕ)) → Option (List (List ℕ))
 onto entry told = option_map (λ entries. entry ∷ entries) told
 
--- all entries in front of those that are told
+-- all entries in front of the others
 abbrev pub all_onto : List (List ℕ) → Option (List (List ℕ)) → Option (List (List ℕ))
 all_onto [] told = told
 all_onto (entry ∷ entries) told = onto entry (all_onto entries told)
@@ -27,7 +27,7 @@ pub all_onto_none : (entries : List (List ℕ)) → all_onto entries None ≡ No
 all_onto_none [] = refl
 all_onto_none (first ∷ entries) = ap (onto first) (all_onto_none entries)
 
--- what is told once an entry has ended
+-- the entries read once one has ended
 abbrev pub told_at : List ℕ → List ℕ → Option (List (List ℕ))
 told_at entry others = cond (is_empty entry) (Some []) (onto entry (entries_in others))
 
@@ -53,7 +53,7 @@ told_behind begun (b ∷ bs) below =
           ∙ ap (told_at (begun ++ take (1 + p) (b ∷ bs))) (sym (drop_one (1 + p + 1) (p + 1) b bs (omega arith)))
     ]) below
 
--- without a zero byte nothing is told
+-- without a zero byte no entries are read
 pub told_never : (begun text : List ℕ) → position_or_len is_zero text ≡ length text → entries_behind begun text ≡ None
 told_never begun [] all = refl
 told_never begun (b ∷ bs) all =
@@ -63,7 +63,7 @@ told_never begun (b ∷ bs) all =
       | false ↦ λ over. told_never (begun ++ b ∷ []) bs (omega (arith, over))
     ]) all
 
--- an entry without a zero byte, and one behind it
+-- an entry without a zero byte, and one after it
 told_whole : (begun entry others : List ℕ) → list_any is_zero entry ≡ false → entries_behind begun (entry ++ 0 ∷ others) ≡ told_at (begun ++ entry) others
 told_whole begun [] others none = ap (λ entry. told_at entry others) (sym (append-nil begun))
 told_whole begun (b ∷ bs) others none =
@@ -81,7 +81,7 @@ one_more (b ∷ bs) entries rest can so_far =
     not_to_false false is = refl
     not_to_false true is = absurd (false≢true is)
 
--- entries are read back, whatever stands behind them
+-- entries are read back, whatever follows them
 pub read_back : (entries : List (List ℕ)) (rest : List ℕ) → list_all can_be_handed entries ≡ true → entries_in (ended entries ++ rest) ≡ Some entries
 read_back [] rest can = refl
 read_back (entry ∷ entries) rest can =

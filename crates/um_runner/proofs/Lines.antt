@@ -1,4 +1,4 @@
--- A line is a word, a number and LF: what is read of one, and what isn't one.
+-- A line is a word, a number and LF: the reading of one, and the texts that aren't one.
 use Rattle.std.proofs.Common.{◌≡◌, ◌≢◌, ◌<◌, ◌≤◌, ◌⊎◌, ℕ, ◌-◌, ◌^◌, true, false, List, [], ◌++◌, length, get_or, take, drop, Option, Some, None, inl, inr, refl, sym, ap, subst, ◌∙◌, codes, arith, MatchOption, take-append-drop, length-append}
 use Rattle.std.specs.Prelude.{decimal, bytes_eq}
 use Rattle.std.proofs.lemmas.Bool.{true≢false}
@@ -9,7 +9,7 @@ use Rattle.um_model.specs.declared.service.End.{End}
 use Rattle.um_model.specs.declared.service.End.TheVariants.{Code, Signal, Lost}
 use Rattle.um_runner.proofs.RunnerLaws.{pid_parts, number_behind, CanBeTold, status_parts}
 
--- ---- what stands in front and behind
+-- ---- the parts in front and at the end
 
 pub no_front : (word text : List ℕ) → bytes_eq (take (length word) text) word ≡ false → (rest : List ℕ) → text ≢ word ++ rest
 no_front word text other rest e =
@@ -40,7 +40,7 @@ pub other_end : (word text line : List ℕ) → text ≡ word ++ line → bytes_
     → (n : ℕ) → n < 2 ^ 64 → text ≢ word ++ (decimal n ++ codes "\n")
 other_end word text line is other n below e = no_end (codes "\n") line other (decimal n) (append_cancel_left word _ _ (sym is ∙ e))
 
--- it is a line where what stands between is a number
+-- it is a line if the part between is a number
 pub line_of : (word text line digits : List ℕ) (o : Option ℕ) → text ≡ word ++ line → line ≡ digits ++ codes "\n"
     → MatchOption o ((n : ℕ) → n < 2 ^ 64 → digits ≢ decimal n) (λ n. digits ≡ decimal n)
     → MatchOption o ((n : ℕ) → n < 2 ^ 64 → text ≢ word ++ (decimal n ++ codes "\n")) (λ n. text ≡ word ++ (decimal n ++ codes "\n"))

@@ -9,11 +9,11 @@ use Rattle.um_model.specs.declared.service.End.{End}
 use Rattle.um_runner.specs.RunnerSteps.{RunnerStep, not_executed, Ours, Taken, Refused, Claims, Starts, Writes, Waits, yields, fails, refuses, runs}
 use Rattle.um_runner.specs.Lives.{LivesOn, claimed_when}
 
--- steps behind steps
+-- steps after steps
 joined : (a b c xs ys : List RunnerStep) → b ≡ a ++ xs → c ≡ b ++ ys → c ≡ a ++ (xs ++ ys)
 joined a b c xs ys p q = q ∙ ap (λ steps. steps ++ ys) p ∙ append_assoc a xs ys
 
--- what came of the claim, by the answer
+-- the outcome of the claim, by the answer
 pub ours : (x : Bool) (a b : List RunnerStep) → x ≡ true → b ≡ a ++ Claims (claimed_when x) ∷ [] → b ≡ a ++ Claims Ours ∷ []
 ours true a b is p = p
 ours false a b is p = absurd (false≢true is)

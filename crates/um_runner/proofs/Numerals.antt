@@ -11,7 +11,7 @@ use Rattle.std.proofs.lemmas.Str.Parse.{IsNumeralModel, numerals_by_fold, parse_
 use Rattle.um_model.specs.Text.{is_empty}
 use Rattle.um_runner.specs.Numerals.{is_plain}
 
--- the number that these digits and more behind them write
+-- the number that these digits and more after them write
 abbrev read_on : ℕ → List ℕ → ℕ
 read_on n [] = n
 read_on n (c ∷ cs) = read_on (10 * n + (c - 48)) cs
@@ -42,7 +42,7 @@ no_zero : (bs : List ℕ) → is_plain bs ≡ true → get_or bs 0 0 ≡ 48 → 
 no_zero [] plain e = absurd (false≢true plain)
 no_zero (b ∷ bs) plain e = zero_alone bs (subst (λ b. is_plain (b ∷ bs) ≡ true) e plain)
 
--- what is read of a text without zeros in front
+-- the number read of a text without zeros in front
 pub read_number : {E : Type 0} (bs : List ℕ) (r : Result ℕ E) → is_plain bs ≡ true → ParsesUnsigned 64 10 bs r
     → MatchOption (result_ok r) ((n : ℕ) → n < 2 ^ 64 → bs ≢ decimal n) (λ n. bs ≡ decimal n)
 read_number {E = E} bs (Ok n) plain parsed =

@@ -20,7 +20,7 @@ use Rattle.um_model.specs.declared.service.End.TheVariants.{Code, Signal, Lost}
 pub pid_parts : (text : List ℕ) (n : ℕ) → IsPid text n → (text ≡ pid_text n) × (1 < n) × (n < pid_limit)
 pid_parts text n (pid _ some below) = (refl, some, below)
 
--- a text tells one pid at most
+-- a text names one pid at most
 pub one_pid : (text : List ℕ) (m n : ℕ) → IsPid text m → IsPid text n → m ≡ n
 one_pid text m n p q =
     let a = pid_parts text m p in let b = pid_parts text n q in
@@ -28,7 +28,7 @@ one_pid text m n p q =
 
 -- ---- ends
 
--- the end can be told
+-- the end can be named by a text
 abbrev pub CanBeTold : End → Type 0
 CanBeTold (Code code) = code < 256
 CanBeTold (Signal number) = number < 256
@@ -38,7 +38,7 @@ pub status_parts : (text : List ℕ) (end : End) → IsStatus text end → (text
 status_parts text end (exited code below) = (refl, below)
 status_parts text end (killed number below) = (refl, below)
 
--- the number of a line behind its word
+-- the number of a line after its word
 pub number_behind : (word : List ℕ) (m n : ℕ) → m < 2 ^ 64 → n < 2 ^ 64 → word ++ (decimal m ++ codes "\n") ≡ word ++ (decimal n ++ codes "\n") → m ≡ n
 number_behind word m n s t e =
     decimal_injective m n s t (append_cancel_right (decimal m) (decimal n) (codes "\n") (append_cancel_left word _ _ e))
@@ -52,13 +52,13 @@ one_text (Code m) Lost s t e = absurd t
 one_text (Signal m) Lost s t e = absurd t
 one_text Lost b s t e = absurd s
 
--- a text tells one end at most by a code or a signal
+-- a text names one end at most by a code or a signal
 pub one_status : (text : List ℕ) (a b : End) → IsStatus text a → IsStatus text b → a ≡ b
 one_status text a b p q =
     let s = status_parts text a p in let t = status_parts text b q in
     one_text a b s.1 t.1 (sym s.0 ∙ t.0)
 
--- a status file tells one end
+-- a status file names one end
 pub one_end : (text : List ℕ) (a b : End) → TellsEnd text a → TellsEnd text b → a ≡ b
 one_end text a b (told p) (told q) = one_status text a b p q
 one_end text a b (told p) (odd never) = absurd (never a p)
@@ -67,7 +67,7 @@ one_end text a b (odd never) (odd also) = refl
 
 -- ---- claims
 
--- what is written for a claim is read as its claimant's
+-- the text written for a claim is read as its claimant's
 pub claim_read : (claimant : Claimant) → claimant_of (claim_text claimant) ≡ claimant
 claim_read Manager = refl
 claim_read Runner = refl
@@ -122,7 +122,7 @@ ending_found Entries = refl
 one_ending : (a b : RunnerFile) → ending_of a ≡ ending_of b → a ≡ b
 one_ending a b e = same_Some a b (sym (ending_found a) ∙ ap with_ending e ∙ ending_found b)
 
--- what stands before the first dot
+-- the part before the first dot
 abbrev before_dot : List ℕ → List ℕ
 before_dot [] = []
 before_dot (b ∷ bs) = cond (b == 46) [] (b ∷ before_dot bs)

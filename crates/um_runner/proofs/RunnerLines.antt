@@ -1,4 +1,4 @@
--- The parts of a runner's line are told by its words.
+-- The words of a runner's line fix its parts.
 use Rattle.std.proofs.Common.{◌≡◌, ◌≢◌, ◌≤◌, ◌<◌, ℕ, ◌^◌, Bool, true, false, ◌⊎◌, Option, Some, None, MatchOption, inl, inr, List, [], ◌∷◌, ◌++◌, length, get_or, drop, refl, sym, ap, ◌∙◌, arith, take-append-drop, length-append}
 use Rattle.std.specs.Prelude.{decimal}
 use Rattle.std.specs.List.{list_all}
@@ -11,7 +11,7 @@ use Rattle.um_runner.specs.declared.job.Job.{Job}
 use Rattle.um_runner.specs.declared.line.RunnerLine.{RunnerLine}
 use Rattle.um_runner.specs.RunnerLines.{IsHandedLine, IsRunnerLine, TellsRunner, handed_words, line_words}
 
--- behind two words that are alike the rest is alike
+-- after two words that are alike the rest is alike
 pub rest_alike : {A : Type 0} (a b c d : A) (xs ys : List A) → a ∷ b ∷ xs ≡ c ∷ d ∷ ys → xs ≡ ys
 rest_alike a b c d xs ys e = ap (drop 2) e
 
@@ -32,13 +32,13 @@ alike f n c f' n' c' words words' e =
       others = ap (drop 7) e;
     }
 
--- so many entries in front, and a command behind them, are a job
+-- this many entries in front, and a command after them, are a job
 pub can_be_line : (entries command : List (List ℕ)) → list_all is_entry entries ≡ true → 1 ≤ length command → can_be_job (length entries) (entries ++ command) ≡ true
 can_be_line entries command set some =
     and_from _ _ (lt-ltb (length entries) (length (entries ++ command)) (omega (arith, some, length-append entries command)))
     (ap (list_all is_entry) (take_at entries command (length entries) refl) ∙ set)
 
--- the number of a process, by what is read of its digits
+-- the number of a process, by the reading of its digits
 pub process_read : (text : List ℕ) (n : ℕ) (o : Option ℕ) → n < 2 ^ 64 → text ≡ decimal n → MatchOption o ((n ≡ 0) ⊎ (process_limit ≤ n)) (λ p. p ≡ n)
     → MatchOption o ((m : ℕ) → 1 ≤ m → m < process_limit → text ≢ decimal m) (λ m. text ≡ decimal m)
 process_read text n None below is never = λ m low high e.
@@ -48,7 +48,7 @@ process_read text n (Some p) below is same = is ∙ ap decimal (sym same)
 
 -- ---- words that are no runner's line
 
--- they tell no process
+-- they name no process
 pub no_number : (words : List (List ℕ)) (f n c : List ℕ) (others : List (List ℕ)) → words ≡ line_words f n c others
     → ((number : ℕ) → 1 ≤ number → number < process_limit → n ≢ decimal number)
     → (folder : List ℕ) (number : ℕ) (entries command : List (List ℕ)) → IsRunnerLine folder number entries command words → ⊥
@@ -97,7 +97,7 @@ is_line words f n c others is folder named number low high numbered count counte
 
 -- ---- entries that stand in a file
 
--- they tell no process
+-- they name no process
 pub no_handed_number : (words : List (List ℕ)) (f n : List ℕ) (others : List (List ℕ)) → words ≡ handed_words f n others
     → ((number : ℕ) → 1 ≤ number → number < process_limit → n ≢ decimal number)
     → (folder : List ℕ) (number : ℕ) (command : List (List ℕ)) → IsHandedLine folder number command words → ⊥
@@ -147,7 +147,7 @@ pub tells_nothing : (words : List (List ℕ))
 tells_nothing words counted handed false folder number entries command told = counted folder number entries command told
 tells_nothing words counted handed true folder number entries command told = handed folder number command told.1
 
--- what is told where no entries stand among the words
+-- the line if no entries stand among the words
 pub handed_told : (words : List (List ℕ)) (o : Option RunnerLine)
     → ((folder : List ℕ) (number : ℕ) (entries command : List (List ℕ)) → IsRunnerLine folder number entries command words → ⊥)
     → MatchOption o ((folder : List ℕ) (number : ℕ) (command : List (List ℕ)) → IsHandedLine folder number command words → ⊥)

@@ -20,7 +20,7 @@ entries_of job = map string_bytes job.entries.now
 abbrev pub is_entry : List ℕ → Bool
 is_entry word = list_any is_entry_sign word && not (first_passes is_entry_sign word)
 
--- the words can be a job with so many entries
+-- the words can be a job with this many entries
 abbrev pub can_be_job : ℕ → List (List ℕ) → Bool
 can_be_job count words = nat_lt count (length words) && list_all is_entry (take count words)
 
@@ -36,6 +36,6 @@ pub record IsCommandOf {A : Type 0} (words entries : List (List ℕ)) (command :
   pub inherits : clears_env command ≡ false
   pub sets : (name : List ℕ) → command_var command name ≡ option_map Some (entry_value entries name)
 
--- the command sets this variable to this value, and all others to what they were
+-- the command sets this variable to this value, and leaves all others as they were
 abbrev pub SetsTo : {A : Type 0} → (name value : List ℕ) → Command A → Command A → Type 0
 SetsTo name value old new = (command_var new name ≡ Some (Some value)) × SameOtherVars old new name

@@ -1,5 +1,6 @@
--- The files by which a runner tells the manager of a process, and its command line.
--- Follows wait(2) in codes, signals and pids; the files are this project's own (docs/FORMATS.md, "The files of a process").
+-- The files by which a runner reports on a process to the manager, and its command line.
+-- Follows wait(2) in codes, signals and pids; the files are this project's own (docs/FORMATS.md, "The files of a
+-- process").
 -- The runner and the manager's children stand on this file, and the laws in proofs/RunnerLaws.
 use Rattle.std.specs.Prelude.{ℕ, Bool, ◌==◌, ◌<◌, ◌^◌, if◌then◌else◌, List, [], ◌∷◌, ◌++◌, length}
 use Rattle.std.specs.Prelude.{codes, decimal, bytes_eq}
@@ -12,7 +13,7 @@ use Rattle.um_model.specs.declared.service.End.TheVariants.{Code, Signal, Lost}
 
 -- ---- names
 
--- what the name of a file has behind the number
+-- the part of a file's name after the number
 abbrev pub ending_of : RunnerFile → List ℕ
 ending_of Claim = codes ".claim"
 ending_of Pid = codes ".pid"
@@ -54,29 +55,30 @@ pid_text pid = decimal pid ++ codes "\n"
 abbrev pub pid_limit : ℕ
 pid_limit = 2 ^ 31
 
--- the text tells this pid; that of the system's first process is none, and no signal goes there
+-- the text names this pid; that of the system's first process is none, and no signal goes there
 pub data IsPid : List ℕ → ℕ → Type 0 where
   pid : (n : ℕ) → 1 < n → n < pid_limit → IsPid (pid_text n) n
 
--- the text for an end; an end that nobody can tell has nothing
+-- the text for an end; an end that nobody can know has the empty one
 abbrev pub status_text : End → List ℕ
 status_text (Code code) = codes "code " ++ (decimal code ++ codes "\n")
 status_text (Signal number) = codes "signal " ++ (decimal number ++ codes "\n")
 status_text Lost = []
 
--- the text tells this end: by a code or a signal, each below 256
+-- the text names this end: by a code or a signal, each below 256
 pub data IsStatus : List ℕ → End → Type 0 where
   exited : (code : ℕ) → code < 256 → IsStatus (status_text (Code code)) (Code code)
   killed : (number : ℕ) → number < 256 → IsStatus (status_text (Signal number)) (Signal number)
 
--- the end that a status file tells: nobody can tell it where the text is of another form
+-- the end that a status file names: nobody can know it if the text is of another form
 pub data TellsEnd (text : List ℕ) : End → Type 0 where
   told : {end : End} → IsStatus text end → TellsEnd text end
   odd : ((end : End) → IsStatus text end → ⊥) → TellsEnd text Lost
 
 -- ---- the command line
 
--- the words of a runner, behind `umd run`: the folder, the number, how many entries there are, the entries and the words of the command
+-- the words of a runner, after `umd run`: the folder, the number, how many entries there are, the entries and the words
+-- of the command
 abbrev pub runner_words : (folder : List ℕ) (number : ℕ) (entries words : List (List ℕ)) → List (List ℕ)
 runner_words folder number entries words =
     codes "--dir" ∷ folder ∷ codes "--number" ∷ decimal number ∷ codes "--env" ∷ decimal (length entries) ∷ codes "--" ∷ (entries ++ words)

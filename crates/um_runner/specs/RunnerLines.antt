@@ -7,7 +7,7 @@ use Rattle.um_model.specs.Moments.{process_limit}
 use Rattle.um_runner.specs.Runner.{runner_words}
 use Rattle.um_runner.specs.Jobs.{is_entry}
 
--- the words of a runner, whatever stands for its numbers and behind `--`
+-- the words of a runner, whatever stands for its numbers and after `--`
 abbrev pub line_words : (folder number count : List ℕ) (words : List (List ℕ)) → List (List ℕ)
 line_words folder number count words = codes "--dir" ∷ folder ∷ codes "--number" ∷ number ∷ codes "--env" ∷ count ∷ codes "--" ∷ words
 
@@ -30,7 +30,7 @@ pub record IsHandedLine (folder : List ℕ) (number : ℕ) (command words : List
   pub last : number < process_limit
   pub some : 1 ≤ length command
 
--- what the words tell a runner: these entries, or none where a file has them
+-- the words are a runner's line: with these entries, or none if a file has them
 abbrev pub TellsRunner : (has_file : Bool) (folder : List ℕ) (number : ℕ) (entries command words : List (List ℕ)) → Type 0
 TellsRunner false folder number entries command words = IsRunnerLine folder number entries command words
 TellsRunner true folder number entries command words = (entries ≡ []) × IsHandedLine folder number command words

@@ -1,5 +1,6 @@
--- What a runner does, and the names and texts that it alone deals with.
--- Follows systemd.exec(5) in the code of a command that can't be executed; the files are this project's own (docs/FORMATS.md, "The files of a process").
+-- The steps of a runner, and the names and texts that it alone deals with.
+-- Follows systemd.exec(5) in the code of a command that can't be executed; the files are this project's own
+-- (docs/FORMATS.md, "The files of a process").
 use Rattle.std.specs.Prelude.{◌==◌, ◌&&◌, ◌++◌, ◌∷◌, [], ℕ, Bool, true, false, List, reverse, Option, Some, None, codes}
 use Rattle.std.specs.List.{find, before_first, after_first}
 use Rattle.std.specs.Option.{option_map}
@@ -22,13 +23,13 @@ abbrev pub entry_value : List (List ℕ) → List ℕ → Option (List ℕ)
 entry_value entries name =
     option_map (λ entry. after_first is_entry_sign entry) (find (λ entry. bytes_eq (before_first is_entry_sign entry) name) (reverse entries))
 
--- what came of claiming a number: it is this runner's, somebody's claim stood there, or the folder refused it
+-- the outcome of claiming a number: it is this runner's, somebody's claim stood there, or the folder refused it
 pub data Claimed : Type 0 where
   Ours : Claimed
   Taken : Claimed
   Refused : Claimed
 
--- what a runner does, with what the system answers
+-- a step of a runner, with the answer of the system
 pub data RunnerStep : Type 0 where
   -- the number is claimed
   Claims : (claimed : Claimed) → RunnerStep
@@ -43,15 +44,15 @@ pub data RunnerStep : Type 0 where
 abbrev pub not_executed : End
 not_executed = Code 203
 
--- the whole life of a runner for these words and entries, and whether the folder took all that was to be told
+-- the whole life of a runner for these words and entries, and whether the folder took all its reports
 pub data RunnerLife (words entries : List (List ℕ)) : List RunnerStep → Bool → Type 0 where
   -- somebody has the number: nothing is started
   yields : RunnerLife words entries (Claims Taken ∷ []) true
-  -- nobody may start what can't be claimed
+  -- nobody may start a number that can't be claimed
   fails : RunnerLife words entries (Claims Refused ∷ []) false
   -- the command can't be executed: there is no pid
   refuses : (told : Bool) → RunnerLife words entries (Claims Ours ∷ Starts words entries None ∷ Writes Status (status_text not_executed) told ∷ []) told
-  -- the command runs, and its end is told behind its pid, also where the pid couldn't be
+  -- the command runs, and its end is reported after its pid, also if the pid couldn't be
   runs : (pid : ℕ) (end : End) (told_pid told : Bool)
       → RunnerLife words entries
       (Claims Ours ∷ Starts words entries (Some pid) ∷ Writes Pid (pid_text pid) told_pid ∷ Waits end ∷ Writes Status (status_text end) told ∷ [])

@@ -1,3 +1,4 @@
+//! Why a file of a process can't be used.
 ghost use Rattle.std.specs.Prelude.{◌≡◌};
 
 use std::alloc::AllocError;
@@ -10,7 +11,7 @@ pub enum FolderFault {
     /// A growth of memory was refused.
     #[error("no memory")]
     NoMemory,
-    /// The system refused, for the cause that is told.
+    /// The system refused, for the cause shown.
     #[error("{0}")]
     System(io::Error),
 }

@@ -12,7 +12,7 @@ use std::os::unix::fs::OpenOptionsExt;
 use std::{fs, io};
 use um_model::ProcessNumber;
 
-/// So many bytes are read of a file: a few more than the longest text has.
+/// The number of bytes that are read of a file: a few more than the longest text has.
 const LIMIT: usize = 16;
 
 /// As long as the longest text of a pid or an end.
@@ -33,13 +33,13 @@ impl Beginning {
         size: 0,
     };
 
-    /// The bytes.
+    /// The bytes that were read.
     pub fn bytes(&self) -> &[u8] {
         &self.bytes[..self.size]
     }
 }
 
-/// Reads into the buffer until it is full or the file ends, and gives how many bytes came.
+/// Reads into the buffer until it is full or the file ends, and returns the number of bytes read.
 fn fill<F: Read>(file: &mut F, buffer: &mut [u8]) -> io::Result<usize>
     ensures within { IfOk result (λ size. size ≤ length buffer.old) }
     ensures same { length buffer.new ≡ length buffer.old }
@@ -62,8 +62,8 @@ fn fill<F: Read>(file: &mut F, buffer: &mut [u8]) -> io::Result<usize>
     Err(io::Error::from(ErrorKind::Interrupted))
 }
 
-/// Reads the beginning of the file at the path; None where nothing stands there. Of what is no regular file, as a directory, a
-/// link or a pipe, nothing is read: nobody waits for a pipe's other end, and no link is followed.
+/// Reads the beginning of the file at the path; None where nothing stands there. A file that isn't regular, such as a
+/// directory, a link or a pipe, isn't read: nobody waits for a pipe's other end, and no link is followed.
 pub fn read_beginning<R: Files>(rt: &R, path: &str) -> io::Result<Option<Beginning>> {
     let about = match fs::symlink_metadata(rt, path) {
         Ok(about) => about,
@@ -90,13 +90,13 @@ pub fn read_file<R: Files>(
     Ok(read_beginning(rt, path.as_str())?)
 }
 
-/// So often a draft is made anew that another one has made in the meantime.
+/// The number of attempts at a draft, each after the removal of one that somebody else made in the meantime.
 const TRIES: u32 = 8;
 
-/// A draft tells nothing that isn't told to anyone who may look into the folder.
+/// A draft holds nothing that isn't shown to anyone who may look into the folder.
 const DRAFT_MODE: u32 = 0o666;
 
-/// Removes what stands at the path of a draft: a file, or a link and not what it leads to.
+/// Removes the file at the path of a draft, or a link and not the file that it leads to.
 fn remove_draft<R: Files>(rt: &R, path: &str) -> io::Result<()> {
     match fs::remove_file(rt, path) {
         Err(e) if e.kind() != ErrorKind::NotFound => Err(e),
@@ -104,7 +104,8 @@ fn remove_draft<R: Files>(rt: &R, path: &str) -> io::Result<()> {
     }
 }
 
-/// Makes a new file of this mode in place of what stood there: never one that was there before, nor one that a link leads to.
+/// Makes a new file of this mode in place of the one there: never one that was there before, nor one that a link leads
+/// to.
 pub fn make_new<R: Files>(rt: &R, path: &str, mode: u32) -> io::Result<R::File> {
     let mut how = OpenOptions::new();
     how.write(true).create_new(true).mode(mode);
@@ -122,9 +123,10 @@ fn make_draft<R: Files>(rt: &R, path: &str, text: &str) -> io::Result<()> {
     make_new(rt, path, DRAFT_MODE)?.write_all(text.as_bytes())
 }
 
-/// Makes the draft of a file with room for the longest text, and gives it open: a disk that is full later doesn't refuse the file.
+/// Makes the draft of a file with room for the longest text, and returns it open: a disk that is full later doesn't
+/// refuse the file.
 ///
-/// `NoMemory` where memory is wanting, before the folder is touched; `System` where the folder or its disk refuses the draft.
+/// `NoMemory` if memory is wanting, before the folder is touched; `System` if the folder or its disk refuses the draft.
 pub fn reserve<R: Files>(
     rt: &R,
     alloc: Global,
@@ -179,14 +181,14 @@ pub fn replace_file<R: Files>(
     Ok(fs::rename(rt, draft.as_str(), path.as_str())?)
 }
 
-/// What came of making a file where none stood.
+/// The outcome of making a file where none stood.
 #[derive(Clone, Copy, Debug, PartialEq, Eq)]
 pub enum Creation {
     /// It is new.
     New,
     /// One stood there, which is left as it was.
     Stands,
-    /// Its draft was taken away meanwhile by someone who makes the same file.
+    /// Its draft was removed meanwhile by another maker of the same file.
     DraftTaken,
 }
 

@@ -1,3 +1,4 @@
+//! The host of a runner over a real folder and a real process.
 ghost use Rattle.std.specs.Prelude.{◌≡◌, [], false};
 
 use crate::fault::FolderFault;
@@ -19,7 +20,7 @@ use std::time::{Clock, Duration};
 use std::{fs, thread};
 use um_model::{End, ProcessNumber};
 
-/// So many seconds after a status that was refused it is written again.
+/// The seconds after which a status that was refused is written again.
 const PAUSE: u64 = 1;
 
 /// A real folder, and a real process that is started for a number.
@@ -30,7 +31,7 @@ pub struct Folder<'a, R: Files + Net + Processes + Clock> {
     path: &'a str,
     number: ProcessNumber,
     child: Option<Child<R::Started>>,
-    /// What is to be started isn't known, so that nothing is.
+    /// The job isn't known, so nothing is started.
     is_stopped: bool,
     /// The draft of the pid file, which has room for it.
     pid_room: Option<R::File>,
@@ -87,8 +88,8 @@ impl<'a, R: Files + Net + Processes + Clock> Folder<'a, R> {
         command.spawn(self.rt).ok()
     }
 
-    /// Wakes the manager, which then looks at the folder: connects to its socket there, and closes. Nothing is waited for, and where nobody is woken
-    /// nothing is told: the manager looks at the folder once a second in any case.
+    /// Wakes the manager, which then looks at the folder: connects to its socket there, and closes. It waits for
+    /// nothing, and ignores that nobody is woken: the manager looks at the folder once a second in any case.
     fn wake(&self) {
         if let Ok(path) = news_path(self.alloc, self.path) {
             let _woken = UnixStream::connect(self.rt, path.as_str());
@@ -129,7 +130,7 @@ impl<'a, R: Files + Net + Processes + Clock> Folder<'a, R> {
 }
 
 impl<'a, R: Files + Net + Processes + Clock> Host for Folder<'a, R> {
-    // No clause reads it, since nothing is claimed of what the folder holds and the process does.
+    // No clause reads it, since nothing is claimed of the folder and the process.
     ghost past = { λ _. [] };
 
     ghost honest = { λ _. false };

@@ -7,10 +7,10 @@ ghost use Rattle.um_runner.specs.Handed as handed;
 
 use std::alloc::{AllocError, Global};
 
-/// The text has so many bytes at least: once its file is gone, claim, pid and status have that room.
+/// The least length of the text, in bytes: once its file is gone, claim, pid and status have that room.
 const LEAST: usize = 16_384;
 
-/// The entries, a zero byte behind each, and one more at the end.
+/// The entries, a zero byte after each, and one more at the end.
 fn ended(alloc: Global, entries: &[String]) -> Result<Vec<u8>, AllocError>
     ensures { IfOk result (λ text. text.items ≡ handed.ended (map string_bytes entries.now)) }
 {
@@ -38,7 +38,7 @@ fn has_zero(bytes: &[u8]) -> bool
     bytes.iter().any(|b| *b == 0)
 }
 
-/// Whether the text can tell the entry: it isn't empty and has no zero byte.
+/// Whether the text can hold the entry: it isn't empty and has no zero byte.
 fn can_be_handed(entry: &str) -> bool
     ensures { result ≡ handed.can_be_handed entry.now }
 {
@@ -51,14 +51,14 @@ fn can_each_be_handed(entries: &[String]) -> bool
     entries.iter().all(|entry| can_be_handed(entry.as_str()))
 }
 
-/// Whether the text can tell all entries.
+/// Whether the text can hold all entries.
 fn can_all_be_handed(entries: &[String]) -> bool
     ensures { result ≡ list_all handed.can_be_handed (map string_bytes entries.now) }
 {
     can_each_be_handed(entries)
 }
 
-/// Fills the text up.
+/// Fills the text up with zero bytes to its least length.
 fn filled(text: Vec<u8>) -> Result<Vec<u8>, AllocError>
     ensures { IfOk result (λ filled. filled.items ≡ text.items ++ replicate (handed.least_bytes - length text.items) 0) }
 {
@@ -70,8 +70,9 @@ fn filled(text: Vec<u8>) -> Result<Vec<u8>, AllocError>
     Ok(filled)
 }
 
-/// The text for entries: a zero byte behind each and one more at the end, and zero bytes up to 16,384 in all. A longer one is as long as
-/// its entries need. None where it can't tell them, since one is empty or has a zero byte. Refused only for want of memory.
+/// The text for entries: a zero byte after each and one more at the end, and zero bytes up to 16,384 in all. A longer
+/// one is as long as its entries need. None if it can't hold them, since one is empty or has a zero byte. Refused only
+/// for want of memory.
 pub fn entries_text(alloc: Global, entries: &[String]) -> Result<Option<Vec<u8>>, AllocError>
     ensures { IfOk result (λ text. MatchOption text (list_all handed.can_be_handed (map string_bytes entries.now) ≡ false)
         (λ text. (list_all handed.can_be_handed (map string_bytes entries.now) ≡ true) × (text.items ≡ handed.entries_text (map string_bytes entries.now)))) }
@@ -83,7 +84,7 @@ pub fn entries_text(alloc: Global, entries: &[String]) -> Result<Option<Vec<u8>>
     Ok(Some(text))
 }
 
-/// What stands before the first zero byte and behind it. None where there is none.
+/// The parts before and after the first zero byte. None if there is none.
 fn cut(text: &str) -> Option<(&str, &str)>
     ensures { MatchOption result (position_or_len handed.is_zero text.now ≡ length text.now)
         (λ parts. (parts.0.now ≡ before_first handed.is_zero text.now) × (parts.1.now ≡ after_first handed.is_zero text.now)
@@ -100,8 +101,8 @@ fn push_entry(entries: &mut Vec<String>, alloc: Global, entry: &str) -> Result<(
     Ok(())
 }
 
-/// The entries that the text tells: each ends with a zero byte, and an empty one is the end of them. None where that is missing. Refused
-/// only for want of memory.
+/// The entries that the text holds: each ends with a zero byte, and an empty one is the end of them. None if that is
+/// missing. Refused only for want of memory.
 pub fn read_entries(alloc: Global, text: &str) -> Result<Option<Vec<String>>, AllocError>
     ensures { IfOk result (λ told. option_map (λ entries. map string_bytes entries.items) told ≡ handed.entries_in text.now) }
 {

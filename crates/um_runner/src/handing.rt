@@ -15,15 +15,17 @@ use um_model::ProcessNumber;
 /// The entries are read by the manager's user alone: they may be secrets.
 const MODE: u32 = 0o600;
 
-/// Makes the file at the path with its text, in place of what stood there.
+/// Makes the file at the path with its text, in place of the one there.
 fn make_file<R: Files>(rt: &R, path: &str, text: &[u8]) -> io::Result<()> {
     make_new(rt, path, MODE)?.write_all(text)
 }
 
-/// Hands the entries over to the runner that is started next for the number: in a file of mode 600, of 16,384 bytes at least.
+/// Hands the entries over to the runner that is started next for the number: in a file of mode 600, of 16,384 bytes at
+/// least.
 ///
-/// `NoMemory` where memory is wanting, and `System` of the kind InvalidInput where an entry has a zero byte, as no process can be given one, both
-/// before the folder is touched; `System` where the folder or its disk refuses the file, of which nothing is left then.
+/// `NoMemory` if memory is wanting, and `System` of the kind InvalidInput if an entry has a zero byte, as no process
+/// can be given one. Both are returned before the folder is touched. `System` if the folder or its disk refuses the
+/// file, of which nothing is left then.
 pub fn hand_over<R: Files>(
     rt: &R,
     alloc: Global,
@@ -38,7 +40,7 @@ pub fn hand_over<R: Files>(
     match make_file(rt, path.as_str(), text.as_slice()) {
         Ok(()) => Ok(()),
         Err(error) => {
-            // What is left where this fails goes with the number's other files.
+            // A file that is left because this fails goes with the number's other files.
             let _left = fs::remove_file(rt, path.as_str());
             Err(FolderFault::System(error))
         }
@@ -61,7 +63,7 @@ pub fn take_back<R: Files>(
     }
 }
 
-/// The text of the file at the path, which is gone then. What is no regular file is neither read nor removed.
+/// The text of the file at the path, which is removed. A file that isn't regular is neither read nor removed.
 fn take_text<R: Files>(rt: &R, alloc: Global, path: &str) -> io::Result<String> {
     if !fs::symlink_metadata(rt, path)?.is_file() {
         return Err(io::Error::from(ErrorKind::InvalidData));
@@ -71,8 +73,8 @@ fn take_text<R: Files>(rt: &R, alloc: Global, path: &str) -> io::Result<String> 
     text
 }
 
-/// Takes the entries that were handed over for the number, and removes their file. None where it can't be read or removed, or tells no entries
-/// NAME=value.
+/// Takes the entries that were handed over for the number, and removes their file. None if it can't be read or removed,
+/// or holds no entries NAME=value.
 pub fn take_entries<R: Files>(
     rt: &R,
     alloc: Global,

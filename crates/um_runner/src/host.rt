@@ -1,3 +1,4 @@
+//! The trait of a runner's surroundings: its folder and its process.
 ghost use Rattle.std.specs.Prelude.{◌≡◌, ◌∷◌, ◌++◌, [], List, Bool, IsTrue, is_ok};
 ghost use Rattle.um_runner.specs.Runner.{pid_text, status_text};
 ghost use Rattle.um_runner.specs.declared.runner_file.RunnerFile.TheVariants as files;
@@ -9,11 +10,11 @@ use crate::fault::FolderFault;
 use crate::job::Job;
 use um_model::End;
 
-/// What a runner does things with: its folder and its process. Each call is a step with what was answered.
+/// The surroundings of a runner: its folder and its process. Each call is a step with its answer.
 ///
-/// What a real folder holds and what a real process does no contract can say, so the clauses stand under `honest`.
+/// No contract can say what a real folder holds and what a real process does, so the clauses stand under `honest`.
 pub trait Host {
-    /// The steps, in order.
+    /// The steps of the runner so far, the oldest first.
     ghost past: { Self → List RunnerStep };
 
     /// It does what it answers.
@@ -34,7 +35,7 @@ pub trait Host {
         ensures past { IsTrue (honest self.old) → past self.new ≡ past self.old ++ Writes files.Pid (pid_text pid) (is_ok result) ∷ [] }
         ensures honest { honest self.new ≡ honest self.old };
 
-    /// Waits until the process has ended, and tells how; `End::Lost` where nobody can tell.
+    /// Waits until the process has ended, and returns how; `End::Lost` if nobody can know.
     fn wait(&mut self) -> End
         ensures past { IsTrue (honest self.old) → past self.new ≡ past self.old ++ Waits result ∷ [] }
         ensures honest { honest self.new ≡ honest self.old };

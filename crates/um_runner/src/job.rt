@@ -1,4 +1,4 @@
-//! What a runner is to start.
+//! The job of a runner: the command that it starts, with its entries.
 
 ghost use Rattle.std.specs.Prelude.{◌≡◌, ◌++◌, ℕ, List, map, option_map, Some, None, false, IfOk, OnOk, MatchOption, string_bytes};
 ghost use Rattle.std.specs.List.{list_all, list_any, before_first, after_first};
@@ -47,7 +47,7 @@ pub fn are_entries(words: &[String]) -> bool
     words.iter().all(|word| is_entry(word.as_str()))
 }
 
-/// The name and the value of an entry: what stands before its first `=` and behind it.
+/// The name and the value of an entry: the parts before and after its first `=`.
 fn parts_of(entry: &str) -> (&str, &str)
     ensures name { result.0.now ≡ before_first is_entry_sign entry.now }
     ensures value { result.1.now ≡ after_first is_entry_sign entry.now }
@@ -58,7 +58,7 @@ fn parts_of(entry: &str) -> (&str, &str)
     }
 }
 
-/// Sets a variable as the entry says.
+/// Sets the variable of the entry.
 fn set_entry(command: &mut Command, entry: &str) -> Result<(), AllocError>
     ensures sets { OnOk result (SetsTo (before_first is_entry_sign entry.now) (after_first is_entry_sign entry.now) command.old command.new) }
     ensures call { OnOk result (SameProgramAndArgs command.old command.new) }
@@ -82,7 +82,7 @@ fn set_entries(command: &mut Command, entries: &[String]) -> Result<(), AllocErr
     Ok(())
 }
 
-/// Adds the arguments behind those that are there.
+/// Adds the arguments after those that are there.
 fn add_arguments(command: &mut Command, arguments: &[String]) -> Result<(), AllocError>
     ensures arguments { OnOk result (command_args command.new ≡ command_args command.old ++ map string_bytes arguments.now) }
     ensures program { OnOk result (command_program command.new ≡ command_program command.old) }
@@ -96,8 +96,8 @@ fn add_arguments(command: &mut Command, arguments: &[String]) -> Result<(), Allo
 
 impl<'a> Job<'a> {
     #[tactic(auto, using(crate::proofs::Entries::no_job, crate::proofs::Entries::can_be))]
-    /// The job of which the first `count` words are entries NAME=value and the others the command. None where there are not so many
-    /// words, where no word is left for the command, and where one of the first has no `=` or no name in front of it.
+    /// The job of which the first `count` words are entries NAME=value and the others the command. None if there are
+    /// fewer words, if no word is left for the command, or if one of the first has no `=` or no name in front of it.
     pub fn of(count: usize, words: &'a [String]) -> Option<Job<'a>>
         ensures { MatchOption result (can_be_job count (map string_bytes words.now) ≡ false) (IsJobOf count (map string_bytes words.now)) }
     {

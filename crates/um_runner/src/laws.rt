@@ -1,4 +1,4 @@
-//! What the definitions say together, as functions that do nothing.
+//! Laws of the definitions of a runner's files, as functions that do nothing.
 
 ghost use Rattle.std.specs.Prelude.{◌≡◌, ◌<◌, ◌^◌, ℕ, List, Some, true, false};
 ghost use Rattle.std.specs.List.{list_all, list_any};
@@ -8,8 +8,8 @@ ghost use Rattle.um_runner.specs.declared.runner_file.Claimant as claimants;
 ghost use Rattle.um_runner.specs.declared.runner_file.RunnerFile as files;
 ghost use Rattle.um_model.specs.declared.service.End as ends;
 
-/// A text tells one pid, one end and one claimant at most, what is written for a claim is read as its claimant's, and what is written for
-/// entries as just those entries.
+/// A text names one pid, one end and one claimant at most. The text written for a claim is read as its claimant's, and
+/// the text written for entries as exactly those entries.
 pub fn a_text_has_one_reading()
     ensures pid { (text : List ℕ) (m n : ℕ) → IsPid text m → IsPid text n → m ≡ n }
     ensures status { (text : List ℕ) (a b : ends.End) → IsStatus text a → IsStatus text b → a ≡ b }

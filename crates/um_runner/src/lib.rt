@@ -1,5 +1,6 @@
-//! The files by which a runner tells the manager of a process, and the runner: each text has one reading, and a runner's life
-//! is a claim, a start, a pid, a wait and a status, or a beginning of it where somebody has the number or the folder fails.
+//! The files by which a runner reports on a process to the manager, and the runner. Each text has one reading. A
+//! runner's life is a claim, a start, a pid, a wait and a status, or a beginning of it if somebody has the number or
+//! the folder fails.
 #![tactic(auto)]
 
 mod fault;

@@ -1,3 +1,4 @@
+//! The life of a runner.
 ghost use Rattle.std.specs.Prelude.{◌≡◌, IsTrue, is_ok};
 ghost use Rattle.um_runner.specs.Jobs.{words_of, entries_of};
 ghost use Rattle.um_runner.specs.Lives.{LivesOn};
@@ -7,7 +8,7 @@ use crate::host::Host;
 use crate::job::Job;
 use um_model::End;
 
-/// The end that is told of a command that can't be executed.
+/// The end that is reported of a command that can't be executed.
 const NOT_EXECUTED: End = End::Code(203);
 
 /// Lives the life of a runner: claims the number and ends where somebody has it; else starts the job, writes its pid, waits for it

@@ -9,14 +9,14 @@ use crate::job::Job;
 use crate::texts::number_in;
 use um_model::ProcessNumber;
 
-/// What a runner is told.
+/// The parts of a runner's command line.
 #[derive(Clone, Copy, Debug)]
 pub struct RunnerLine<'a> {
     /// The folder of its files.
     pub folder: &'a str,
     /// The process number that it is for.
     pub number: ProcessNumber,
-    /// What is to be started, with the entries that stand among the words.
+    /// The job, with the entries that stand among the words.
     pub job: Job<'a>,
     /// The entries are those of the number's file, and none stands among the words.
     pub has_file: bool,
@@ -28,11 +28,11 @@ struct Options<'a> {
     folder: &'a String,
     number: &'a String,
     count: &'a String,
-    /// Those behind `--`.
+    /// The words after `--`.
     words: &'a [String],
 }
 
-/// The word behind this one, with which the words begin, and the words behind both. None for other words.
+/// The word that follows this one, with which the words begin, and the words after both. None for other words.
 fn value_behind<'a>(option: &str, words: &'a [String]) -> Option<(&'a String, &'a [String])>
     ensures { MatchOption result ((value : List ℕ) (others : List (List ℕ)) → map string_bytes words.now ≢ option.now ∷ value ∷ others)
         (λ r. map string_bytes words.now ≡ option.now ∷ string_bytes r.0.now ∷ map string_bytes r.1.now) }
@@ -45,7 +45,7 @@ fn value_behind<'a>(option: &str, words: &'a [String]) -> Option<(&'a String, &'
     Some((value, others))
 }
 
-/// The words behind this one, with which they begin. None for other words.
+/// The words that follow this one, with which they begin. None for other words.
 fn words_behind<'a>(word: &str, words: &'a [String]) -> Option<&'a [String]>
     ensures { MatchOption result ((others : List (List ℕ)) → map string_bytes words.now ≢ word.now ∷ others)
         (λ others. map string_bytes words.now ≡ word.now ∷ map string_bytes others.now) }
@@ -57,8 +57,8 @@ fn words_behind<'a>(word: &str, words: &'a [String]) -> Option<&'a [String]>
     Some(others)
 }
 
-/// The number of a process that the word tells. None for a word that isn't a number in decimal digits without zeros in front, for 0
-/// and from 2^63 on.
+/// The number of a process that the word names. None for a word that isn't a number in decimal digits without zeros in
+/// front, for 0 and from 2^63 on.
 fn process_of(word: &str) -> Option<ProcessNumber>
     ensures { MatchOption result ((n : ℕ) → 1 ≤ n → n < process_limit → word.now ≢ decimal n) (λ n. word.now ≡ decimal n) }
 {

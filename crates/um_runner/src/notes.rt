@@ -1,4 +1,4 @@
-//! What the files of a process number tell.
+//! Reads and writes the files of a process number.
 
 use crate::fault::FolderFault;
 use crate::files::{Creation, create_file, read_file};
@@ -10,7 +10,7 @@ use std::io;
 use std::io::ErrorKind;
 use um_model::{End, ProcessNumber};
 
-/// What came of claiming a number.
+/// The outcome of claiming a number.
 #[derive(Clone, Copy, Debug, PartialEq, Eq)]
 pub enum Claiming {
     /// The claim is new: nobody else can have the number.
@@ -19,12 +19,12 @@ pub enum Claiming {
     Stands(Claimant),
 }
 
-/// What a pid file tells.
+/// The content of a pid file.
 #[derive(Clone, Copy, Debug, PartialEq, Eq)]
 pub enum Told {
     /// It isn't there: the process isn't known to run.
     Nothing,
-    /// It tells no pid: the process was started, and no signal can reach it.
+    /// It names no pid: the process was started, and no signal can reach it.
     NoPid,
     Pid(u32),
 }
@@ -51,7 +51,7 @@ fn standing_in<R: Files>(
     Ok(Claiming::Stands(standing))
 }
 
-/// So often a claim is tried again whose draft another one has taken away, who claims the same number at the same time.
+/// The number of attempts at a claim whose draft another claimant of the same number has removed at the same time.
 const TRIES: u32 = 64;
 
 /// Claims the number for this one. A claim that stands there is left as it was, and read.
@@ -84,9 +84,9 @@ pub fn claim<R: Files>(
     Err(FolderFault::System(io::Error::from(ErrorKind::NotFound)))
 }
 
-/// How the process ended, by its status file: `End::Lost` where the file tells no end, and None where there is no file.
+/// How the process ended, by its status file: `End::Lost` if the file names no end, and None if there is no file.
 ///
-/// `NoMemory` where memory is wanting, `System` where the system refuses the file.
+/// `NoMemory` if memory is wanting, `System` if the system refuses the file.
 pub fn status_in<R: Files>(
     rt: &R,
     alloc: Global,
@@ -99,9 +99,9 @@ pub fn status_in<R: Files>(
     Ok(Some(read_status(beginning.bytes()).unwrap_or(End::Lost)))
 }
 
-/// What the pid file tells.
+/// The content of the pid file.
 ///
-/// `NoMemory` where memory is wanting, `System` where the system refuses the file.
+/// `NoMemory` if memory is wanting, `System` if the system refuses the file.
 pub fn pid_in<R: Files>(
     rt: &R,
     alloc: Global,

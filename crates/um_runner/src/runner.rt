@@ -11,8 +11,9 @@ use std::net::Net;
 use std::process::Processes;
 use std::time::Clock;
 
-/// Lives the life of a runner in the folder that it is told. Entries that were handed over are taken before the number is claimed, so that
-/// their file's room is there for the claim; where they can't be, nothing is started, as where the command can't be executed.
+/// Lives the life of a runner in the folder that its line names. Entries that were handed over are taken before the
+/// number is claimed, so that their file's room is there for the claim. If they can't be taken nothing is started, as
+/// if the command can't be executed.
 ///
 /// An error as that of `run`.
 pub fn run_line<R: Files + Net + Processes + Clock>(

@@ -1,4 +1,4 @@
-//! The files by which a runner tells the manager of a process.
+//! The files by which a runner reports on a process to the manager.
 
 ghost use Rattle.std.specs.Prelude.{◌≡◌};
 ghost use Rattle.um_runner.specs.Runner.{claim_text, ending_of};
@@ -44,7 +44,7 @@ pub enum RunnerFile {
 }
 
 impl RunnerFile {
-    /// What the file's name has behind the number.
+    /// The part of the file's name after the number.
     pub fn ending(self) -> &'static str
         ensures { result.now ≡ ending_of self }
     {

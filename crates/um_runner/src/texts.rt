@@ -97,8 +97,8 @@ pub fn read_claim(text: &[u8]) -> Claimant
 }
 
 #[tactic(auto, using(crate::proofs::Lines::pid_read, crate::proofs::Lines::no_pid_line))]
-/// The pid that the text tells: a number in decimal digits, without zeros in front, and LF. None for any other text, for 0 and 1, the
-/// system's first process, and from 2^31 on.
+/// The pid that the text names: a number in decimal digits, without zeros in front, and LF. None for any other text,
+/// for 0 and 1, the system's first process, and from 2^31 on.
 pub fn read_pid(text: &[u8]) -> Option<u32>
     ensures { MatchOption result ((pid : ℕ) → runner.IsPid text.now pid → ⊥) (runner.IsPid text.now) }
 {
@@ -107,8 +107,8 @@ pub fn read_pid(text: &[u8]) -> Option<u32>
 }
 
 #[tactic(auto, using(crate::proofs::Lines::code_read, crate::proofs::Lines::signal_read, crate::proofs::Lines::no_status))]
-/// The end that the text tells: `code` or `signal`, a space, a number up to 255 in decimal digits, without zeros in front, and LF.
-/// None for any other text: nobody can tell how the process ended then. It is never `End::Lost`.
+/// The end that the text names: `code` or `signal`, a space, a number up to 255 in decimal digits, without zeros in
+/// front, and LF. None for any other text: then nobody can know how the process ended. It is never `End::Lost`.
 pub fn read_status(text: &[u8]) -> Option<End>
     ensures { MatchOption result ((end : ends.End) → runner.IsStatus text.now end → ⊥) (runner.IsStatus text.now) }
 {
@@ -128,7 +128,7 @@ pub fn pid_text(alloc: Global, pid: u32) -> Result<String, AllocError>
     format!(in alloc; "{pid}\n")
 }
 
-/// The text for an end; for one that nobody can tell the empty text, which tells none.
+/// The text for an end; for one that nobody can know the empty text, which names none.
 pub fn status_text(alloc: Global, end: End) -> Result<String, AllocError>
     ensures { IfOk result (λ text. string_bytes text ≡ runner.status_text end) }
 {

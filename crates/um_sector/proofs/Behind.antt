@@ -1,4 +1,4 @@
--- The notes behind the last sync of a disk in memory, one more at a time, and what stood on it at that sync.
+-- The notes after the last sync of a disk in memory, one more at a time, and the content of it at that sync.
 use Rattle.std.proofs.Common.{◌≡◌, ◌≢◌, ⊎_elim, ℕ, zero, suc, zero-add, ◌+◌, ◌-◌, ◌<◌, ◌≤◌, List, [], ◌∷◌, ◌++◌, length, take, drop, set, get_or, map, reverse, refl, sym, ◌∙◌, ap, subst, arith, true, length-append}
 use Rattle.std.specs.List.{Contains, range_with_len, slice_range, AllPass}
 use Rattle.std.proofs.lemmas.Bool.{cases_eq, cases_lt, false≢true}
@@ -21,7 +21,7 @@ use Rattle.um_sector.proofs.Picks.{some_length}
 pub behind_is : (xs notes : List Noted) (since : ℕ) → xs ≡ notes → take (length xs - since) (drop since xs) ≡ drop since notes
 behind_is xs notes since is = take_rest xs since ∙ ap (drop since) is
 
--- the calls up to the next note behind the last sync
+-- the calls up to the next note after the last sync
 pub past_more : (start : List Sector) (notes rest : List Noted) (since i : ℕ) (note d : Noted) → rest ≡ drop since notes → i < length rest → get_or rest i d ≡ note
     → past_of start (take (since + (i + 1)) notes) ≡ after (call_of note) (past_of start (take (since + i) notes))
 past_more start notes rest since i note d from below is =
@@ -32,7 +32,7 @@ past_more start notes rest since i note d from below is =
     ∙ ap (λ calls. record { start = image_of start; calls = calls })
     (noted_more notes (since + i) d inside ∙ ap (λ n. call_of n ∷ map call_of (reverse (take (since + i) notes))) next)
 
--- each note behind the last sync is a write of a sector that is there
+-- each note after the last sync is a write of a sector that is there
 module _ (n : ℕ) (rest : List Noted) (i : ℕ) (d : Noted) (all : AllPass (is_write_within n) rest) (below : i < length rest) where
   pub written_within : (k : ℕ) (value : Sector) → get_or rest i d ≡ Write k value → k < n
   written_within k value is = let here : nat_lt k n ≡ true = ap (is_write_within n) (sym is) ∙ all i d below in grind (arith, nat_tests, here)
@@ -44,7 +44,7 @@ module _ (n : ℕ) (rest : List Noted) (i : ℕ) (d : Noted) (all : AllPass (is_
       no (Write k value) is none = none k value refl
       no Sync is none = false≢true is
 
--- behind the last of them all notes are taken
+-- after the last of them all notes are taken
 pub all_taken : (notes rest : List Noted) (since i : ℕ) → rest ≡ drop since notes → since ≤ length notes → i ≡ length rest → take (since + i) notes ≡ notes
 all_taken notes rest since i from le end =
     let all : since + i ≡ length notes = omega (arith, le, end, ap length from, length-drop since notes) in ap (λ n. take n notes) all ∙ take-length notes
@@ -67,7 +67,7 @@ most_more list j most within so_far k below = ⊎_elim
     (λ ne. omega (arith, get_or-set_other list j k (get_or list j 0 + 1) 0 ne, so_far k below))
     (cases_eq k j)
 
--- what is left of each pick, one candidate later
+-- the count that is left of each pick, one candidate later
 pub left_more : (past : Past) (pick : ℕ → ℕ) (left : List ℕ) (j : ℕ) (v : Sector) → j < length left
     → ((k : ℕ) → k < length left → get_or left k 0 ≡ pick k + 1 - length (candidates past k))
     → (k : ℕ) → k < length left → get_or (set left j (get_or left j 0 - 1)) k 0 ≡ pick k + 1 - length (candidates (after (wrote j v v) past) k)
@@ -97,7 +97,7 @@ choice_more c p v w some last other =
     (cases_eq p (length c)))
     (cases_lt p (length c))
 
--- what is picked of each sector, one candidate later
+-- the value picked of each sector, one candidate later
 pub list_more : (past : Past) (pick : ℕ → ℕ) (list : List Sector) (j left : ℕ) (v w : Sector) → j < length list → left ≡ pick j + 1 - length (candidates past j)
     → (left ≡ 1 → w ≡ v) → (left ≢ 1 → w ≡ get_or list j [])
     → ((k : ℕ) → k < length list → get_or list k [] ≡ get_or (candidates past k) (pick k) (get_or (candidates past k) 0 []))
@@ -138,13 +138,13 @@ all_picked past picks list n long each =
     ext_get_or [] list (map (picked past picks) (range_with_len 0 n)) (long ∙ sym (length-map-range_with_len (picked past picks) 0 n))
     (λ k below. each k below ∙ sym (get_or-map-range_with_len (picked past picks) 0 n k k [] (omega (arith, below, long)) (zero-add k)))
 
--- what a read gives after some calls and then others
+-- the image that a read gives after some calls and then others
 seen_onto : (start : Image) (late early : List Call) → seen_after start (late ++ early) ≡ seen_after (seen_after start early) late
 seen_onto start [] early = refl
 seen_onto start (wrote k v kept ∷ late) early = ap (λ image. with_sector image k kept) (seen_onto start late early)
 seen_onto start (synced ∷ late) early = seen_onto start late early
 
--- what was synced, with the notes behind it
+-- the synced content, with the notes after it
 pub replayed : (start sectors : List Sector) (notes : List Noted) (since : ℕ)
     → ((k : ℕ) → candidates (past_of start (take since notes)) k ≡ get_or sectors k [] ∷ [])
     → (k : ℕ) → seen (past_of sectors (drop since notes)) k ≡ seen (past_of start notes) k
@@ -165,17 +165,18 @@ replayed start sectors notes since at_sync k =
     parts = ap (λ l. map call_of (reverse l)) (sym (take-append-drop since notes)) ∙ ap (map call_of) (reverse-append (take since notes) (drop since notes))
         ∙ map-append call_of (reverse (drop since notes)) (reverse (take since notes))
 
--- the notes behind the last sync, without one that comes to them
+-- the notes after the last sync, without one that is added
 pub without_last : (notes : List Noted) (note : Noted) (since : ℕ) → since ≤ length notes → slice_range (notes ++ note ∷ []) since (length notes) ≡ drop since notes
 without_last notes note since le =
     ap (take (length notes - since)) (drop-append-le since notes (note ∷ []) le)
     ∙ subst (λ n. take n (drop since notes ++ note ∷ []) ≡ drop since notes) (length-drop since notes) (take-append_seam (drop since notes) (note ∷ []))
 
--- a sync changes nothing of what a read gives
+-- a sync changes nothing of the image that a read gives
 pub seen_synced : (start : List Sector) (notes : List Noted) (k : ℕ) → seen (past_of start (notes ++ Sync ∷ [])) k ≡ seen (past_of start notes) k
 seen_synced start notes k = ap (λ calls. seen_after (image_of start) (map call_of calls) k) (reverse-append notes (Sync ∷ []))
 
--- behind a sync what was synced is what a read gives: the sectors of the last sync, with the notes from there on
+-- after a sync the synced content is the one that a read gives: the sectors of the last sync, with the notes from there
+-- on
 pub at_sync_replayed : (start sectors made : List Sector) (notes : List Noted) (since : ℕ) → since ≤ length notes
     → ((k : ℕ) → candidates (past_of start (take since notes)) k ≡ get_or sectors k [] ∷ [])
     → ((k : ℕ) → get_or made k [] ≡ seen (past_of sectors (slice_range (notes ++ Sync ∷ []) since (length notes))) k)
@@ -184,7 +185,7 @@ at_sync_replayed start sectors made notes since le at_sync from k =
     ap (λ calls. candidates (record { start = image_of start; calls = map call_of calls }) k) (reverse-append notes (Sync ∷ []))
     ∙ ap (λ v. v ∷ []) (sym (from k ∙ ap (λ l. seen (past_of sectors l) k) (without_last notes Sync since le) ∙ replayed start sectors notes since at_sync k))
 
--- nothing stands behind the last note
+-- nothing stands after the last note
 pub none_behind : (n : ℕ) (notes : List Noted) (since : ℕ) → since ≡ length notes → AllPass (is_write_within n) (drop since notes)
 none_behind n notes since end =
     subst (λ i. AllPass (is_write_within n) (drop i notes)) (sym end) (subst (AllPass (is_write_within n)) (sym (drop-length notes)) (All-nil (λ x. is_write_within n x ≡ true)))

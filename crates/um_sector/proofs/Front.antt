@@ -4,7 +4,7 @@ use Rattle.std.proofs.Common.{sym, ◌∙◌, ap, arith, append_assoc}
 use Rattle.std.proofs.lemmas.List.{take-append-drop, length-take, length-append, take_at, drop_at, drop-drop, drop-replicate}
 use Rattle.um_model.specs.Store.{filled}
 
--- what was laid behind the front is part of it
+-- bytes laid after the front are part of it
 module _ (old bytes new : List ℕ) (at : ℕ) (long : length old ≡ 512) (room : at + length bytes ≤ 512) (is : new ≡ take at old ++ (bytes ++ drop (at + length bytes) old)) where
   grown : new ≡ (take at old ++ bytes) ++ drop (at + length bytes) old
   grown = is ∙ sym (append_assoc (take at old) bytes (drop (at + length bytes) old))
@@ -21,7 +21,7 @@ module _ (old bytes new : List ℕ) (at : ℕ) (long : length old ≡ 512) (room
       ap (drop (at + length bytes)) grown ∙ drop_at (take at old ++ bytes) (drop (at + length bytes) old) (at + length bytes) size
       ∙ sym (drop-drop (length bytes) at old) ∙ ap (drop (length bytes)) zeros ∙ drop-replicate _ _ _ ∙ ap (λ (n : ℕ). replicate n 0) count
 
--- the front and the zeros behind it are the sector
+-- the front and the zeros after it are the sector
 pub is_filled : (sector : List ℕ) (at : ℕ) → length sector ≡ 512 → at ≤ 512 → drop at sector ≡ replicate (512 - at) 0 → sector ≡ filled (take at sector)
 unfolding filled
 is_filled sector at long room zeros =

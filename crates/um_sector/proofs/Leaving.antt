@@ -1,4 +1,4 @@
--- What a crash leaves of a disk in memory is what is found next.
+-- The image that a crash leaves of a disk in memory is the one found next.
 use Rattle.std.proofs.Common.{◌≡◌, inl, inr, ℕ, zero, suc, zero-add, ◌+◌, ◌<◌, ◌≤◌, List, [], ◌∷◌, ◌++◌, length, take, drop, get_or, map, reverse, refl, sym, ◌∙◌, ap, subst, arith, true, append_assoc}
 use Rattle.std.specs.List.{Contains, range_with_len, AllPass}
 use Rattle.std.specs.Prelude.{nat_lt, Result, Ok, Err, IfOk}
@@ -16,7 +16,7 @@ use Rattle.um_sector.specs.Unsynced.{picked}
 use Rattle.um_sector.specs.declared.noted.Noted.{Noted}
 use Rattle.um_sector.specs.declared.noted.Noted.TheVariants.{Write, Sync}
 
--- the calls of one note and those behind it
+-- the calls of one note and those after it
 parts_of : (note : Noted) (notes : List Noted) (early : List Call) → map call_of (reverse (note ∷ notes)) ++ early ≡ map call_of (reverse notes) ++ call_of note ∷ early
 parts_of note notes early =
     ap (λ l. map call_of l ++ early) (reverse-append (note ∷ []) notes) ∙ ap (λ l. l ++ early) (map-append call_of (reverse notes) (note ∷ []))
@@ -69,7 +69,7 @@ left_by start synced made notes since n picks long at_sync behind are = record {
           (subst (λ l. Contains l []) (sym (none_there start synced notes since n k long far at_sync behind)) (Contains-push [] []))
     ]
 
--- what both say of what was answered Ok
+-- two facts of an Ok value join
 pub if_both : {T E : Type 0} (result : Result T E) (P Q R : T → Type 0) → IfOk result P → IfOk result Q → ((made : T) → P made → Q made → R made) → IfOk result R
 if_both (Ok made) P Q R one two both = both made one two
 if_both (Err e) P Q R one two both = tt

@@ -20,7 +20,7 @@ chosen_candidate xs p some = ⊎_elim
     (λ past. subst (Contains xs) (sym (get_or_past xs p (get_or xs 0 []) past)) (Contains-get_or xs 0 [] some))
     (cases_lt p (length xs))
 
--- what picks choose is an image
+-- the image that picks choose is one of the disk's
 pub picked_is_image : (past : Past) (picks : List ℕ) → IsImage past (picked past picks)
 picked_is_image past picks k = chosen_candidate (candidates past k) (get_or picks (length (unsynced past k)) 0) (some_length past k)
 

@@ -1,4 +1,4 @@
--- How the writing of a run goes on: each write and sync keeps what was shown of the run so far.
+-- How the writing of a run goes on: each write and sync keeps the facts shown of the run so far.
 use Rattle.std.specs.Prelude.{◌≡◌, ◌≢◌, ◌⊎◌, ◌+◌, ◌<◌, ◌≤◌, ℕ, zero, suc, List, [], length, take, Result, Ok, Err, refl}
 use Rattle.std.proofs.Common.{cond, get_or, length-take, sym, ◌∙◌, ap, subst, inl, inr, ⊎_elim, arith, add-one}
 use Rattle.std.proofs.lemmas.Bool.{cases_eq}
@@ -30,7 +30,7 @@ maybe_write d at run image i v below is so_far = record {
 pub laid_maybe : (d : Image) (at : ℕ) (run : List Sector) (image : Image) → IsLaid d at run image → MaybeLaid d at run image
 laid_maybe d at run image all = record { inside = λ i below. inr (all.inside i below); outside = all.outside }
 
--- the run's next sector behind those that stand there
+-- the run's next sector after those that stand there
 pub laid_write : (d : Image) (at : ℕ) (run : List Sector) (image : Image) (i : ℕ) (v : Sector) → i < length run → v ≡ get_or run i [] → IsLaid d at (take i run) image → IsLaid d at (take (i + 1) run) (with_sector image (at + i) v)
 laid_write d at run image i v below is so_far =
     let short : length (take i run) ≡ i = omega (arith, length-take i run) in
@@ -58,7 +58,7 @@ run_step result first past new at run i v below is so_far wrote_it =
 pub run_start : (past : Past) (at : ℕ) (run : List Sector) → During past past (AfterRun past at run)
 run_start past at run = started past (AfterRun past at run) (λ image is. record { from = image; was = is; laid = maybe_start image at run })
 
--- a sync behind a whole run
+-- a sync after a whole run
 pub run_sync : {T E : Type 0} (result : Result T E) (first past new : Past) (at : ℕ) (run : List Sector) → IsImage first (seen first) → IsLaid (seen first) at run (seen past)
     → During first past (AfterRun first at run) → Synced result past new → During first new (AfterRun first at run)
 run_sync result first past new at run is laid so_far synced_it =
@@ -79,7 +79,7 @@ more-le count (suc n) = omega (arith, more-le count n)
 pub more-add_one : (count n : ℕ) → more count (n + 1) ≡ one_more (more count n)
 more-add_one count n = ap (more count) (add-one n)
 
--- so many more behind so many
+-- `n` more after `m` more
 pub more-more : (count m n : ℕ) → more (more count m) n ≡ more count (m + n)
 more-more count m zero = ap (more count) (omega arith)
 more-more count m (suc n) = let e : suc (m + n) ≡ m + suc n = omega arith in ap one_more (more-more count m n) ∙ ap (more count) e

@@ -1,4 +1,4 @@
--- What a fuse adds to the failures of a disk.
+-- The calls that a fuse fails, beside the failures of its disk.
 -- No manual page has it: it is the project's own test device.
 -- Fuse stands on this file.
 use Rattle.std.specs.Prelude.{◌+◌, ◌-◌, ◌^◌, min, ℕ, Result}
@@ -10,7 +10,7 @@ use Rattle.um_sector.specs.declared.fault.Fault.{Fault}
 abbrev pub failures_with : ℕ → ℕ → ℕ
 failures_with below own = min (below + own) (2 ^ 64 - 1)
 
--- The disk below was asked to write the value there, whatever it answered.
+-- The write of the value was passed to the disk below, whatever it answered.
 pub record IsAsked (honest : Type 0) (below above : ℕ) (old : Past) (k : ℕ) (value : Sector) (new : Past) : Type 0 where
   pub answer : Result (Unit {0}) Fault
   pub counts : CountsFailure answer below above

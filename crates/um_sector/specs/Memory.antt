@@ -5,6 +5,6 @@ use Rattle.um_model.specs.Disk.{Past}
 use Rattle.um_sector.specs.Noted.{past_of}
 use Rattle.um_sector.specs.declared.memory.MemDisk.{MemDisk}
 
--- what the disk was made with, and the calls since
+-- the content the disk was made with, and the calls since
 abbrev pub history : MemDisk → Past
 history disk = past_of disk.start.items disk.noted.items

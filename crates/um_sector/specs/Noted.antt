@@ -1,4 +1,4 @@
--- What the notes of a disk in memory stand for.
+-- The history that the notes of a disk in memory stand for.
 -- No manual page has it: it is the disk model of um_model, kept as a list.
 -- MemDisk stands on this file.
 use Rattle.std.specs.Prelude.{ℕ, Bool, false, nat_lt, List, [], ◌∷◌, map, reverse, replicate, slice_index_or}
@@ -33,7 +33,7 @@ past_of start calls = record { start = image_of start; calls = map call_of (reve
 abbrev pub blank : Sector
 blank = replicate 512 0
 
--- what a read gives is a candidate of each sector
+-- the value that a read gives is a candidate of each sector
 seen_candidate : (start : Image) (calls : List Noted) (k : ℕ) → Contains (candidates_after start (map call_of calls) k) (seen_after start (map call_of calls) k)
 seen_candidate start [] k = Contains-push [] (start k)
 seen_candidate start (Sync ∷ calls) k = Contains-push [] (seen_after start (map call_of calls) k)
@@ -55,6 +55,6 @@ seen_candidate start (Write j value ∷ calls) k = ⊎_elim
     (sym (candidates-wrote_other start (map call_of calls) j k value value ne)) (seen_candidate start calls k)))
     (cases_eq k j)
 
--- what a read gives is among what a crash may leave
+-- the image that a read gives is among those that a crash may leave
 pub seen_is_image : (start : List Sector) (calls : List Noted) → IsImage (past_of start calls) (seen (past_of start calls))
 seen_is_image start calls k = seen_candidate (image_of start) (reverse calls) k

@@ -1,4 +1,4 @@
--- What a run of sectors is while it is written and behind it, and how a count of failures rises.
+-- A run of sectors while it is written and afterwards, and how a count of failures rises.
 -- No manual page has it: it is the disk model of um_model, for several calls.
 -- The writing of runs, the slots, the log and the keeper stand on this file.
 use Rattle.std.specs.Prelude.{◌≡◌, ◌⊎◌, ◌+◌, ◌<◌, ◌≤◌, ℕ, zero, suc, List, [], length, slice_index_or, Result, Ok, Err}
@@ -20,7 +20,7 @@ pub record AfterRun (past : Past) (at : ℕ) (run : List Sector) (image : Image)
   pub was : IsImage past from
   pub laid : MaybeLaid from at run image
 
--- one more, so many times
+-- one more, this many times
 abbrev pub more : ℕ → ℕ → ℕ
 more count zero = count
 more count (suc n) = one_more (more count n)

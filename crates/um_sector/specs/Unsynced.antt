@@ -1,4 +1,5 @@
--- What of a disk isn't synced: how many syncs there were, the sectors with several candidates, and the images that picks of these choose.
+-- The unsynced part of a disk: how many syncs there were, the sectors with several candidates, and the images that
+-- picks of these choose.
 use Rattle.std.specs.Prelude.{ℕ, Bool, true, false, nat_lt, List, [], length, map, filter, count_by, slice_index_or}
 use Rattle.std.specs.List.{range_with_len}
 use Rattle.um_model.specs.Disk.{Image, Call, wrote, synced, Past, candidates}

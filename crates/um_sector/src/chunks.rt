@@ -1,6 +1,7 @@
+//! Cuts bytes into chunks.
 ghost use Rattle.std.specs.Prelude.{◌≡◌, ◌≤◌, length, take, drop};
 
-/// At most so many bytes, and those behind them.
+/// The first bytes, `most` at most, and the rest.
 pub fn next_chunk(bytes: &[u8], most: usize) -> (&[u8], &[u8])
     ensures chunk { result.0.now ≡ take most bytes.now }
     ensures behind { result.1.now ≡ drop most bytes.now }

@@ -1,3 +1,4 @@
+//! The trait of a disk of sectors.
 ghost use Rattle.std.specs.Prelude.{◌≡◌, ◌<◌, ℕ, Bool, IsTrue, OnOk};
 ghost use Rattle.um_model.specs.Disk.{Past, IsImage, seen, Wrote, Synced};
 ghost use Rattle.um_sector.specs.Runs.{CountsFailure};
@@ -9,13 +10,13 @@ use um_model::SECTOR_BYTES;
 /// The bytes of a sector.
 pub type Sector = [u8; SECTOR_BYTES];
 
-/// A disk of sectors. What it does is told by its history: each call is one moment, and a crash at a moment leaves any of the
-/// images of that moment. A call that answers Err, and a read, may share the moment before.
+/// A disk of sectors. Its behaviour is described by its history: each call is one moment, and a crash at a moment
+/// leaves any of the images of that moment. A call that answers Err, and a read, may share the moment before.
 ///
-/// The clauses on values and images stand under `honest`; those on counts always do. Both counts stay at the last value of
-/// a `u64`.
+/// The clauses on values and images stand under `honest`; those on counts always do. Both counts stay at the last value
+/// of a `u64`.
 pub trait Disk {
-    /// What it was made with, and the calls since.
+    /// The content it was made with, and the calls since.
     ghost past: { Self → Past };
 
     /// How many sectors it has.
@@ -30,7 +31,7 @@ pub trait Disk {
     /// It does what it answers.
     ghost honest: { Self → Bool };
 
-    /// The number of sectors. This asks nothing of the device and is no call of it.
+    /// The number of sectors. This makes no call of the device.
     fn sectors(&self) -> usize
         ensures { result ≡ size self.now };
 
@@ -62,6 +63,6 @@ pub trait Disk {
         ensures size { size self.new ≡ size self.old }
         ensures honest { honest self.new ≡ honest self.old };
 
-    /// What a read gives is among what a crash may leave.
+    /// The image that a read gives is among those that a crash may leave.
     ghost seen_is_image: { (disk : Self) → IsTrue (honest disk) → IsImage (past disk) (seen (past disk)) };
 }

@@ -1,9 +1,10 @@
+//! The failure of a disk call.
 ghost use Rattle.std.specs.Prelude.{◌≡◌};
 
 use thiserror::Error;
 use um_wire::Refusal;
 
-/// The disk could not do what was asked.
+/// A call on the disk failed.
 #[derive(Debug, Drop, Error)]
 #[error("the disk failed")]
 pub struct Fault;

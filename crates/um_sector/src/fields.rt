@@ -1,3 +1,4 @@
+//! Builds a sector field by field, and reads its fields.
 ghost use Rattle.std.specs.Prelude.{◌≡◌, ◌+◌, ◌-◌, ◌≤◌, ◌++◌, ℕ, List, [], length, take, drop, replicate};
 ghost use Rattle.byteorder.specs.Endian.{big_bytes, big_number};
 ghost use Rattle.um_model.specs.Store.{filled};
@@ -7,7 +8,7 @@ use byteorder::{BigEndian, ByteOrder};
 use std::marker::Model;
 use um_model::SECTOR_BYTES;
 
-/// The bytes of a sector as they are put, one field behind the other from its front. What is behind them is zero.
+/// The bytes of a sector, put field after field from its front. The rest of it is zero.
 #[derive(Drop)]
 pub struct Fields {
     sector: Sector,
@@ -41,7 +42,7 @@ impl Fields {
         }
     }
 
-    /// Puts bytes behind the fields.
+    /// Puts bytes after the fields.
     pub fn put(&mut self, bytes: &[u8])
         requires { length self.old + length bytes.now ≤ 512 }
         ensures { self.new ≡ self.old ++ bytes.now }
@@ -70,7 +71,7 @@ impl Fields {
         self.put(&bytes);
     }
 
-    /// The sector: the fields, zeros behind them.
+    /// The sector: the fields, then zeros.
     pub fn sector(&self) -> Sector
         ensures { result ≡ filled self.now }
     {

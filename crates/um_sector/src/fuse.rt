@@ -1,3 +1,4 @@
+//! A disk that fails one call, for tests of failures.
 ghost use Rattle.std.specs.Prelude.{◌≡◌, ◌≢◌, ◌+◌, ◌<◌, ◌==◌, true, false, OnOk, IsErr, IsTrue};
 ghost use Rattle.um_model.specs.Disk.{seen, Wrote, Synced};
 ghost use Rattle.um_sector.specs.Runs.{CountsFailure};
@@ -7,8 +8,8 @@ ghost use Rattle.um_sector.specs.Fused.{failures_with, IsAsked};
 use crate::disk::{Disk, Sector};
 use crate::fault::Fault;
 
-/// A disk that fails one call and goes on: its `fails`-th, counted from 1 since the fuse was put in. The disk below isn't
-/// asked that call, unless it is a write and the fuse is one that makes it. With `fails` 0 no call is failed.
+/// A disk that fails one call and goes on: its `fails`-th, counted from 1 since the fuse was put in. That call isn't
+/// passed to the disk below, unless it is a write and the fuse is one that makes it. With `fails` 0 no call is failed.
 pub struct Fuse<D: Disk> {
     inner: D,
     fails: u64,
@@ -49,7 +50,7 @@ impl<D: Disk> Fuse<D> {
         }
     }
 
-    /// Fails the `fails`-th call from now on: if it is a write, the disk below is asked it all the same.
+    /// Fails the `fails`-th call from now on: if it is a write, it is passed to the disk below all the same.
     pub fn making(inner: D, fails: u64) -> Fuse<D>
         ensures inner { result.inner ≡ inner }
         ensures fails { result.fails ≡ fails }
@@ -86,7 +87,7 @@ impl<D: Disk> Fuse<D> {
         inner
     }
 
-    /// Counts a call, and tells whether it is the one to fail.
+    /// Counts a call, and returns whether it is the one to fail.
     fn burns(&mut self) -> bool
         ensures due { result ≡ (self.old.calls + 1 == self.old.fails) }
         ensures inner { self.new.inner ≡ self.old.inner }
@@ -110,7 +111,7 @@ impl<D: Disk> Fuse<D> {
         Fault
     }
 
-    /// Fails a write, which the disk below is asked where this fuse makes it. A failure there is counted there alone.
+    /// Fails a write, which is passed to the disk below if this fuse makes it. A failure there is counted there alone.
     fn fail_write(&mut self, k: usize, sector: &Sector) -> Result<(), Fault>
         ensures failed { IsErr result }
         ensures past { IsTrue (D.honest self.old.inner) → Wrote result (D.past self.old.inner) k sector.now (D.past self.new.inner) }

@@ -1,9 +1,9 @@
-//! What the disk model says of single calls and of crashes, as functions that do nothing.
+//! Laws of the disk model for single calls and crashes, as functions that do nothing.
 ghost use Rattle.std.specs.Prelude.{◌≡◌, ◌⊎◌, ◌<◌, ℕ, List, [], Bool, IsTrue};
 ghost use Rattle.um_model.specs.Disk.{Sector, Image, Past, IsImage, IsSettled, with_sector, wrote, synced, after, seen, Images, During};
 ghost use Rattle.um_sector.specs.Unsynced.{picked};
 
-/// A disk that was just made leaves what it was made with.
+/// A disk that was just made leaves the content it was made with.
 pub fn a_new_disk_is_settled()
     ensures { (start : Image) → IsSettled (record { start = start; calls = [] }) }
 {}
@@ -14,7 +14,7 @@ pub fn a_write_changes_one_sector_or_none()
         → IsImage past image ⊎ ((before : Image) × IsImage past before × (image ≡ with_sector before k value)) }
 {}
 
-/// After a sync that answered Ok there is one image: what a read gives.
+/// After a sync that answered Ok there is one image: the one that a read gives.
 pub fn a_sync_leaves_what_a_read_gives()
     ensures { (past : Past) (image : Image) → IsImage (after synced past) image → image ≡ seen past }
 {}
@@ -30,13 +30,13 @@ pub fn each_image_is_picked()
         → (picks : List ℕ) × ((k : ℕ) → k < sectors → picked past picks k ≡ image k) }
 {}
 
-/// What each image has during two runs of calls, one behind the other, it has during both together.
+/// A fact of each image during either of two consecutive runs of calls holds of each image during both together.
 pub fn runs_of_calls_join()
     ensures { (old mid new : Past) (p : Image → Bool) → During old mid (λ image. IsTrue (p image)) → During mid new (λ image. IsTrue (p image))
         → During old new (λ image. IsTrue (p image)) }
 {}
 
-/// What each image has during a run of calls, each image at its end has.
+/// A fact of each image during a run of calls holds of each image at its end.
 pub fn a_run_of_calls_ends()
     ensures { (old new : Past) (p : Image → Bool) → During old new (λ image. IsTrue (p image)) → Images new (λ image. IsTrue (p image)) }
 {}

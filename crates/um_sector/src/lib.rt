@@ -1,4 +1,5 @@
-//! A disk of sectors, told by what was asked of it: what a read gives, and each image that a crash may leave at each moment.
+//! A disk of sectors, described by the calls made on it: the values that a read gives, and each image that a crash may
+//! leave at each moment.
 #![tactic(auto)]
 
 mod chunks;

@@ -1,3 +1,4 @@
+//! A disk in memory, which can leave any image that a crash may leave.
 ghost use Rattle.std.specs.Prelude.{◌≡◌, ◌≢◌, ◌-◌, ◌<◌, ◌≤◌, ℕ, [], ◌∷◌, length, true, map, take, drop, replicate, slice_index_or, IfOk};
 ghost use Rattle.um_model.specs.Disk as model;
 ghost use Rattle.um_sector.specs.Unsynced as syncs;
@@ -17,15 +18,15 @@ use um_model::SECTOR_BYTES;
 /// A disk in memory that keeps each of its calls, so that each image that a crash may leave can be taken from it. It is
 /// honest. A call that finds no memory for its note fails and is not made, so that nothing is ever missing from the notes.
 pub struct MemDisk {
-    /// What it was made with.
+    /// The content it was made with.
     start: Vec<Sector>,
-    /// What a read gives.
+    /// The sectors that a read gives.
     held: Vec<Sector>,
-    /// What a read gave at the last sync, or at the start.
+    /// The sectors that a read gave at the last sync, or at the start.
     synced: Vec<Sector>,
     /// Its writes and syncs that answered Ok, the oldest first.
     noted: Vec<Noted>,
-    /// So many notes end with the last sync; those behind it are writes.
+    /// The number of notes up to the last sync, that one included; those after it are writes.
     since: usize,
     calls: u64,
     failures: u64,
@@ -51,7 +52,7 @@ impl Drop for MemDisk {
     }
 }
 
-/// So many sectors of zeros.
+/// `count` sectors of zeros.
 fn blank_sectors(alloc: Global, count: usize) -> Result<Vec<Sector>, AllocError>
     ensures { IfOk result (λ v. v.items ≡ replicate count blank) }
 {
@@ -83,7 +84,7 @@ fn replay(sectors: &mut [Sector], calls: &[Noted])
     }
 }
 
-/// Takes one from what is left, and the value where nothing is left then.
+/// Counts one off, and takes the value if that was the last one.
 fn take_turn(left: &mut usize, sector: &mut Sector, value: &Sector)
     ensures left { left.new ≡ left.old - 1 }
     ensures last { left.old ≡ 1 → sector.new ≡ value.now }

@@ -1,3 +1,4 @@
+//! The note of a call on a disk.
 ghost use Rattle.std.specs.Prelude.{◌≡◌};
 ghost use Rattle.um_model.specs.Disk as model;
 ghost use Rattle.um_sector.specs.Unsynced as syncs;

@@ -1,3 +1,4 @@
+//! Writes runs of consecutive sectors.
 ghost use Rattle.std.specs.Prelude.{◌≡◌, ◌+◌, ◌<◌, ◌≤◌, length, replicate, IsTrue, OnOk};
 ghost use Rattle.um_sector.specs.Noted.{blank};
 ghost use Rattle.um_model.specs.Disk.{seen, During, IsSettled};
@@ -8,7 +9,7 @@ use crate::disk::{Disk, Sector};
 use crate::fault::Fault;
 use um_model::SECTOR_BYTES;
 
-/// Writes the sectors of a run one behind the other, from sector `at` on.
+/// Writes the sectors of a run in order, from sector `at` on.
 ///
 /// Each image that a crash leaves during it is one of before, with any of the run's sectors in their places.
 pub fn write_run<D: Disk>(disk: &mut D, at: usize, run: &[Sector]) -> Result<(), Fault>
@@ -28,10 +29,10 @@ pub fn write_run<D: Disk>(disk: &mut D, at: usize, run: &[Sector]) -> Result<(),
     Ok(())
 }
 
-/// Writes the sectors of a run one behind the other, from sector `at` on, and a sync behind them.
+/// Writes the sectors of a run in order, from sector `at` on, and syncs after them.
 ///
-/// On a settled disk each image that a crash leaves during it has each sector of the run's place old or new and all others
-/// as before, and after Ok just the new ones: the disk is settled again.
+/// On a settled disk each image that a crash leaves during it has each sector of the run's place old or new and all
+/// others as before, and after Ok only the new ones: the disk is settled again.
 pub fn write_run_synced<D: Disk>(disk: &mut D, at: usize, run: &[Sector]) -> Result<(), Fault>
     requires { at + length run.now ≤ usize.MAX }
     ensures during { IsTrue (D.honest disk.old) → During (D.past disk.old) (D.past disk.new) (AfterRun (D.past disk.old) at run.now) }
@@ -48,7 +49,7 @@ pub fn write_run_synced<D: Disk>(disk: &mut D, at: usize, run: &[Sector]) -> Res
     disk.sync()
 }
 
-/// Writes sectors of zeros one behind the other, from sector `at` on.
+/// Writes `count` sectors of zeros, from sector `at` on.
 ///
 /// Each image that a crash leaves during it is one of before, with any of these sectors zero.
 pub fn write_blank<D: Disk>(disk: &mut D, at: usize, count: usize) -> Result<(), Fault>

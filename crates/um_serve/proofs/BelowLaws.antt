@@ -1,4 +1,4 @@
--- What was read of the connections below a number.
+-- The reads of the connections below a number.
 use Rattle.std.proofs.Common.{◌≡◌, ◌≢◌, ◌<◌, ◌≤◌, ◌++◌, ◌+◌, ℕ, zero, suc, List, Bool, false, Option, Some, None, true, refl, ap, subst, sym, ◌∙◌, append_assoc, append-nil, slice_get, arith, inl, inr}
 use Rattle.std.proofs.Math.Numerals.{add-one}
 use Rattle.std.proofs.lemmas.Bool.{cases_lt}
@@ -53,7 +53,7 @@ abbrev truth : Option Bool → Bool
 truth (Some b) = b
 truth None = true
 
--- nothing came of one more that isn't open
+-- one more connection that isn't open has no piece
 pub only_more : (k : ℕ) (which : List Bool) (old new : List Piece) (is_open : Bool) (piece : Piece)
     → ((n : ℕ) → n < k → slice_get which n ≡ Some false → slice_get old n ≡ Some Nothing) → slice_get which k ≡ Some is_open
     → slice_get new k ≡ Some piece → (is_open ≡ false → piece ≡ Nothing) → ((i : ℕ) → i ≢ k → slice_get new i ≡ slice_get old i)
@@ -63,7 +63,7 @@ only_more k which old new is_open piece before is_it piece_is closed others n be
     let last : n ≡ k → slice_get new n ≡ Some Nothing = λ e. ap (λ i. slice_get new i) e ∙ piece_is ∙ ap Some (closed (ap truth (sym is_it ∙ ap (λ i. slice_get which i) (sym e) ∙ shut))) in
     elim (cases_lt n k) [ inl lt ↦ others n (below_lt n k lt) ∙ before n lt shut | inr ge ↦ last (same ge) ]
 
--- no bytes came of one more that is held back
+-- one more that is held back has no bytes
 pub silent_more : (k : ℕ) (held : List Bool) (old new : List Piece) (is_held : Bool) (piece : Piece)
     → ((n : ℕ) → n < k → slice_get held n ≡ Some true → IsSilent (slice_get old n)) → slice_get held k ≡ Some is_held
     → slice_get new k ≡ Some piece → (is_held ≡ true → IsSilent (Some piece)) → ((i : ℕ) → i ≢ k → slice_get new i ≡ slice_get old i)

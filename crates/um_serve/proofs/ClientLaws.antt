@@ -1,4 +1,4 @@
--- What one client has of rounds.
+-- One client over rounds.
 use Rattle.std.proofs.Common.{◌≡◌, ◌≢◌, ◌<◌, ◌≤◌, ◌++◌, ◌∷◌, ◌∙◌, ℕ, zero, suc, List, [], Bool, true, false, Option, Some, None, Ok, IsTrue, refl, ap, sym, subst, append_assoc, append-nil, slice_get, arith, inl, inr, true≢false, if◌then◌else◌}
 use Rattle.std.proofs.lemmas.Bool.{cases_lt, eq-eqb, ne_eqb}
 use Rattle.std.proofs.lemmas.List.Concat.{flat_map-append}
@@ -14,7 +14,7 @@ use Rattle.um_serve.specs.Rounds.{after_piece, Forgets, SaysTo, SaysBelow}
 taken_join : (k : ℕ) (xs ys : List Event) → taken_of k (xs ++ ys) ≡ taken_of k xs ++ taken_of k ys
 taken_join k xs ys = flat_map-append (taken_in k) xs ys
 
--- ---- what a client has of what is put out for it once, or of more
+-- ---- a client's part of the output for it alone, or of more
 
 pub record Story (old new : Waits) (taken out : List ℕ) : Type 0 where
   pub rest : List ℕ
@@ -51,7 +51,7 @@ pub story_either : (b : Bool) (u v w : Waits) (xs ys out more : List ℕ) → v.
 story_either true u v w xs ys out more is p q = story_over u v w xs ys out more is p q
 story_either false u v w xs ys out more is p q = story_on u v w xs ys out more is p q
 
--- ---- what the gate is told of one client
+-- ---- the gate's events of one client
 
 wrote_own : (k : ℕ) (offered taken : List ℕ) → taken_in k (wrote k offered taken) ≡ taken
 wrote_own k offered taken = ap (λ (b : Bool). if b then taken else []) (eq-eqb k k refl)
@@ -130,7 +130,7 @@ own_to k None w new said says = absurd says
 own_to k (Some t) w None said says = absurd says
 own_to k (Some t) w (Some v) said says = (v, refl, own_where w.is_over k w t.output t.failed said v refl says)
 
--- ---- what is said in a round
+-- ---- the writes of a round
 
 above : (n k : ℕ) (ts : List Session) (old : List Waits) (said : List Event) (new : List Waits) → n ≤ k → SaysBelow n ts old said new → taken_of k said ≡ []
 unfolding SaysBelow
@@ -159,7 +159,7 @@ own_below (suc n) k ts old said new w lt at says =
           (r.0, r.1, subst (λ l. Story w r.0 l (output_in (slice_get ts k))) (sym (joined ∙ ap (λ l. l ++ here) (above n k ts old says.0 new ge says.2))) r.2))
     ]
 
--- ---- what is heard in a round
+-- ---- the reads of a round
 
 kept_at : (p : Option Piece) (w : Option Waits) → p ≢ Some Closed → after_piece p w ≡ w
 kept_at None w stays = refl

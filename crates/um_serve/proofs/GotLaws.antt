@@ -1,4 +1,4 @@
--- What a client has of rounds since it was opened, and behind calls.
+-- The record of a client over rounds since it was opened, and after calls.
 use Rattle.std.proofs.Common.{◌≡◌, ◌≢◌, ◌⊎◌, ◌<◌, ◌∙◌, ℕ, List, [], ◌∷◌, ◌++◌, Bool, true, false, Option, Some, None, Result, Err, slice_get, length, refl, sym, ap, subst, true≢false, inl, inr}
 use Rattle.um_backlog.specs.Backlog.{Waits, nothing}
 use Rattle.um_manager.proofs.Clients.{closed_turn}
@@ -17,14 +17,14 @@ use Rattle.um_serve.specs.Rounds.{Round, Trust, Served, Empties, after_piece, Is
 use Rattle.um_wire.specs.declared.refusal.Refusal.{Refusal}
 use Rattle.um_wire.specs.declared.refusal.Refusal.TheVariants.{NoMemory}
 
--- what is known of a client
+-- the facts known of a client
 record Got (k : ℕ) (bytes out took : List ℕ) (x : Served) : Type 0 where
   had : HasHad k bytes out x.now
   w : Waits
   at : slice_get x.waits k ≡ Some w
   story : Story nothing w took out
 
--- what a round puts out for it is taken of its session
+-- the output of a round for it is taken of its session
 emptied : (t u : Option Session) → Empties t u → (failed : Bool) × IsOutput t (output_in t) failed u
 emptied None u empties = absurd empties
 emptied (Some t) None empties = absurd empties
@@ -74,7 +74,7 @@ client_served k bytes out took x low has =
     let (t, t_at, served) = is_served k bytes out x.now g.had in
     (g.had, t, t_at, served, g.w, g.at, record { rest = g.story.rest; all = g.story.all; waiting = g.story.waits })
 
--- ---- behind calls, whatever they answered
+-- ---- after calls, whatever they answered
 
 pub closed_or : (piece : Option Piece) → (piece ≡ Some Closed) ⊎ (piece ≢ Some Closed)
 closed_or None = inr (λ e. cc)
@@ -89,7 +89,7 @@ after_round k {r = r} before ok round = elim (closed_or (slice_get r.pieces k)) 
   | inr open_still ↦ has_got (rounds before ok round open_still)
 ]
 
--- the last round isn't behind a read that was lost
+-- the last round doesn't follow a read that was lost
 last_working : {trust : Trust} {place : Place} {result : Result Unit Refusal} {r : Round} {x y : Served} → Stops trust place result r x y → x.lost ≡ false
 last_working {result = result} stops = elim (is_want result) [ inl want ↦ (stops.untaken want).working | inr other ↦ (stops.is other).working ]
 
@@ -105,7 +105,7 @@ followed {k = k} (has_got before) trust place (r ∷ rs) result y (inr (none, st
 followed (had_got before untaken) trust place (r ∷ rs) result y (inl (mid, round, rest)) = absurd (true≢false (sym untaken.lost ∙ round.working))
 followed (had_got before untaken) trust place (r ∷ rs) result y (inr (none, stops)) = absurd (true≢false (sym untaken.lost ∙ last_working stops))
 
--- Behind a read that was lost nothing is served.
+-- After a read that was lost nothing is served.
 pub nothing_served : (trust : Trust) (place : Place) (rs : List Round) (result : Result Unit Refusal) (limit : ℕ) (x y : Served) → x.lost ≡ true
     → Serves trust place rs result x y → IsCount result (length rs) limit → (y ≡ x) × (limit ≢ 0 → result ≡ Err NoMemory)
 nothing_served trust place [] result limit x y lost serves count = (

@@ -7,7 +7,7 @@ use Rattle.um_manager.specs.Connections.{HoldsFrameAt}
 use Rattle.um_model.specs.Sessions.{Session}
 use Rattle.um_serve.specs.Rounds.{IsHeldBack}
 
--- either is told
+-- either holds
 either : (frame behind : Bool) (F : Type 0) → ((frame ≡ true) ↔ F) → ((frame || behind) ≡ true) ↔ (F ⊎ (behind ≡ true))
 either true behind F is = ((λ e. inl (is.0 refl)), λ e. refl)
 either false behind F is = ((λ e. inr e), either_back behind F is)
@@ -16,7 +16,7 @@ either false behind F is = ((λ e. inr e), either_back behind F is)
     either_back behind F is (inl f) = absurd (true≢false (sym (is.1 f)))
     either_back behind F is (inr e) = e
 
--- what the code told of one client
+-- the code's result for one client
 pub held_told : (t : Option Session) (waits : Option Waits) (frame behind result : Bool) → ((frame ≡ true) ↔ HoldsFrameAt t) → behind ≡ is_behind_at waits
     → result ≡ (frame || behind) → (result ≡ true) ↔ IsHeldBack t waits
 held_told t waits frame behind result frame_is behind_is is =

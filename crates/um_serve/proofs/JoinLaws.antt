@@ -1,4 +1,4 @@
--- Rounds behind rounds, and what stands of rounds under less trust.
+-- Rounds after rounds, and the facts of rounds that hold under less trust.
 use Rattle.std.proofs.Common.{◌++◌, ◌∷◌, ◌+◌, [], ℕ, List, length, Result, Ok, Err, inl, inr, refl, subst, arith, length-append}
 use Rattle.um_backlog.specs.Backlog.{Waits}
 use Rattle.um_gate.specs.Events.{Event}
@@ -61,7 +61,7 @@ serves_less less more place (r ∷ rs) result x y within (inl (mid, round, other
     inl (mid, round_less less more place (Ok tt) r x mid within round, serves_less less more place rs result mid y within others)
 serves_less less more place (r ∷ rs) result x y within (inr (none, stops)) = inr (none, stops_less less more place result r x y within stops)
 
--- ---- rounds behind rounds
+-- ---- rounds after rounds
 
 pub joined : (all rest : Trust) (place : Place) (first more : List Round) (result : Result Unit Refusal) (x mid y : Served) → IsWithin rest all → Serves all place first (Ok tt) x mid
     → Serves rest place more result mid y → Serves rest place (first ++ more) result x y

@@ -1,4 +1,4 @@
--- What was done with a manager goes on with rounds over a gate, and so does a life of it.
+-- The history of a manager goes on with rounds over a gate, and so does a life of it.
 use Rattle.std.proofs.Common.{◌≡◌, ◌≢◌, ◌<◌, ◌∙◌, inl, inr, ℕ, List, [], ◌∷◌, ◌++◌, Bool, IsTrue, Option, Some, None, Result, Ok, Err, append-nil, slice_get, refl, sym, ap, subst}
 use Rattle.um_manager.proofs.Continuing.{is_want, none_taken, turned_continues, further}
 use Rattle.um_manager.proofs.Living.{store_ok}
@@ -18,14 +18,14 @@ use Rattle.um_serve.specs.Rounds.{Round, Trust, Served, Empties, IsRound, Serves
 use Rattle.um_wire.specs.declared.refusal.Refusal.{Refusal}
 use Rattle.um_wire.specs.declared.refusal.Refusal.TheVariants.{NoMemory}
 
--- ---- what was done
+-- ---- the history
 
 emptied_taken : (t u : Option Session) → Empties t u → IsTaken t u
 emptied_taken None u empties = absurd empties
 emptied_taken (Some t) None empties = absurd empties
 emptied_taken (Some t) (Some u) empties = inr (t.output, empties)
 
--- what a round puts out is taken of the sessions
+-- the output of a round is taken of the sessions
 out_of : {trust : Trust} {at : Place} {result : Result Unit Refusal} {r : Round} {x y : Served} (round : IsRound trust at result r x y) → TakesOut round.turn y.now
 out_of {y = y} round = record {
   rest = round.rest;
@@ -49,7 +49,7 @@ rounds_go_on {trust} {at} (r ∷ rs) result x y {disk} {before} past (inr (none,
 
 -- ---- a life
 
--- what is taken of the sessions changes nothing of where a life stands
+-- taking output of the sessions changes nothing of where a life stands
 taken_continues : (layout : Layout) {disk : Past} {before : List Call} {a mid b : Now} (past : History disk before a) (all : History disk before mid) (out : TakesOut mid b) (more : List Offer)
     (result : Result Unit Refusal) → Continues layout past all more result → Continues layout past (takes all out) more result
 taken_continues layout past all out more result (goes_on gone are) = goes_on gone are

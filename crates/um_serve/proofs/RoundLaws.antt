@@ -83,7 +83,7 @@ same_now {s} {t} {p} {q} {m} {n} {d} {e} {k} {l} us vs state past marks disk log
     ap (λ x. now x q n vs e l) state ∙ ap (λ x. now s x n vs e l) past ∙ ap (λ x. now s p x vs e l) marks ∙ ap (λ x. now s p m vs x l) disk
     ∙ ap (λ (x : LogEnd). now s p m vs d x) log
 
--- what a round hears
+-- the reads of a round
 abbrev round_at : {honest whole busy : Bool} {held : List Bool} {pieces : List Piece} {old new : List Event} {waits left : List Waits} → Gathers honest whole held pieces old new waits left busy
     → ℕ → Round
 round_at {held = held} {pieces = pieces} g moment = record { which = g.which; held = held; pieces = pieces; moment = moment }
@@ -112,7 +112,7 @@ untaken_round {moment = moment} was old new turned later at result g are ticks t
       lost = refl;
     })
 
--- a turn that was taken, and what is handed to the gate then
+-- a turn that was taken, and the output handed to the gate then
 pub done_round : {children calls taken gate later_gate before events clock moments busy came stirred changed lost lost_then : Bool} {held : List Bool} {pieces : List Piece} {waits forgot left : List Waits} {given more : List ℕ} {moment : ℕ}
     {a b d : Now} → (was : Bool) (old new later said : List Event) (turned : ℕ) (at : Place) (result : Result Unit Refusal) → Gathers gate before held pieces old new waits forgot came
     → (IsTrue gate → IsTrue later_gate) → (IsTrue events → IsTrue before) → AreHeldBack a.sessions waits held → Ticks clock moments given more (moment ∷ [])

@@ -1,4 +1,4 @@
--- What was said to the clients below a number, and what was taken of their sessions.
+-- The writes to the clients below a number, and the output taken of their sessions.
 use Rattle.std.proofs.Common.{◌≡◌, ◌≢◌, ◌<◌, ◌≤◌, ◌++◌, ◌+◌, ◌||◌, ℕ, zero, suc, List, [], Bool, Option, Some, None, refl, ap, sym, subst, ◌∙◌, append_assoc, append-nil, slice_get, IsTrue, false, arith, inl, inr}
 use Rattle.std.proofs.Math.Numerals.{add-one}
 use Rattle.std.proofs.lemmas.Bool.{cases_lt}
@@ -8,7 +8,7 @@ use Rattle.um_manager.specs.Replies.{IsOutput}
 use Rattle.um_model.specs.Sessions.{Session}
 use Rattle.um_serve.specs.Rounds.{Empties, SaysTo, SaysBelow, has_bytes, is_freed, is_stirred, any_stirred}
 
--- what is put out for a client is what its session held
+-- the output for a client is the one that its session held
 says_output : (n : ℕ) (t u : Option Session) (bytes : List ℕ) (failed : Bool) (old new : Option Waits) (said : List Event) → IsOutput t bytes failed u
     → HandsAt n old bytes failed said new → SaysTo n t old said new
 says_output n None u bytes failed old new said output hands = absurd output
@@ -16,7 +16,7 @@ says_output n (Some t) None bytes failed old new said output hands = absurd outp
 says_output n (Some t) (Some u) bytes failed old new said output hands =
     subst (λ b. HandsAt n old t.output b said new) (output.1 ∙ output.0.2) (subst (λ bs. HandsAt n old bs failed said new) output.0.3 hands)
 
--- what waits for the others doesn't matter
+-- the bytes that wait for the others don't matter
 says_same : (n : ℕ) (ts : List Session) (old : List Waits) (said : List Event) (mid new : List Waits) → ((i : ℕ) → i < n → slice_get new i ≡ slice_get mid i)
     → SaysBelow n ts old said mid → SaysBelow n ts old said new
 unfolding SaysBelow
@@ -57,7 +57,7 @@ says_more past0 past1 past2 n ts t u old mid new bytes failed before hands outpu
 
 -- ---- whether there is more to do
 
--- what waits for the others doesn't matter
+-- the bytes that wait for the others don't matter
 stirred_same : (n : ℕ) (ts : List Session) (old mid new : List Waits) → ((i : ℕ) → i < n → slice_get new i ≡ slice_get mid i)
     → any_stirred n ts old new ≡ any_stirred n ts old mid
 unfolding any_stirred
@@ -89,7 +89,7 @@ stirred_more n ts (Some t) (Some u) old mid new bytes failed before here was is 
     (is ∙ ap (λ bs. has_bytes bs || is_freed (slice_get mid n) (slice_get new n)) output.0.3 ∙ ap (λ (w : Option Waits). has_bytes t.output || is_freed w (slice_get new n)) same)
     ∙ ap (λ (s : Option Session). any_stirred n ts old new || is_stirred s (slice_get old n) (slice_get new n)) at ∙ sym (stirred_one n ts old new)
 
--- ---- what is taken of a session
+-- ---- the output taken of a session
 
 below_lt : (i n : ℕ) → i < n → i ≡ n → ⊥
 below_lt i n below same = omega (arith, below, same)

@@ -25,7 +25,7 @@ is_kept moment (Some n) (Some d) = nat_le d moment || nat_le n d
 abbrev pub AreKept : List UnitState → ℕ → Option ℕ → ℕ → Type 0
 AreKept rows moment next count = (i : ℕ) → i < count → is_kept moment next (row_at rows i).deadline ≡ true
 
--- what was found so far stands in a row, past the moment
+-- the least found so far stands in a row, past the moment
 abbrev pub IsFound : List UnitState → ℕ → Option ℕ → Type 0
 IsFound rows moment next = (d : ℕ) → next ≡ Some d → (i : ℕ) × (i < length rows) × ((row_at rows i).deadline ≡ Some d) × (moment < d)
 
@@ -54,7 +54,7 @@ stays n d le = ap (λ b. cond b (Some n) (Some d)) (le_true n d le)
 gives_way : (n d : ℕ) → d < n → sooner (Some n) d ≡ Some d
 gives_way n d lt = ap (λ b. cond b (Some n) (Some d)) (le_false n d lt)
 
--- what was kept is kept by a sooner one
+-- a deadline that was kept is kept by a sooner one
 lower : (moment n d : ℕ) (o : Option ℕ) → d ≤ n → is_kept moment (Some n) o ≡ true → is_kept moment (Some d) o ≡ true
 lower moment n d None le kept = refl
 lower moment n d (Some x) le kept = by (nat_le x moment) (nat_le n x) refl kept
@@ -163,7 +163,7 @@ module _ (t : Table UnitState) (rows : List UnitState) (held : units_by t.names 
             le_of n later (either_le (nat_le later moment) (nat_le n later) (ap (λ o. is_kept moment o (Some later)) (sym is) ∙ kept_at other later waits) (le_false later moment lt));
       }
 
--- what a scan of all rows found is the next deadline
+-- the deadline that a scan of all rows found is the next one
 pub next_of : (t : Table UnitState) (rows : List UnitState) → units_by t.names rows ≡ t.held → length rows ≡ length t.names → AreAscending t.names
     → (moment : ℕ) (next : Option ℕ) → AreKept rows moment next (length rows) → IsFound rows moment next → MatchOption next (NoneAfter t.held moment) (IsNextAfter t.held moment)
 next_of t rows held len sorted moment None kept found = λ unit d is. le_of d moment (kept_at t rows held len sorted moment None kept unit d is)

@@ -1,4 +1,4 @@
--- What the gate takes for a client is a beginning of what its manager put out for it.
+-- The bytes that the gate takes for a client are a beginning of its manager's output for it.
 use Rattle.std.proofs.Common.{◌≡◌, ◌≢◌, ◌<◌, ◌∙◌, inl, inr, ℕ, List, [], ◌∷◌, ◌++◌, Bool, true, false, Option, Some, None, Result, Ok, Err, slice_get, refl, sym, ap, subst, true≢false, arith}
 use Rattle.std.proofs.lemmas.List.Concat.{flat_map-append}
 use Rattle.um_backlog.specs.Backlog.{Waits, nothing}
@@ -39,7 +39,7 @@ none_had (Some Nothing) = refl
 none_had (Some (Bytes bytes)) = refl
 none_had (Some Closed) = refl
 
--- what a round puts out for it is taken of its session
+-- the output of a round for it is taken of its session
 left_empty : (t u : Option Session) → Empties t u → (v : Session) × (u ≡ Some v) × (v.output ≡ [])
 left_empty None u empties = absurd empties
 left_empty (Some t) None empties = absurd empties
@@ -81,7 +81,7 @@ round_takes k low {r = r} {x = x} {y = y} round took past is found =
           )
     ]
 
--- ---- rounds one behind the other
+-- ---- rounds in order
 
 pub rounds_take : (k : ℕ) → k < 64 → {trust : Trust} {at : Place} {disk : Past} {before : List Call} (rs : List Round) (result : Result Unit Refusal) (x y : Served)
     (past : History disk before x.now) (all : History disk before y.now) (took : List ℕ) (rounds : AreRounds trust at rs result x y past all) → IsTakenBy k took x past
@@ -97,7 +97,7 @@ rounds_take k low rs result x y past all took (last_round refused round found ou
 rounds_take k low rs result x y past all took (lost_round untaken out) is =
     record { rest = is.rest; all = is.all; waiting = λ working. absurd (true≢false (sym untaken.lost ∙ working)) }
 
--- nothing was put out right behind an opening
+-- nothing was put out right after an opening
 just_empty : (k : ℕ) → k < 64 → (at : Place) (honest whole : Bool) (moment : ℕ) (boot : List ℕ) (count sectors : ℕ) {disk : Past} {before : List Call} {b : Now} (past : History disk before b)
     → IsJustOpened at honest whole moment boot count sectors past → (t : Session) × (slice_get b.sessions k ≡ Some t) × (t.output ≡ []) × (put_out_of k past ≡ [])
 just_empty k low at honest whole moment boot count sectors (opens sessions opened anew) is =

@@ -1,4 +1,4 @@
--- How what was done with a manager goes on with rounds over a gate, and what these offered to its store.
+-- How rounds over a gate extend a manager's history, and their offers to its store.
 -- No manual page has this: it is the project's own (docs/HEADLINE.md, "Which call gives what").
 -- `serve` stands on this file.
 use Rattle.std.specs.Prelude.{◌≡◌, ◌≢◌, List, [], ◌∷◌, ◌++◌, Result, Ok, Err}
@@ -19,7 +19,7 @@ use Rattle.um_wire.specs.declared.refusal.Refusal.TheVariants.{NoMemory}
 abbrev pub FoundMemory : Result Unit Refusal → Type 0
 FoundMemory result = result ≢ Err NoMemory
 
--- Rounds one behind the other: of each the turn, and then what it put out for clients is taken. A refusal is the last.
+-- Rounds in order: the turn of each, and then its output for clients is taken; a refusal is the last.
 pub data AreRounds (trust : Trust) (at : Place) {disk : Past} {before : List Call} : List Round → Result Unit Refusal → (x y : Served)
     → History disk before x.now → History disk before y.now → Type 0 where
   no_round : {result : Result Unit Refusal} {x : Served} {past : History disk before x.now} → AreRounds trust at [] result x x past past
@@ -32,7 +32,7 @@ pub data AreRounds (trust : Trust) (at : Place) {disk : Past} {before : List Cal
   lost_round : {r : Round} {result : Result Unit Refusal} {x y : Served} {past : History disk before x.now} → IsUntaken trust r x y
       → (out : TakesOut x.now y.now) → AreRounds trust at (r ∷ []) result x y past (takes past out)
 
--- what these rounds offered, in their order, with what came of each
+-- the offers of these rounds, in their order, with the outcome of each
 abbrev pub offers_in_rounds : {trust : Trust} {at : Place} {disk : Past} {before : List Call} {rs : List Round} {result : Result Unit Refusal} {x y : Served}
     {past : History disk before x.now} {all : History disk before y.now} → AreRounds trust at rs result x y past all → List Offer
 offers_in_rounds no_round = []
@@ -40,8 +40,8 @@ offers_in_rounds (and_round round found out rest) = offers_told (round.turns.1 f
 offers_in_rounds (last_round refused round found out) = offers_told (round.turns.1 found).store (offers_of_turn (round.turns.1 found))
 offers_in_rounds (lost_round untaken out) = []
 
--- By these rounds, whichever of those that were made so, what was done with the manager goes on, and so does each life that came to it: it goes on with just
--- what the rounds offered, or its store refused the last of them, and there it has stopped.
+-- Some rounds that fit the calls extend the manager's history, and so does each life with that history: it goes on with
+-- exactly the rounds' offers, or its store refused the last of them, and there it has stopped.
 abbrev pub LivesOn : Trust → Place → Layout → Result Unit Refusal → (x y : Served) → Type 0
 LivesOn trust at layout result x y =
     (rs : List Round) → Serves trust at rs result x y → (disk : Past) (before : List Call) (past : History disk before x.now) → HasGoneOn layout past

@@ -1,5 +1,5 @@
--- Rounds over a gate: each an accept, a read of each open connection, ascending, a turn of the manager, and the writes of what it put out for
--- each client.
+-- Rounds over a gate: each an accept, a read of each open connection, ascending, a turn of the manager, and the writes
+-- of its output for each client.
 -- No manual page has this: it is the project's own (docs/FORMATS.md, "The socket").
 -- `serve` stands on this file.
 use Rattle.std.specs.Prelude.{◌≡◌, ◌≢◌, ◌⊎◌, ◌↔◌, ◌≤◌, ◌<◌, ◌||◌, ◌&&◌, not, ⊤, ℕ, zero, suc, List, [], ◌∷◌, ◌++◌, Bool, true, false, IsTrue, Option, Some, None, Result, Ok, Err, slice_get}
@@ -16,7 +16,7 @@ use Rattle.um_serve.specs.Sleep.{has_changed}
 use Rattle.um_wire.specs.declared.refusal.Refusal.{Refusal}
 use Rattle.um_wire.specs.declared.refusal.Refusal.TheVariants.{NoMemory}
 
--- what a read gave
+-- the bytes that a read gave
 abbrev pub came_of : Piece → Option (List ℕ)
 came_of Nothing = Some []
 came_of (Bytes bytes) = Some bytes.items
@@ -30,7 +30,7 @@ IsHeldBack t waits = HoldsFrameAt t ⊎ (is_behind_at waits ≡ true)
 abbrev pub AreHeldBack : List Session → List Waits → List Bool → Type 0
 AreHeldBack ts waits held = (n : ℕ) → n < 64 → (slice_get held n ≡ Some true) ↔ IsHeldBack (slice_get ts n) (slice_get waits n)
 
--- so many bytes are read of a connection at most: of a client that is held back none
+-- the most bytes that are read of a connection: of a client that is held back none
 abbrev pub most_read : Option Bool → ℕ
 most_read (Some true) = 0
 most_read other = 4096
@@ -45,20 +45,20 @@ unfoldable pub reads_below : ℕ → List Bool → List Bool → List Piece → 
 reads_below zero which held pieces = []
 reads_below (suc n) which held pieces = reads_below n which held pieces ++ reads_one n (slice_get which n) (slice_get held n) (slice_get pieces n)
 
--- nothing came of a connection that isn't open
+-- a connection that isn't open has no piece
 abbrev pub OnlyOpen : List Bool → List Piece → Type 0
 OnlyOpen which pieces = (n : ℕ) → n < 64 → slice_get which n ≡ Some false → slice_get pieces n ≡ Some Nothing
 
--- no bytes came
+-- no bytes arrived
 abbrev pub IsSilent : Option Piece → Type 0
 IsSilent (Some (Bytes bytes)) = ⊥
 IsSilent other = ⊤
 
--- no bytes came of a client that is held back; that it is gone may be told
+-- no bytes arrive from a client that is held back; its closing may be reported
 abbrev pub NoneOfHeld : List Bool → List Piece → Type 0
 NoneOfHeld held pieces = (n : ℕ) → n < 64 → slice_get held n ≡ Some true → IsSilent (slice_get pieces n)
 
--- what a round heard of the connections
+-- a round: the connections that are open and held back, their pieces, and its moment
 pub record Round : Type 0 where
   pub which : List Bool  -- the connections that are open
   pub held : List Bool  -- the clients that are held back
@@ -68,8 +68,8 @@ pub record Round : Type 0 where
 abbrev pub heard_in : Round → List Event
 heard_in r = accepted r.which ∷ reads_below 64 r.which r.held r.pieces
 
--- what is served, at a moment: what the gate did, the moments that the clock gave, what waits for each client, whether the last round was busy, the
--- moment of the last turn, whether what a round read was lost, and the manager
+-- a server at a moment: the events of the gate, the moments of the clock, the bytes that wait for each client, whether
+-- the last round was busy, the moment of the last turn, whether the reads of a round were lost, and the manager
 pub record Served : Type 0 where
   pub past : List Event
   pub given : List ℕ
@@ -83,7 +83,8 @@ abbrev pub served : List Event → List ℕ → List Waits → Bool → ℕ → 
 served past given waits busy turned lost now =
     record { past = past; given = given; waits = waits; busy = busy; turned = turned; lost = lost; now = now }
 
--- Which of children, gate and clock do what they tell, and have a list from which nothing is missing. What is said of each stands under its own.
+-- Which of children, gate and clock do what they answer, and have a list from which nothing is missing; each fact about
+-- one of them stands under its own.
 pub record Trust : Type 0 where
   pub children : Bool
   pub calls : Bool
@@ -96,7 +97,7 @@ abbrev pub trust : (children calls gate events clock moments : Bool) → Trust
 trust children calls gate events clock moments =
     record { children = children; calls = calls; gate = gate; events = events; clock = clock; moments = moments }
 
--- who trusts the one trusts the other
+-- trust in the one is trust in the other
 pub record IsWithin (less more : Trust) : Type 0 where
   pub children : IsTrue less.children → IsTrue more.children
   pub calls : IsTrue less.calls → IsTrue more.calls
@@ -105,7 +106,7 @@ pub record IsWithin (less more : Trust) : Type 0 where
   pub clock : IsTrue less.clock → IsTrue more.clock
   pub moments : IsTrue less.moments → IsTrue more.moments
 
--- what waits for a client is forgotten where it is told closed
+-- the bytes that wait for a client are dropped if it is reported closed
 abbrev pub after_piece : Option Piece → Option Waits → Option Waits
 after_piece (Some Closed) waits = gone waits
 after_piece (Some Nothing) waits = waits
@@ -115,7 +116,7 @@ after_piece None waits = waits
 abbrev pub Forgets : List Piece → List Waits → List Waits → Type 0
 Forgets pieces old new = (n : ℕ) → slice_get new n ≡ after_piece (slice_get pieces n) (slice_get old n)
 
--- something came of a connection
+-- something arrived on a connection
 abbrev pub is_something : Piece → Bool
 is_something Nothing = false
 is_something (Bytes bytes) = true
@@ -124,8 +125,8 @@ is_something Closed = true
 abbrev pub has_come : List Piece → Bool
 has_come pieces = list_any is_something pieces
 
--- What a round hears, what it says then to the clients, and its moment; these wait for them before anything is said. Nothing comes of a connection
--- that isn't open, and no bytes of a client that is held back.
+-- A round hears its pieces, says its output to the clients, and has its moment; `waits` is before anything is said: a
+-- connection that isn't open has no piece, and one that is held back has no bytes.
 pub record Hears (trust : Trust) (r : Round) (said : List Event) (waits : List Waits) (x y : Served) : Type 0 where
   pub only_open : OnlyOpen r.which r.pieces
   pub are_held : AreHeldBack x.now.sessions x.waits r.held
@@ -134,7 +135,7 @@ pub record Hears (trust : Trust) (r : Round) (said : List Event) (waits : List W
   pub given : Ticks trust.clock trust.moments x.given y.given (r.moment ∷ [])
   pub forgets : Forgets r.pieces x.waits waits
 
--- what came is offered: what an accept and the reads heard
+-- the pieces that are offered are those that an accept and the reads heard
 pub record Gathers (honest whole : Bool) (held : List Bool) (pieces : List Piece) (old new : List Event) (waits left : List Waits) (busy : Bool) : Type 0 where
   pub which : List Bool
   pub only_open : OnlyOpen which pieces
@@ -143,7 +144,7 @@ pub record Gathers (honest whole : Bool) (held : List Bool) (pieces : List Piece
   pub forgets : Forgets pieces waits left
   pub busy_is : busy ≡ has_come pieces
 
--- what was put out for a connection is taken
+-- the output of a connection is taken
 abbrev pub Empties : Option Session → Option Session → Type 0
 Empties (Some t) (Some u) = Does t (Take t.output) u
 Empties t u = ⊥
@@ -151,7 +152,7 @@ Empties t u = ⊥
 abbrev pub EmptiesAll : List Session → List Session → Type 0
 EmptiesAll ts us = (n : ℕ) → n < 64 → Empties (slice_get ts n) (slice_get us n)
 
--- just what a turn put out for a client goes to it, and where its session has failed nothing comes behind that
+-- exactly the output of a turn for a client goes to it, and if its session has failed nothing follows that
 abbrev pub SaysTo : ℕ → Option Session → Option Waits → List Event → Option Waits → Type 0
 SaysTo number (Some t) old said new = HandsAt number old t.output t.failed said new
 SaysTo number None old said new = ⊥
@@ -168,7 +169,7 @@ abbrev pub has_bytes : List ℕ → Bool
 has_bytes [] = false
 has_bytes (b ∷ bs) = true
 
--- a client that had fallen behind is read again: it took enough of what waited for it
+-- a slow client is read again: it took enough of the bytes that wait for it
 abbrev pub is_freed : Option Waits → Option Waits → Bool
 is_freed old new = is_behind_at old && not (is_behind_at new)
 
@@ -182,9 +183,10 @@ unfoldable pub any_stirred : ℕ → List Session → List Waits → List Waits 
 any_stirred zero ts old new = false
 any_stirred (suc n) ts old new = any_stirred n ts old new || is_stirred (slice_get ts n) (slice_get old n) (slice_get new n)
 
--- A round: the accept and the reads, a turn over what came, and then what it put out for each client is taken of its session and handed to the
--- gate, as far as that takes it. It was busy where something was heard or put out, where a client is read again, or where the turn changed the
--- state: then another round may have more to do. Behind a read that was lost there is no round.
+-- A round: the accept and the reads, a turn over their pieces, and then the output for each client is taken of its
+-- session and handed to the gate, as far as that takes it. It was busy if something was heard or put out, if a client
+-- is read again, or if the turn changed the state: then another round may have more to do. After a read that was lost
+-- there is no round.
 pub record IsRound (trust : Trust) (place : Place) (store : Result Unit Refusal) (r : Round) (x y : Served) : Type 0 where
   pub working : x.lost ≡ false
   pub said : List Event
@@ -199,7 +201,8 @@ pub record IsRound (trust : Trust) (place : Place) (store : Result Unit Refusal)
   pub moment_is : y.turned ≡ r.moment
   pub none_lost : y.lost ≡ false
 
--- A round whose turn found no memory for itself: what it heard wasn't taken and is lost, and nothing is said. It is the last one.
+-- A round whose turn found no memory for itself: the pieces it heard weren't taken and are lost, and nothing is said;
+-- it is the last one.
 pub record IsUntaken (trust : Trust) (r : Round) (x y : Served) : Type 0 where
   pub working : x.lost ≡ false
   pub hears : Hears trust r [] y.waits x y
@@ -214,8 +217,8 @@ pub record Stops (trust : Trust) (place : Place) (result : Result Unit Refusal) 
   pub untaken : result ≡ Err NoMemory → IsUntaken trust r x y
   pub is : result ≢ Err NoMemory → IsRound trust place result r x y
 
--- These rounds, each from where the one before it ended; a refusal is the last. One that found no room for what a read may give is none, and behind a
--- read that was lost there is none: nothing is heard, and nothing said.
+-- These rounds, each from where the one before it ended; a refusal is the last. One that found no room for its reads is
+-- none, and after a read that was lost there is none: nothing is heard, and nothing said.
 abbrev pub Serves : Trust → Place → List Round → Result Unit Refusal → Served → Served → Type 0
 Serves trust place [] result x y = ((result ≡ Ok tt) ⊎ (result ≡ Err NoMemory)) × (y ≡ x)
 Serves trust place (r ∷ rs) result x y =
@@ -226,7 +229,7 @@ abbrev pub ServesOne : Trust → Place → Result Unit Refusal → Served → Se
 ServesOne trust place result x y =
     ((result ≡ Err NoMemory) × (y ≡ x)) ⊎ ((r : Round) × (((result ≡ Ok tt) × IsRound trust place result r x y) ⊎ Stops trust place result r x y))
 
--- so many rounds, and no more where a refusal ended them
+-- this many rounds, and no more if a refusal ended them
 abbrev pub IsCount : Result Unit Refusal → ℕ → ℕ → Type 0
 IsCount (Ok done) count limit = count ≡ limit
 IsCount (Err e) count limit = count ≤ limit

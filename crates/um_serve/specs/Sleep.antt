@@ -1,6 +1,6 @@
--- How long is slept between rounds in which nothing came, and until which deadline.
+-- The length of a sleep between rounds in which nothing arrived, and its deadline.
 -- No manual page has this: it is the project's own (docs/ARCHITECTURE.md, "The way of one input").
--- The pace of the loop, and what it waits for, stand on this file.
+-- The pace of the loop, and its waits, stand on this file.
 use Rattle.std.specs.Prelude.{◌≡◌, ◌<◌, ◌≤◌, ◌-◌, min, nat_lt, ℕ, List, Bool, if◌then◌else◌, Option, Some, None, MatchOption}
 use Rattle.um_model.specs.Machine.{State}
 use Rattle.um_model.specs.Service.{ByUnit, state_of_unit}
@@ -21,8 +21,9 @@ pub record IsNextAfter (units : ByUnit UnitState) (moment deadline : ℕ) : Type
   pub past : moment < deadline
   pub least : (other : List ℕ) (later : ℕ) → (state_of_unit units other).deadline ≡ Some later → moment < later → deadline ≤ later
 
--- The deadline that is slept for, from a turn at a moment on: the least one past that moment. One up to that moment was offered to the turn. It
--- stands because something holds it up, as a job that its restart has to wait for; what ends that is heard of, and wakes by itself.
+-- The deadline that is slept for, from a turn at a moment on: the least one past that moment. One up to that moment was
+-- offered to the turn. It stands because something holds it up, such as a job that its restart has to wait for; the end
+-- of that is heard, and wakes by itself.
 abbrev pub IsSleptFor : State → (turned : ℕ) → Option ℕ → Type 0
 IsSleptFor s turned deadline = MatchOption deadline (NoneAfter s.units turned) (IsNextAfter s.units turned)
 
@@ -35,6 +36,6 @@ abbrev pub until : ℕ → Option ℕ → ℕ
 until now (Some deadline) = min (deadline - now) second
 until now None = second
 
--- so many microseconds are slept: while something is open of which nobody tells no longer than the wait
+-- the microseconds slept: while something is open that no runner reports no more than the wait
 abbrev pub slept : (wait : ℕ) → Bool → (now : ℕ) → Option ℕ → ℕ
 slept wait is_open now deadline = min (if is_open then wait else second) (until now deadline)

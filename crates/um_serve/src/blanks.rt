@@ -1,11 +1,11 @@
-//! Room for what comes.
+//! Room for the reads of a round.
 
 ghost use Rattle.std.specs.Prelude.{◌≡◌, ◌≤◌, ◌+◌, [], OnOk, vec_len, vec_capacity};
 
 use std::alloc::{AllocError, Global};
 use um_gate::{CONNECTIONS, MOST_BYTES};
 
-/// Room for what one read gives.
+/// Room for the bytes of one read.
 #[derive(Drop)]
 pub struct Blank {
     pub bytes: Vec<u8>,

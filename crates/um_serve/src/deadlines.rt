@@ -1,4 +1,4 @@
-//! Which deadline comes next.
+//! The next deadline of the units.
 
 ghost use Rattle.std.specs.Prelude.{◌≡◌, MatchOption};
 ghost use Rattle.um_serve.specs.Scan.{sooner_past};

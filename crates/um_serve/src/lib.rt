@@ -1,4 +1,4 @@
-//! Serving: rounds of an accept, a read of each open connection, a turn of the manager, and the writes of what it put out.
+//! Serving: rounds of an accept, a read of each open connection, a turn of the manager, and the writes of its output.
 #![tactic(auto)]
 
 mod blanks;

@@ -1,4 +1,4 @@
-//! What a round hears of the gate.
+//! The accept and the reads of a round.
 
 ghost use Rattle.std.specs.Prelude.{◌≡◌, ◌≢◌, ◌↔◌, ◌+◌, ◌<◌, ◌≤◌, ◌∷◌, [], ℕ, true, false, vec_len, slice_get, Some};
 ghost use Rattle.um_gate.specs.Frames.{KeepsGate};
@@ -24,7 +24,7 @@ pub fn connection(number: usize) -> Connection
     }
 }
 
-/// What a read of a connection gives, of so many bytes at most.
+/// Reads a connection, `most` bytes at most.
 fn read_one<G: Gate>(gate: &mut G, number: usize, most: usize, blank: Blank) -> Piece
     requires { most ≤ 4096 }
     ensures past { Logs (G.honest gate.old) (G.whole gate.new) (G.past gate.old) (G.past gate.new) (read number most (came_of result) ∷ []) }
@@ -117,7 +117,7 @@ pub fn listen<G: Gate>(
     }
 }
 
-/// Whether anything came.
+/// Whether anything arrived.
 pub fn has_come(pieces: &Pieces) -> bool
     ensures { result ≡ has_come pieces.now }
 {
@@ -127,7 +127,7 @@ pub fn has_come(pieces: &Pieces) -> bool
         .any(|piece| !matches!(piece, Piece::Nothing))
 }
 
-/// What waits for a client is forgotten where it is told closed.
+/// Drops the bytes that wait for a client if its piece says that it closed.
 fn forget_one(backlog: &mut Backlog, number: usize, piece: &Piece)
     ensures here { slice_get backlog.new number ≡ after_piece (Some piece.now) (slice_get backlog.old number) }
     ensures others { (other : ℕ) → other ≢ number → slice_get backlog.new other ≡ slice_get backlog.old other }
@@ -138,7 +138,7 @@ fn forget_one(backlog: &mut Backlog, number: usize, piece: &Piece)
     }
 }
 
-/// What waits for clients that are told closed is forgotten.
+/// Drops the bytes that wait for clients whose pieces say that they closed.
 pub fn forget_closed(pieces: &Pieces, backlog: &mut Backlog)
     ensures { Forgets pieces.now backlog.old backlog.new }
 {

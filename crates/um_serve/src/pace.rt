@@ -7,10 +7,10 @@ ghost use Rattle.um_serve.specs.Sleep.{slept};
 use std::time::Duration;
 use um_model::{Deadline, Moment};
 
-/// Where something is open of which nobody tells, so many microseconds are slept at most.
+/// The longest sleep, in microseconds, while something is open that no runner reports.
 const SOON: u64 = 10_000;
 
-/// And else, without a deadline, so many.
+/// The longest sleep otherwise, in microseconds, if there is no deadline.
 const IDLE: u64 = 1_000_000;
 
 /// How long it is until a deadline, in microseconds; 0 where that is past.
@@ -20,10 +20,12 @@ fn until(now: Moment, deadline: Deadline) -> u64
     deadline.micros().saturating_sub(now.micros())
 }
 
-/// How long is slept between rounds in which nothing came, where something is open of which nobody tells or nothing is, and a deadline is slept for.
+/// The length of the sleep between rounds in which nothing arrived, by whether something is open that no runner
+/// reports, and by the deadline that is slept for.
 ///
-/// A runner wakes the manager when a process starts or ends. So also while processes are live a second is slept at most, for a wake that was lost, as
-/// by a runner of an older program; and 10 ms where no runner may tell what is to be done next.
+/// A runner wakes the manager when a process starts or ends. Still, while processes are live a second is slept at most,
+/// in case a wake was lost, for example by a runner of an older program; and 10 ms if no runner may report the event
+/// that is awaited.
 pub fn pause(is_open: bool, now: Moment, deadline: Option<Deadline>) -> Duration
     ensures { as_nanos result ≡ 1000 * slept 10000 is_open now deadline }
 {

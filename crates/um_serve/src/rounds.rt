@@ -26,12 +26,12 @@ use um_model::{Deadline, Moment};
 use um_sector::Disk;
 use um_wire::Refusal;
 
-/// A gate, and beside it what goes from one round to the next: what waits for each client, the room for what is read, whether the last round was
-/// busy, the moment of its turn, and whether what it read was lost.
+/// A gate, and beside it the state that goes from one round to the next: the bytes that wait for each client, the room
+/// for reads, whether the last round was busy, the moment of its turn, and whether its reads were lost.
 pub struct Buffered<G> {
     pub gate: G,
     alloc: Global,
-    /// What came of the connections.
+    /// The pieces of the connections.
     pieces: Pieces,
     backlog: Backlog,
     blanks: Vec<Blank>,
@@ -39,7 +39,7 @@ pub struct Buffered<G> {
     was_busy: bool,
     /// The moment of the last turn.
     turned: Moment,
-    /// What a round read was lost: its turn found no memory for itself.
+    /// The reads of a round were lost: its turn found no memory for itself.
     has_lost: bool,
 }
 
@@ -87,7 +87,7 @@ fn has_moved<D: Disk, C: Children>(manager: &Manager<D, C>, before: Moment) -> b
     before.micros() < clock_of(manager).micros()
 }
 
-/// Hands to the gate what is put out for a client, as far as it takes that, and tells whether there is more to do for it.
+/// Hands to the gate the output for a client, as far as it takes that, and returns whether there is more to do for it.
 fn hand_out<G: Gate>(gate: &mut G, backlog: &mut Backlog, number: usize, output: Output) -> bool
     ensures hands { (events : List Event) × HandsAt number (slice_get backlog.old number) output.bytes.items output.failed events (slice_get backlog.new number)
         × Logs (G.honest gate.old) (G.whole gate.new) (G.past gate.old) (G.past gate.new) events }
@@ -103,7 +103,8 @@ fn hand_out<G: Gate>(gate: &mut G, backlog: &mut Backlog, number: usize, output:
     has_spoken | (was_behind & !is_behind)
 }
 
-/// Hands to the gate what the manager has for each connection, as far as it takes that, and tells whether there is more to do for any.
+/// Hands to the gate the output of the manager for each connection, as far as it takes that, and returns whether there
+/// is more to do for any.
 fn speak<D: Disk, C: Children, G: Gate>(
     manager: &mut Manager<D, C>,
     gate: &mut G,
@@ -127,7 +128,7 @@ fn speak<D: Disk, C: Children, G: Gate>(
 }
 
 impl<G: Gate + Drop> Buffered<G> {
-    /// The gate, before its first round: nothing waits for anybody. Where memory is wanting the gate is let go.
+    /// The gate, before its first round: no bytes wait for any client. If there is no memory the gate is dropped.
     pub fn new(alloc: Global, gate: G) -> Result<Buffered<G>, AllocError>
         ensures gate { IfOk result (λ buffered. buffered.gate ≡ gate) }
         ensures waits { IfOk result (λ buffered. buffered.backlog ≡ replicate 64 nothing) }
@@ -149,16 +150,16 @@ impl<G: Gate + Drop> Buffered<G> {
 }
 
 impl<G: Gate> Buffered<G> {
-    /// Whether another round may have more to do at once: the last one read something, put something out or changed the state, or a client is
-    /// read again that had fallen behind.
+    /// Whether another round may have more to do at once: the last one read something, put something out or changed the
+    /// state, or a slow client is read again.
     pub fn was_busy(&self) -> bool
         ensures { result ≡ self.now.was_busy }
     {
         self.was_busy
     }
 
-    /// The deadline that is to be slept for behind the last round: the next one past the moment of its turn, of all units of the manager that it
-    /// served. None where there is none.
+    /// The deadline that is to be slept for after the last round: the next one past the moment of its turn, of all
+    /// units of the manager that it served. None where there is none.
     pub fn deadline<D: Disk, C: Children>(
         &self,
         manager: &Manager<D, C>,
@@ -168,8 +169,8 @@ impl<G: Gate> Buffered<G> {
         Ok(next_deadline(manager.state().units(), self.turned))
     }
 
-    /// An accept and a read of each open connection; of those that are held back nothing is read. Where there is no room for what a read may give
-    /// nothing is done.
+    /// An accept and a read of each open connection; of those that are held back nothing is read. If there is no room
+    /// for the bytes of a read nothing is done.
     fn gather(&mut self, held: Held) -> Result<(), AllocError>
         ensures gathers { OnOk result (Gathers (G.honest self.old.gate) (G.whole self.new.gate) held.is_held self.new.pieces
             (G.past self.old.gate) (G.past self.new.gate) self.old.backlog self.new.backlog self.new.was_busy) }
@@ -194,8 +195,8 @@ impl<G: Gate> Buffered<G> {
         Ok(())
     }
 
-    /// An accept, a read of each open connection, a turn, and the writes. What was read before a turn that found no memory for itself is lost, and
-    /// behind that nothing is done.
+    /// An accept, a read of each open connection, a turn, and the writes. The reads before a turn that found no memory
+    /// for itself are lost, and after that nothing is done.
     fn round<D: Disk, C: Children, M: Moments>(
         &mut self,
         manager: &mut Manager<D, C>,
@@ -237,11 +238,12 @@ impl<G: Gate> Buffered<G> {
     }
 }
 
-/// So many rounds over the gate; a refusal ends them.
+/// Serves `limit` rounds over the gate; a refusal ends them.
 ///
-/// E15 where a round found no memory, before anything was accepted, or its turn none for itself, so that what was read is lost: behind that each
-/// later call is answered E15 at once, hears nothing and hands out nothing. E16 and E17 of the store, once the replies are handed out: E16 exactly
-/// where the count of the disk's failures rises, E17 exactly where it rose in an earlier call.
+/// E15 if a round found no memory, before anything was accepted, or its turn none for itself, so that its reads are
+/// lost: after that each later call is answered E15 at once, hears nothing and hands out nothing. E16 and E17 of the
+/// store, once the replies are handed out: E16 exactly if the count of the disk's failures rises, E17 exactly if it
+/// rose in an earlier call.
 pub fn serve<D: Disk, C: Children, G: Gate, M: Moments>(
     manager: &mut Manager<D, C>,
     gate: &mut Buffered<G>,

@@ -1,4 +1,4 @@
--- What stands at the front of bytes, as the code tells it.
+-- The front of bytes, as the code sees it.
 -- No manual page has this: it is the project's own protocol (docs/FORMATS.md, "Frames").
 -- Sessions stand on this file.
 use Rattle.std.specs.Prelude.{◌≡◌, ◌⊎◌, ◌+◌, ◌≤◌, List, [], ℕ, length, take, drop}
@@ -6,7 +6,7 @@ use Rattle.um_model.specs.Frames.{BeginsWith, IsPartial, BeginsTooLong}
 use Rattle.um_session.specs.declared.front.FrameFront.{FrameFront}
 use Rattle.um_session.specs.declared.front.FrameFront.TheVariants.{Partial, TooLong, Frame}
 
--- less than a frame, a length past the limit, or a frame of so many bytes behind its length
+-- less than a frame, a length past the limit, or a frame of this many bytes after its length
 abbrev pub IsFront : List ℕ → FrameFront → Type 0
 IsFront stream Partial = (stream ≡ []) ⊎ IsPartial stream
 IsFront stream TooLong = BeginsTooLong stream

@@ -1,4 +1,4 @@
--- What a session gives to be answered, as the code tells it.
+-- The requests that a session gives to be answered, as the code has them.
 -- No manual page has this: it is the project's own protocol (docs/FORMATS.md, "Frames").
 -- Sessions stand on this file.
 use Rattle.std.specs.Prelude.{◌≡◌, List, ℕ, false, Option, Some, None, Result, ⊤}
@@ -9,13 +9,13 @@ use Rattle.um_proto.specs.declared.request.Request.{Request}
 use Rattle.um_wire.specs.Gives.{Gives}
 use Rattle.um_wire.specs.declared.refusal.Refusal.{Refusal}
 
--- what was given is what was read, or reading it found no memory
+-- the request given is the one read, or reading it found no memory
 abbrev pub IsGiven : Option (Result Request Refusal) → Option Asked → Type 0
 IsGiven None None = ⊤
 IsGiven (Some given) (Some asked) = Gives request_of given asked
 IsGiven given asked = ⊥
 
--- what is read next is given, or that reading it found no memory
+-- the next reading is given, or that it found no memory
 abbrev pub IsReading : Session → Option (Result Request Refusal) → Session → Type 0
 IsReading s given t = (asked : Option Asked) × Reads s t asked × IsGiven given asked
 

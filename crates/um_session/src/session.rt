@@ -1,3 +1,4 @@
+//! The session of one client.
 ghost use Rattle.std.specs.Prelude.{◌≡◌, ◌↔◌, ◌≤◌, ◌+◌, ◌-◌, [], length, drop, take, true, false, IsOk, OnOk, OnErr, vec_capacity, vec_len};
 ghost use Rattle.um_model.specs.Sessions as model;
 ghost use Rattle.um_model.specs.Requests.{request_of as request_defined};
@@ -13,15 +14,15 @@ use std::mem;
 use um_proto::{Mode, Request, read_request};
 use um_wire::{Limit, Refusal};
 
-/// Room past so many bytes is given back once nothing is held in it.
+/// Room past this many bytes is given back once nothing is held in it.
 const KEPT_ROOM: usize = 64 << 10;
 
-/// What is held of one client: the bytes that came and aren't read yet, and what was put out and isn't taken yet.
+/// The bytes held of one client: its input that isn't read yet, and its output that isn't taken yet.
 #[derive(Drop)]
 pub struct Session {
     alloc: Global,
     held: Vec<u8>,
-    /// So many bytes of those held are read.
+    /// The number of bytes held that are read.
     at: usize,
     output: Vec<u8>,
     /// It reads no more.
@@ -37,7 +38,7 @@ impl Model for Session {
 }
 
 impl Session {
-    /// A session of which nothing came yet. It takes no memory.
+    /// A session to which no bytes were fed yet. It takes no memory.
     pub fn new(alloc: Global) -> Session
         ensures rest { result.rest ≡ [] }
         ensures output { result.output ≡ [] }
@@ -52,7 +53,7 @@ impl Session {
         }
     }
 
-    /// Whether it has failed: a length past the limit came, or a reply found no memory.
+    /// Whether it has failed: a length past the limit was read, or a reply found no memory.
     pub fn failed(&self) -> bool
         ensures { result ≡ self.now.failed }
     {
@@ -66,8 +67,8 @@ impl Session {
         !self.failed && matches!(front_of(self.rest()), FrameFront::Frame(_))
     }
 
-    /// Makes room, so that a next `feed` of at most `len` bytes takes no memory. The place of bytes that were read is given back once it is
-    /// half of what is held, so that no more bytes are moved than were read.
+    /// Makes room, so that a next `feed` of at most `len` bytes takes no memory. The place of bytes that were read is
+    /// given back once they are half of those held, so that no more bytes are moved than were read.
     pub fn room(&mut self, len: usize) -> Result<(), AllocError>
         ensures room { OnOk result (len ≤ self.new.room) }
         ensures deed { model.Does self.old model.Room self.new }
@@ -86,7 +87,7 @@ impl Session {
         self.at = 0;
     }
 
-    /// Bytes come. A session that has failed takes none.
+    /// Takes these bytes after those before. A session that has failed takes none.
     pub fn feed(&mut self, bytes: &[u8]) -> Result<(), AllocError>
         ensures ok { OnOk result (model.Does self.old (model.Feed bytes.now) self.new) }
         ensures err { OnErr result (model.Does self.old model.Room self.new) }
@@ -138,7 +139,7 @@ impl Session {
         &self.held.as_slice()[self.at..]
     }
 
-    /// The request in the first frame, of so many bytes.
+    /// The request in the first frame, of `size` bytes.
     fn request(&self, size: usize) -> Result<Request, Refusal>
         requires { size + 4 ≤ length self.now.rest }
         ensures { Gives request_of result (request_defined Mode.Service (take size (drop 4 self.now.rest))) }
@@ -150,7 +151,7 @@ impl Session {
         )
     }
 
-    /// So many bytes are read.
+    /// Marks `count` bytes as read.
     fn pass(&mut self, count: usize)
         requires { count ≤ length self.old.rest }
         ensures { self.new ≡ record self.old { rest = drop count self.old.rest } }
@@ -184,7 +185,7 @@ impl Session {
         Ok(())
     }
 
-    /// Fails the session, where a reply finds no memory before it comes here.
+    /// Fails the session, if a reply finds no memory before it gets here.
     pub fn give_up(&mut self)
         ensures { model.Does self.old model.GiveUp self.new }
     {
@@ -201,7 +202,7 @@ impl Session {
         }
     }
 
-    /// Takes what was put out. Where all that came is read, much room for it is given back.
+    /// Takes the output. If all input is read, much room for it is given back.
     pub fn take_output(&mut self) -> Vec<u8>
         ensures { model.Does self.old (model.Take result.items) self.new }
     {

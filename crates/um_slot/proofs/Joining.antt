@@ -7,7 +7,7 @@ use Rattle.std.proofs.lemmas.List.{take-append-le, take_all, append-nil, length-
 use Rattle.um_model.specs.Disk.{Sector, Image}
 use Rattle.um_model.specs.Store.{sector_count, joined}
 
--- so many bytes of a sector and of what is behind it
+-- the first bytes of a sector and of those after it
 take_over : (n : ℕ) (sector rest : List ℕ) → length sector ≡ 512 → take n (sector ++ rest) ≡ take n sector ++ take (n - 512) rest
 take_over n sector rest long = ⊎_elim
     (λ few. let none : n - 512 ≡ 0 = omega (arith, few) in take-append-le n sector rest (omega (arith, few, long)) ∙ sym (append-nil (take n sector)) ∙ ap (λ (k : ℕ). take n sector ++ take k rest) (sym none))
@@ -15,13 +15,13 @@ take_over n sector rest long = ⊎_elim
     (λ i. take (count i) (sector ++ rest)) ∙ take-append-add sector rest (n - 512) ∙ ap (λ (l : List ℕ). l ++ take (n - 512) rest) (sym (take_all n sector (omega (arith, more, long)))))
     (cases_lt n 512)
 
--- so many bytes were read
+-- the number of bytes that were read
 pub long_more : (size i : ℕ) (body more sector : List ℕ) → i < sector_count size → length sector ≡ 512 → length body ≡ min (512 * i) size → more ≡ body ++ take (size - 512 * i) sector
     → length more ≡ min (512 * (i + 1)) size
 long_more size i body more sector below long so_far grown =
     omega (arith, below, long, so_far, ap length grown, length-append body (take (size - 512 * i) sector), length-take (size - 512 * i) sector)
 
--- one sector more of what a body has
+-- one sector more of a body
 pub body_more : (size i : ℕ) (image : Image) (at : ℕ) (body more sector all : List ℕ) → i < sector_count size → length sector ≡ 512 → sector ≡ image (at + i)
     → body ++ take (size - 512 * i) (joined (sector_count size - i) image (at + i)) ≡ all → more ≡ body ++ take (size - 512 * i) sector
     → more ++ take (size - 512 * (i + 1)) (joined (sector_count size - (i + 1)) image (at + (i + 1))) ≡ all

@@ -17,7 +17,7 @@ use Rattle.um_slot.specs.Snapshots.{body_sector, IsBeside, IsSnapshot, MaybeSnap
 
 -- ---- a body that is written
 
--- a body's next sector is the first of what is behind
+-- a body's next sector is the first of the rest
 next_sector : (bytes : List ℕ) (i : ℕ) → body_sector bytes (suc i) ≡ body_sector (drop 512 bytes) i
 next_sector bytes i =
     let moved : 512 * suc i ≡ 512 + 512 * i = omega arith in
@@ -60,7 +60,7 @@ written_header : {layout : Layout} {image : Image} {slot : Slot} {generation : �
     → IsSnapshot layout image slot generation body → IsHeader layout (image (slot_start layout slot)) generation (length body)
 written_header first last fits snapshot = record { first = first; last = last; fits = fits; is = snapshot.header }
 
--- and the body behind it is read back
+-- and the body after it is read back
 written_body : {layout : Layout} {image : Image} {slot : Slot} {generation : ℕ} {body : List ℕ} → IsSnapshot layout image slot generation body → body ≡ body_at layout image slot (length body)
 written_body {layout} {image} {slot} {generation} {body} snapshot = sym (body_back (sector_count (length body)) body image (slot_start layout slot + 1) (omega arith) snapshot.sectors)
 
@@ -91,7 +91,7 @@ first_newest {layout} {old} {image} nothing first last fits maybe snapshot = rec
   body_is = written_body snapshot;
 }
 
--- No later generation comes into the log.
+-- No later generation is added to the log.
 pub kept_above : {layout : Layout} {old image : Image} {slot : Slot} {generation last : ℕ} {body : List ℕ} → MaybeSnapshot layout old slot generation body image
     → IsNoneAbove layout old last → IsNoneAbove layout image last
 kept_above {layout} {slot} maybe none = same_above layout (λ j low high. maybe.outside j (inr (behind_slot layout slot j low))) none
@@ -143,7 +143,8 @@ module _ {format : Format} {layout : Layout} {old image : Image} {slot : Slot} {
         none_later = above_later layout (let low = below_top format (last + 1) in omega (arith, low)) next_above;
       }
 
-  -- What a crash leaves meanwhile has the newest snapshot and the log of before, or the new snapshot and no record.
+  -- An image that a crash leaves meanwhile has the newest snapshot and the log of before, or the new snapshot and no
+  -- record.
   either_newest : {past : Past} → IsImage past old → last + 1 < 2 ^ 64 → length body ≤ body_limit layout → EitherNewest format layout past slot newest before last body image
   either_newest {past} was small fits = ⊎_elim {C = EitherNewest format layout past slot newest before last body image}
       (λ same. inl (record { from = old; was = was; first = first_same slot maybe format has.first; snapshot = snapshot_same slot maybe has.snapshot same; log = log_same slot maybe }))
@@ -196,7 +197,7 @@ module _ {format : Format} {layout : Layout} (past : Past) {slot : Slot} {newest
       (λ was. let has = all image was in inl (record { from = image; was = was; first = has.first; snapshot = has.snapshot; log = λ j low. refl }))
       (λ maybe. either_newest above (all (seen past) is) maybe is small fits) m) run
 
-  -- and behind it
+  -- and after it
   pub renewed_newest : (new : Past) {body : List ℕ} → last + 1 < 2 ^ 64 → length body ≤ body_limit layout → IsImage past (seen past)
       → MaybeSnapshot layout (seen past) (other slot) (last + 1) body (seen new) → IsSnapshot layout (seen new) (other slot) (last + 1) body → IsSettled new
       → Images new (HasNewest format layout (other slot) (last + 1) body last)
@@ -229,7 +230,7 @@ module _ {layout : Layout} (past : Past) {slot : Slot} {generation : ℕ} {befor
       (λ same. inl (record { from = seen past; was = is; store = kept_store (stores (seen past) is) maybe same }))
       (λ there. inr (next_store (stores (seen past) is) maybe last fits there)) maybe.inside) m) run
 
-  -- and behind it
+  -- and after it
   pub goes_on_other : {new : Past} {body : List ℕ} → generation + 1 < 2 ^ 64 → length body ≤ body_limit layout → IsImage past (seen past)
       → MaybeSnapshot layout (seen past) (other slot) (generation + 1) body (seen new) → IsSnapshot layout (seen new) (other slot) (generation + 1) body → IsSettled new
       → (number next : ℕ) → IsLogEnd layout (generation + 1) (seen past) (records_of current layout (generation + 1) (seen past)) number next
@@ -281,7 +282,7 @@ module _ {layout : Layout} {past : Past} {slot : Slot} {image : Image} (b : IsBe
 
 module _ {layout : Layout} {old mid : Past} {slot : Slot} (parts : During old mid (IsBeside layout old slot)) where
   module _ {generation : ℕ} {before : List ℕ} (stores : Images old (HasStore layout slot generation before)) where
-    -- behind the parts each image is that of a store with its newest snapshot
+    -- after the parts each image is that of a store with its newest snapshot
     pub stores_beside : Images mid (HasStore layout slot generation before)
     stores_beside image is =
         let b = at_end old mid _ parts image is in

@@ -1,4 +1,4 @@
--- What a crash leaves while a snapshot is written into a slot.
+-- The images that a crash leaves while a snapshot is written into a slot.
 use Rattle.std.specs.Prelude.{◌≡◌, ◌⊎◌, ◌+◌, ◌-◌, ◌<◌, ◌≤◌, ℕ, List, [], ◌∷◌, length, slice_index_or, Result, Ok, refl}
 use Rattle.std.proofs.Common.{sym, ◌∙◌, ap, subst, inl, inr, ⊎_elim, arith}
 use Rattle.std.proofs.lemmas.Bool.{cases_lt}
@@ -12,7 +12,7 @@ use Rattle.um_model.specs.Store.{slot_start, other, body_limit, sector_count, he
 use Rattle.um_slot.specs.Snapshots.{body_sector, part_run, IsWritten, IsBeside, IsSnapshot, MaybeSnapshot, AfterSnapshot, AfterSeal}
 use Rattle.std.proofs.lemmas.List.FromFn.{length-map-range_with_len, get_or-map-range_with_len}
 
--- a part of a body has so many sectors, each in its place
+-- the number of sectors of a part of a body, each in its place
 pub part_count : (body : List ℕ) (from count : ℕ) → length (part_run body from count) ≡ count
 part_count body from count = length-map-range_with_len (body_sector body) from count
 
@@ -38,7 +38,7 @@ module _ (layout : Layout) (home : Slot) (body : List ℕ) (from count : ℕ) (f
   pub part_during : (old new : Past) → During old new (AfterRun old place (part_run body from count)) → During old new (IsBeside layout old home)
   part_during old new run = weaker old new _ _ (λ image m. record { from = m.from; was = m.was; same = λ j out. m.laid.outside j (out_of_part j out) }) run
 
-  -- and behind it
+  -- and after it
   pub part_beside : (old new : Image) → IsLaid old place (part_run body from count) new
       → (j : ℕ) → (j ≤ slot_start layout (other home)) ⊎ (slot_start layout (other home) + layout.slot_sectors ≤ j) → new j ≡ old j
   part_beside old new laid j out = laid.outside j (out_of_part j out)
@@ -86,7 +86,7 @@ module _ (layout : Layout) (slot : Slot) (generation : ℕ) (body : List ℕ) wh
           (maybe.inside 0 (omega arith));
     }
 
-    -- and behind it
+    -- and after it
     pub header_done : (image : Image) → IsLaid old start (header_sector generation (length body) ∷ []) image → IsSnapshot layout image slot generation body
     header_done image laid = whole image (sym (ap image here) ∙ laid.inside 0 (omega arith)) laid.outside
 
@@ -127,7 +127,7 @@ module _ (layout : Layout) (home : Slot) (generation : ℕ) (body : List ℕ) wh
     maybe = record { outside = λ j out. m.same j (out_of_slot j out); inside = inl (m.same (slot_start layout (other home)) (inl (omega arith))) };
   }) run
 
-  -- and behind that its header
+  -- and after that its header
   maybe_on : (from mid image : Image) → ((j : ℕ) → (j ≤ slot_start layout (other home)) ⊎ (slot_start layout (other home) + layout.slot_sectors ≤ j) → mid j ≡ from j)
       → MaybeSnapshot layout mid (other home) generation body image → MaybeSnapshot layout from (other home) generation body image
   maybe_on from mid image same maybe = record {

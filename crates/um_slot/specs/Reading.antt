@@ -1,4 +1,4 @@
--- What the reading of two headers finds.
+-- The reading of two headers.
 -- No manual page has it: it is the project's own format.
 -- um_slot's functions stand on this file.
 use Rattle.std.specs.Prelude.{◌≢◌, ℕ, replicate, Option, Some, None, nat_le, if◌then◌else◌}

@@ -1,4 +1,4 @@
--- What a slot and the store are while a snapshot is written into it, and behind that.
+-- A slot and the store while a snapshot is written into it, and afterwards.
 -- No manual page has it: it is the project's own format (docs/FORMATS.md, "The store on its disk").
 -- The writing of slots and the keeper stand on this file.
 use Rattle.std.specs.Prelude.{◌≡◌, ◌⊎◌, ◌+◌, ◌*◌, ◌<◌, ◌≤◌, ℕ, List, [], length, map, take, drop}
@@ -13,11 +13,11 @@ use Rattle.um_model.specs.declared.layout.Slot.{Slot}
 abbrev pub body_sector : List ℕ → ℕ → Sector
 body_sector body i = filled (take sector_bytes (drop (sector_bytes * i) body))
 
--- so many of them from one on, in their order
+-- `count` of them from one on, in their order
 abbrev pub part_run : List ℕ → ℕ → ℕ → List Sector
 part_run body from count = map (body_sector body) (range_with_len from count)
 
--- so many of a body's sectors stand in a slot
+-- this many of a body's sectors stand in a slot
 abbrev pub IsWritten : Layout → Image → Slot → List ℕ → ℕ → Type 0
 IsWritten layout image slot body count = (i : ℕ) → i < count → image (slot_start layout slot + 1 + i) ≡ body_sector body i
 
@@ -43,7 +43,8 @@ pub record AfterSnapshot (layout : Layout) (past : Past) (slot : Slot) (generati
   pub was : IsImage past from
   pub maybe : MaybeSnapshot layout from slot generation body image
 
--- while a header is written behind a sync: an image of before, or what a read gave, with the snapshot there or not
+-- while a header is written after a sync: an image of before, or the image that a read gave, with the snapshot there or
+-- not
 abbrev pub AfterSeal : Layout → Past → Slot → ℕ → List ℕ → Image → Type 0
 AfterSeal layout past slot generation body image = IsImage past image ⊎ MaybeSnapshot layout (seen past) slot generation body image
 
@@ -80,7 +81,7 @@ pub record WasNewest (format : Format) (layout : Layout) (past : Past) (slot : S
   pub snapshot : IsNewest layout image slot newest body
   pub log : (j : ℕ) → first_log_sector layout ≤ j → image j ≡ from j
 
--- the newest snapshot and the log of before, or a store with this body behind the last generation and no record
+-- the newest snapshot and the log of before, or a store with this body after the last generation and no record
 abbrev pub EitherNewest : Format → Layout → Past → Slot → ℕ → List ℕ → ℕ → List ℕ → Image → Type 0
 EitherNewest format layout past slot newest before last body image =
     WasNewest format layout past slot newest before image ⊎ IsStore format layout image (other slot) (last + 1) body []

@@ -1,3 +1,4 @@
+//! Sector 0 of a store, which names its format and its layout.
 ghost use Rattle.std.specs.Prelude.{◌≡◌, ◌⊎◌, ◌↔◌, Err, IfOk, IfErr, take};
 ghost use Rattle.um_model.specs.declared.layout.Format.{Format};
 ghost use Rattle.um_model.specs.declared.layout.Layout as declared;
@@ -32,7 +33,7 @@ fn name_of(format: Format) -> &'static [u8]
     }
 }
 
-/// Sector 0 of a store: it tells the format and the layout.
+/// Sector 0 of a store: it names the format and the layout.
 pub fn superblock(format: Format, layout: Layout) -> Sector
     ensures { result ≡ store.superblock format layout }
 {
@@ -65,10 +66,10 @@ fn read_format(sector: &Sector) -> Result<Format, Refusal>
     }
 }
 
-/// The format and the layout that sector 0 of a store tells.
+/// The format and the layout that sector 0 of a store names.
 ///
-/// E19 where it doesn't begin as that of a store; E22 where it begins as that of a store in another format; E18 with sector 0 where it
-/// isn't just as it is written in this format for a layout within the limits.
+/// E19 where it doesn't begin as that of a store; E22 where it begins as that of a store in another format; E18 with
+/// sector 0 where it isn't exactly as this format writes it for a layout within the limits.
 pub fn read_superblock(sector: &Sector) -> Result<(Format, Layout), Refusal>
     ensures ok { IfOk result (λ told. sector.now ≡ store.superblock told.0 told.1) }
     ensures err { IfErr result (λ e. ((e ≡ Refusal.NotFormatted) ⊎ (e ≡ Refusal.OtherLayout))

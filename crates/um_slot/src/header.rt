@@ -1,3 +1,4 @@
+//! The header of a slot.
 ghost use Rattle.std.specs.Prelude.{◌≡◌};
 ghost use Rattle.um_model.specs.Store as store;
 ghost use Rattle.um_slot.specs.Reading.{ReadsHeader};
@@ -28,7 +29,7 @@ impl Home {
     }
 }
 
-/// What a well-formed header says.
+/// The fields of a well-formed header.
 #[derive(Clone, Copy)]
 pub struct Header {
     pub generation: u64,
@@ -56,7 +57,8 @@ pub fn header_sector(generation: u64, size: u64) -> Sector
     fields.sector()
 }
 
-/// Reads a header: a sector is one where it is just as one is written, of a generation from 1 on, with a length that fits.
+/// Reads a header: a sector is one if it is exactly as one is written, of a generation from 1 on, with a length that
+/// fits.
 pub fn read_header(layout: Layout, sector: &Sector) -> Option<Header>
     ensures { ReadsHeader layout sector.now result }
 {

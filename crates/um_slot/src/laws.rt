@@ -1,4 +1,4 @@
-//! What the definitions of the slots say together, as functions that do nothing.
+//! Laws of the definitions of the slots, as functions that do nothing.
 ghost use Rattle.std.specs.Prelude.{◌≡◌, ◌↔◌, ℕ, List, Some, None};
 ghost use Rattle.um_model.specs.Disk.{Image};
 ghost use Rattle.um_model.specs.declared.layout.Layout.{Layout};
@@ -17,7 +17,7 @@ pub fn unread_sectors_of_the_slots_do_not_count()
     ensures none { (layout : Layout) (a b : Image) → ((j : ℕ) → IsSlotRead layout a j → b j ≡ a j) → HasNoHeader layout a → HasNoHeader layout b }
 {}
 
-/// What the function tells of an image is its newest body, and it tells none exactly where there is none.
+/// The body that the function gives of an image is its newest body, and it gives none exactly where there is none.
 pub fn the_newest_body_is_told()
     ensures one { (layout : Layout) (image : Image) (n : Newest) → (newest_of layout image ≡ Some n) ↔ IsNewest layout image n.slot n.generation n.body }
     ensures none { (layout : Layout) (image : Image) → (newest_of layout image ≡ None) ↔ HasNoHeader layout image }

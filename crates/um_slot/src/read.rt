@@ -1,3 +1,4 @@
+//! Reads the slots of a store: which snapshot is the newest, and its body.
 ghost use Rattle.std.specs.Prelude.{◌≡◌, ◌⊎◌, ◌↔◌, ◌+◌, ◌^◌, ◌≤◌, ℕ, length, take, IfOk, IfErr, IfSome, IsTrue};
 ghost use Rattle.um_model.specs.Disk.{seen};
 ghost use Rattle.um_model.specs.Store.{body_limit, sector_count, slot_start, other, joined, HasNoHeader, IsNewest};
@@ -71,7 +72,7 @@ fn newest_header<D: Disk>(
     Ok((found, is_damaged))
 }
 
-/// At most so many bytes of a sector's front.
+/// At most `count` bytes of a sector's front.
 fn front(sector: &Sector, count: usize) -> &[u8]
     ensures { result.now ≡ take count sector.now }
 {
@@ -83,7 +84,7 @@ fn front(sector: &Sector, count: usize) -> &[u8]
     }
 }
 
-/// So many bytes of the sectors from `at` on.
+/// `size` bytes of the sectors from `at` on.
 fn read_body<D: Disk>(
     alloc: Global,
     disk: &mut D,
@@ -109,11 +110,11 @@ fn read_body<D: Disk>(
     Ok(body)
 }
 
-/// Reads both headers and takes the well-formed one of the greater generation, of equal ones slot A's, with its body; and says whether the
-/// other slot's first sector is damaged.
+/// Reads both headers and takes the well-formed one of the greater generation, of equal ones slot A's, with its body.
+/// Also returns whether the other slot's first sector is damaged.
 ///
-/// E18 with sector 1 where no header is well-formed; E15; E16 where a read fails. It makes at most two disk calls more than the
-/// body has sectors, and also where it is refused at most two more than the longest body has.
+/// E18 with sector 1 where no header is well-formed; E15; E16 where a read fails. It makes at most two disk calls more
+/// than the body has sectors, and when it is refused at most two more than the longest body has.
 pub fn newest<D: Disk>(alloc: Global, disk: &mut D, layout: Layout) -> Result<Snapshot, Refusal>
     ensures ok { IfOk result (λ newest. IsTrue (D.honest disk.old) → IsNewest layout (seen (D.past disk.old)) newest.home.slot newest.home.generation newest.body.items) }
     ensures damaged { IfOk result (λ newest. IsTrue (D.honest disk.old)

@@ -1,3 +1,4 @@
+//! The body sectors of a snapshot.
 ghost use Rattle.std.specs.Prelude.{◌≡◌, ◌+◌, ◌^◌, ◌≤◌, length, IsTrue, OnOk};
 ghost use Rattle.um_model.specs.Disk.{seen, During};
 ghost use Rattle.um_model.specs.Store.{filled, sector_count};
@@ -17,9 +18,11 @@ fn sector_of(bytes: &[u8]) -> Sector
     fields.sector()
 }
 
-/// Writes so many sectors of a body, from one of them on, one behind the other from sector `at` on. It takes no memory.
+/// Writes `count` sectors of a body, from sector `from` of it on, in order from sector `at` of the disk on. It takes no
+/// memory.
 ///
-/// Each image that a crash leaves during it is one of before, with any of these sectors in their places; after Ok they are what a read gives.
+/// Each image that a crash leaves during it is one of before, with any of these sectors in their places; after Ok a
+/// read gives them.
 pub fn write_sectors<D: Disk>(
     disk: &mut D,
     at: usize,

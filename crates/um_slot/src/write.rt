@@ -1,3 +1,4 @@
+//! Writes snapshots into the slots of a store: a part of a body, then the header that makes it count.
 ghost use Rattle.std.specs.Prelude.{◌≡◌, ◌⊎◌, ◌↔◌, ◌+◌, ◌-◌, ◌<◌, ◌≤◌, ◌^◌, min, ℕ, List, [], length, true, false, Ok, Err, Some, None, IfOk, IfErr, IfSome, OnOk, IsTrue};
 ghost use Rattle.um_model.specs.Disk.{Sector, seen, Images, During, IsSettled};
 ghost use Rattle.um_model.specs.Store.{current, other, slot_start, body_limit, first_log_sector, log_start, sector_count, records_of, all_records, HasNoHeader, IsNewest, IsNoneAbove, IsLogEnd, GoesOn};
@@ -22,7 +23,7 @@ fn lesser(a: usize, b: usize) -> usize
     if a < b { a } else { b }
 }
 
-/// Writes the next sectors of a body that fits, from one of them on: so many, or all that are left.
+/// Writes the next `count` sectors of a body that fits, from sector `from` of it on, or all that are left.
 fn write_next<D: Disk>(
     disk: &mut D,
     layout: Layout,
@@ -53,12 +54,13 @@ fn write_next<D: Disk>(
     Ok(())
 }
 
-/// Writes the next sectors of a body into the slot beside the one of the newest snapshot, from one of them on: so many, or all that are
-/// left, and none where it has no more. It syncs nothing and takes no memory. False where the body is longer than a slot holds, with nothing
-/// written.
+/// Writes the next `count` sectors of a body, from sector `from` of it on, into the slot beside the one of the newest
+/// snapshot. It writes all that are left if they are fewer, and none if the body has no more. It syncs nothing and
+/// takes no memory. False where the body is longer than a slot holds, with nothing written.
 ///
-/// Each image that a crash leaves during it is one of before, but for the body in that slot, which isn't read; where it answers true a read
-/// gives these sectors too, and elsewhere what it gave. E16 where a disk call fails: it makes one a sector at most.
+/// Each image that a crash leaves during it is one of before, except for the body in that slot, which isn't read. If it
+/// returns true a read gives these sectors too, and elsewhere what it gave. E16 where a disk call fails: it makes one a
+/// sector at most.
 pub fn write_part<D: Disk>(
     disk: &mut D,
     layout: Layout,
@@ -116,19 +118,22 @@ fn seal<D: Disk>(disk: &mut D, layout: Layout, to: Home, size: usize) -> Result<
     Ok(())
 }
 
-/// Makes a body count that stands in the slot beside the one of the newest snapshot, with all of its sectors: a sync, its header as the next
-/// generation, a sync. Answers where it stands; None where the body is longer than a slot holds, with nothing written.
+/// Makes a body count that stands in the slot beside the one of the newest snapshot, with all of its sectors: a sync,
+/// its header as the next generation, a sync. Returns where it stands; None where the body is longer than a slot holds,
+/// with nothing written.
 ///
-/// Where a read gives the whole body, and each image is that of a store whose newest snapshot is at `home`, each image that a crash leaves
-/// meanwhile is that of the store of an image of before, or of the store with this body and the records that a read gave beside it; after Ok
-/// it is the latter, and its log goes on where that of the generation behind `home` did.
+/// Suppose a read gives the whole body, and each image is that of a store whose newest snapshot is at `home`. Then each
+/// image that a crash leaves meanwhile is that of the store of an image of before, or of the store with this body and
+/// the records that a read gave beside it. After Ok it is the latter, and its log goes on where that of the generation
+/// after `home` did.
 ///
-/// The generation at `home` may be above that of the newest snapshot, which stands in its slot: then no sector of the log is of a
-/// generation above it, meanwhile the newest snapshot and the log are those of an image of before, or this body stands there and no
-/// record counts, and after Ok it is the latter. That is so in each format in which the store may be.
+/// The generation at `home` may be above that of the newest snapshot, which stands in its slot: then no sector of the
+/// log is of a generation above it. Meanwhile the newest snapshot and the log are those of an image of before, or this
+/// body stands there and no record counts; after Ok it is the latter. That is so in each format in which the store may
+/// be.
 ///
-/// E20 where the generation is 2^64 - 1, whatever the body, with nothing written; E16 where a disk call fails: it takes no memory. It
-/// makes at most three disk calls, and just so many where it answers a home.
+/// E20 where the generation is 2^64 - 1, whatever the body, with nothing written; E16 where a disk call fails: it takes
+/// no memory. It makes at most three disk calls, and exactly three if it returns a home.
 pub fn finish<D: Disk>(
     disk: &mut D,
     layout: Layout,
@@ -207,13 +212,14 @@ fn write_slot<D: Disk>(
     Ok(to)
 }
 
-/// Writes a body as generation 1 into slot A, where no store stands yet: the body, a sync, then its header, a sync. Answers
-/// where it stands; None where the body is longer than a slot holds, with nothing written.
+/// Writes a body as generation 1 into slot A, where no store stands yet: the body, a sync, then its header, a sync.
+/// Returns where it stands; None where the body is longer than a slot holds, with nothing written.
 ///
-/// Where each image has the same sector 0, no image that a crash leaves meanwhile has another. After Ok, where a read gave no
-/// header and no sector of the log before, the body is the newest and the log is free.
+/// If all images have the same sector 0, no image that a crash leaves meanwhile has another. After Ok, if a read gave
+/// no header and no sector of the log before, the body is the newest and the log is free.
 ///
-/// E16 where a disk call fails: it takes no memory. It makes at most three disk calls more than the body has sectors, and just so many where it writes it.
+/// E16 where a disk call fails: it takes no memory. It makes at most three disk calls more than the body has sectors,
+/// and exactly that number if it writes it.
 pub fn write_first<D: Disk>(
     disk: &mut D,
     layout: Layout,

@@ -1,4 +1,4 @@
-//! Answers and sectors as values that can be compared and shown, and what rows are made of.
+//! Answers and sectors as values that can be compared and shown, and the parts that rows are made of.
 use std::process::Abort;
 use um_asserts::is_refused;
 use um_sector::{Disk, Fault, Sector};
@@ -13,14 +13,14 @@ pub fn fails<T: Drop>(rt: &(impl AllocGlobal + Abort), answer: Result<T, Fault>)
     is_refused!(rt, answer, "E16 Device");
 }
 
-/// What a sector holds.
+/// The content of a sector.
 pub fn sector_at<D: Disk>(rt: &impl Abort, disk: &mut D, k: usize) -> Sector {
     let mut sector: Sector = [1; 512];
     disk.read(k, &mut sector).expect(rt, "not read");
     sector
 }
 
-/// A sector with these bytes in front and zeros behind them.
+/// A sector with these bytes in front and zeros after them.
 pub fn filled(bytes: &[u8]) -> Sector {
     let mut sector: Sector = [0; 512];
     for (place, byte) in sector.iter_mut().zip(bytes) {

@@ -1,4 +1,4 @@
-//! Canonical bytes: how values are spelled, and what is no spelling.
+//! Canonical bytes: how values are spelled, and bytes that spell none.
 use crate::spelled::{are_not_read, are_read, are_spelled, is_spelled};
 use std::collections::BTreeMap;
 use std::process::Abort;
@@ -48,7 +48,7 @@ fn truths_and_options_begin_with_0_or_1(rt: HostRuntime) {
     are_not_read::<(u8, bool)>(&rt, &[&[7, 2]]);
 }
 
-/// What is no text.
+/// Bytes that spell no text.
 const NO_TEXTS: &[&[u8]] = &[
     &[],
     &[0, 0, 0, 3, 104, 104],
@@ -77,13 +77,13 @@ const ASCENDING: &[u8] = &[
     0, 0, 0, 3, 0, 0, 0, 0, 9, 0, 0, 0, 1, 90, 1, 0, 0, 0, 1, 98, 2,
 ];
 
-/// What is no map.
+/// Bytes that spell no map.
 const NO_MAPS: &[&[u8]] = &[
     // the key "b" before the key "Z"
     &[0, 0, 0, 2, 0, 0, 0, 1, 98, 2, 0, 0, 0, 1, 90, 1],
     // the key "b" twice
     &[0, 0, 0, 2, 0, 0, 0, 1, 98, 2, 0, 0, 0, 1, 98, 2],
-    // one key where two are told
+    // one key where the count says two
     &[0, 0, 0, 2, 0, 0, 0, 1, 98, 2],
     &[],
 ];
@@ -157,10 +157,10 @@ const PROCESSES: &[&[u8]] = &[
     &[127, 255, 255, 255, 255, 255, 255, 255],
 ];
 
-/// What is no process number.
+/// Bytes that spell no process number.
 const NO_PROCESS: &[&[u8]] = &[&[0, 0, 0, 0, 0, 0, 0, 0], &[128, 0, 0, 0, 0, 0, 0, 0]];
 
-/// What is no next number.
+/// Bytes that spell no next number.
 const NO_NEXT: &[&[u8]] = &[
     &[0, 0, 0, 0, 0, 0, 0, 0],
     &[128, 0, 0, 0, 0, 0, 0, 1],
@@ -177,20 +177,20 @@ fn moments_and_numbers_stay_within_their_bounds(rt: HostRuntime) {
     are_read::<NextNumber>(&rt, &[last], NO_NEXT);
 }
 
-/// What is no window: one that began past the bound, and one that ends early.
+/// Bytes that spell no window: one that began past the bound, and one that ends early.
 const NO_WINDOWS: &[&[u8]] = &[
     &[64, 0, 0, 0, 0, 0, 0, 1, 0, 0, 1, 2],
     &[0, 0, 0, 0, 0, 16, 200, 224, 0, 0, 1],
 ];
 
-/// The bytes of a unit of which everything is known: auto-restart, timeout, processes 5 and 6, command 2, a deadline at 7, a
-/// window of 3 starts since 1, a stop asked for, ended by signal 15.
+/// The bytes of a unit of which everything is known: auto-restart, timeout, processes 5 and 6, command 2, a deadline at
+/// 7, a window of 3 starts since 1, a requested stop, ended by signal 15.
 const UNIT: &[u8] = &[
     8, 3, 1, 0, 0, 0, 0, 0, 0, 0, 5, 1, 0, 0, 0, 0, 0, 0, 0, 6, 0, 0, 0, 2, 1, 0, 0, 0, 0, 0, 0, 0,
     7, 1, 0, 0, 0, 0, 0, 0, 0, 1, 0, 0, 0, 3, 1, 1, 1, 15,
 ];
 
-/// What is no unit.
+/// Bytes that spell no unit.
 const NO_UNITS: &[&[u8]] = &[
     &[11, 0, 0, 0, 0, 0, 0, 0, 0, 0, 0, 0],
     &[0, 9, 0, 0, 0, 0, 0, 0, 0, 0, 0, 0],

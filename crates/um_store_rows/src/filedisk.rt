@@ -1,4 +1,4 @@
-//! A file as a disk: what the system keeps of it.
+//! A file as a disk, and the bytes that the system keeps of it.
 use crate::answers::fails;
 use crate::marks::marked_byte;
 use std::fs::{File, Files, OpenOptions};
@@ -11,7 +11,7 @@ use um_asserts::{same, same_at};
 use um_filedisk::{DirectoryLock, FileDisk, FileFault, is_same_place};
 use um_sector::{Disk, Sector};
 
-/// A place for a test's file, free of what an earlier process left there.
+/// A place for a test's file, free of files that an earlier process left there.
 fn place(rt: &HostRuntime, name: &str) -> Result<PathBuf, Fail> {
     let path = um_asserts::place(rt, rt.process(), name)?;
     let _ = fs::remove_file(rt, &path);
@@ -27,7 +27,7 @@ fn first_byte<D: Disk>(disk: &mut D, k: usize) -> Option<u8> {
     }
 }
 
-/// What the fault says; None where there is none.
+/// The text of the fault; None if there is none.
 fn said<D: Drop>(
     rt: &(impl AllocGlobal + Files<File = File> + Abort),
     answer: Result<D, FileFault>,
@@ -56,7 +56,7 @@ fn marked() -> Sector {
     sector
 }
 
-/// Makes a file of so many sectors.
+/// Makes a file of this many sectors.
 fn created<'a, R: Files<File = File> + Abort>(
     rt: &'a R,
     path: &'a str,
@@ -70,7 +70,7 @@ fn opened<'a, R: Files<File = File> + Abort>(rt: &'a R, path: &'a str) -> FileDi
     FileDisk::open(rt, path).expect(rt, "no disk")
 }
 
-/// Asserts what the fault of an open says; None: that there is none.
+/// Asserts the text of the fault of an open; None: that there is none.
 fn says_opened(
     rt: &(impl AllocGlobal + Files<File = File> + Abort),
     path: &str,
@@ -79,7 +79,7 @@ fn says_opened(
     says(rt, FileDisk::open(rt, path), wanted);
 }
 
-/// Asserts what the fault of an open to read alone says; None: that there is none.
+/// Asserts the text of the fault of an open to read alone; None: that there is none.
 fn says_read_only(
     rt: &(impl AllocGlobal + Files<File = File> + Abort),
     path: &str,
@@ -88,7 +88,7 @@ fn says_read_only(
     says(rt, FileDisk::open_read_only(rt, path), wanted);
 }
 
-/// Asserts that no file of two sectors is made, which is told so.
+/// Asserts that no file of two sectors is made, for the wanted cause.
 fn is_not_made(rt: &(impl AllocGlobal + Files<File = File> + Abort), path: &str, wanted: &str) {
     says(rt, FileDisk::create(rt, path, 2), Some(wanted));
 }
@@ -223,7 +223,7 @@ fn nothing_is_made(rt: &(impl AllocGlobal + Files<File = File> + Abort), path: &
     fs::write(rt, path, "stays").expect(rt, "not written");
     is_not_made(rt, path, "something stands there already");
     holds_text(rt, path, "stays");
-    // nor inside a file, nor inside what isn't there
+    // nor inside a file, nor inside a folder that isn't there
     is_not_made(rt, inside, NO_FOLDER);
     remove(rt, path);
     is_not_made(rt, inside, ABSENT);
@@ -330,14 +330,14 @@ fn a_file_that_is_read_alone_takes_no_write(rt: HostRuntime) -> Result<(), Fail>
     Ok(())
 }
 
-/// Cuts the file, as somebody does who doesn't ask for the lock.
+/// Cuts the file, as somebody does who doesn't take the lock.
 fn cut(rt: &(impl Files<File = File> + Abort), path: &str, size: u64) {
     let mut options = OpenOptions::new();
     let file = options.write(true).open(rt, path).expect(rt, "no file");
     file.set_len(size).expect(rt, "not cut");
 }
 
-/// Asserts that the file has so many bytes.
+/// Asserts that the file has the wanted length, in bytes.
 fn has_length(rt: &(impl Files + Abort), path: &str, wanted: u64) {
     let metadata = fs::metadata(rt, path).expect(rt, "no file");
     same!(rt, metadata.len(), wanted);
@@ -484,7 +484,7 @@ fn two_paths_name_one_place(rt: HostRuntime) -> Result<(), Fail> {
     Ok(())
 }
 
-/// Asserts what the fault of a lock of the directory says; None: that there is none.
+/// Asserts the text of the fault of a lock of the directory; None: that there is none.
 fn says_locked(
     rt: &(impl AllocGlobal + Files<File = File> + Abort),
     path: &str,

@@ -1,4 +1,4 @@
-//! The canonical bytes of inputs: each of the 18, typed from the format, and what is no input.
+//! The canonical bytes of inputs: each of the 18, typed from the format, and bytes that spell none.
 use crate::spelled::{hex, is_not_read, is_read, is_spelled, read_from};
 use std::process::Abort;
 use um_asserts::{same, text, unit};
@@ -10,7 +10,7 @@ use um_wire::spell;
 /// The unit of each command for one.
 const UNIT: &str = "a.service";
 
-/// A command, or what happens, by its texts.
+/// A command, or a happening, by its texts.
 enum Coming {
     PutFile(&'static str, &'static str),
     PutLink(&'static str, &'static str),
@@ -27,7 +27,7 @@ enum Coming {
     Booted(&'static str),
 }
 
-/// The command; None for what happens.
+/// The command; None for a happening.
 fn command(rt: &(impl AllocGlobal + Abort), coming: &Coming) -> Option<Command> {
     let command = match coming {
         Coming::PutFile(path, content) => Command::PutFile {
@@ -63,7 +63,7 @@ fn command(rt: &(impl AllocGlobal + Abort), coming: &Coming) -> Option<Command> 
     Some(command)
 }
 
-/// What happens; for a command a tick.
+/// The happening; for a command a tick.
 fn happening(rt: &(impl AllocGlobal + Abort), coming: &Coming) -> Happening {
     match coming {
         Coming::Ended(number, end) => Happening::ProcessEnded {
@@ -78,7 +78,7 @@ fn happening(rt: &(impl AllocGlobal + Abort), coming: &Coming) -> Happening {
     }
 }
 
-/// What comes in at 1,100,000, in the order of the tags, and its bytes.
+/// The inputs at 1,100,000, in the order of the tags, and their bytes.
 const INPUTS: &[(Coming, &str)] = &[
     // changes of the tree
     (
@@ -134,7 +134,7 @@ const INPUTS: &[(Coming, &str)] = &[
         Coming::Install(InstallVerb::Unmask),
         "02 0e 000000000010c8e0 00000009 612e73657276696365",
     ),
-    // what happens
+    // happenings
     (
         Coming::Ended(258, End::Signal(15)),
         "02 0f 000000000010c8e0 0000000000000102 010f",
@@ -220,7 +220,7 @@ fn the_longest_input_that_is_accepted_has_66078_bytes(rt: HostRuntime) {
     same!(&rt, length_of(&rt, put), 66_078);
 }
 
-/// What is no input, and why.
+/// Bytes that spell no input, and why.
 const NONE: &[(&str, &str)] = &[
     ("profile 0", "00 11 000000000010c8e0"),
     ("profile 3", "03 11 000000000010c8e0"),

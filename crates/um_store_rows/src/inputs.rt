@@ -1,4 +1,4 @@
-//! Inputs, and what a keeper makes of one.
+//! Inputs, and the results of a keeper for them.
 use std::process::Abort;
 use um_asserts::text;
 use um_keeper::{Handed, Keeper, Receipt};
@@ -25,13 +25,13 @@ pub fn put(rt: &(impl AllocGlobal + Abort), path: &str, content: &str) -> Input 
     input(rt, 0, Event::Commanded(Command::PutFile { path, text }))
 }
 
-/// The input that puts so many bytes as a file.
+/// The input that puts a file of `length` bytes.
 pub fn put_long(rt: &(impl AllocGlobal + Abort), path: &str, length: usize) -> Input {
     let content = "#".repeat(rt.alloc(), length).expect(rt, "no memory");
     put(rt, path, content.as_str())
 }
 
-/// Spends a receipt, and tells how many processes it asks for.
+/// Spends a receipt, and returns how many processes it starts.
 pub fn starts(mut receipt: Receipt) -> usize {
     let mut starts: usize = 0;
     while let Some(handed) = receipt.next_action() {
@@ -44,13 +44,13 @@ pub fn starts(mut receipt: Receipt) -> usize {
     starts
 }
 
-/// Submits an input, and tells how many processes it asks for.
+/// Submits an input, and returns how many processes it starts.
 pub fn submit<D: Disk>(keeper: &mut Keeper<D>, input: Input) -> Result<usize, Refusal> {
     let receipt = keeper.submit(input)?;
     Ok(starts(receipt))
 }
 
-/// Submits an input that is taken, and tells how many processes it asks for.
+/// Submits an input that is taken, and returns how many processes it starts.
 pub fn take<D: Disk>(
     rt: &(impl AllocGlobal + Abort),
     keeper: &mut Keeper<D>,

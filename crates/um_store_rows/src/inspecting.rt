@@ -1,4 +1,4 @@
-//! What a look at a disk tells of its store, with nothing written.
+//! The summary of a look at a disk, with nothing written.
 use crate::answers::{filled, sector_at};
 use crate::inputs::{A, input, put_long, take};
 use crate::keepers::{disk_of, files_on, made, over};
@@ -20,14 +20,14 @@ fn numbers_of(summary: &Summary) -> (u64, usize, u64, u64) {
     )
 }
 
-/// What a look tells of a disk, and its state.
+/// The summary of a look at a disk, and its state.
 fn looked<D: Disk>(rt: &(impl AllocGlobal + Abort), disk: &mut D) -> (Summary, Box<State>) {
     let (told, state) = look(rt.alloc(), disk).expect(rt, "not read");
     let state = Box::new(rt.alloc(), state).expect(rt, "no memory");
     (told, state)
 }
 
-/// Asserts that a look tells these numbers, with as many syncs as before.
+/// Asserts that a look shows these numbers, with as many syncs as before.
 fn tells(
     rt: &(impl AllocGlobal + Abort),
     disk: &mut MemDisk,

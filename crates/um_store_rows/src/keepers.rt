@@ -1,4 +1,4 @@
-//! Keepers over disks in memory, what a crash leaves of them, and the calls that they make.
+//! Keepers over disks in memory, the disks that a crash leaves of them, and the calls that they make.
 use crate::answers::sector_at;
 use std::process::Abort;
 use um_asserts::{is_refused, same};
@@ -6,7 +6,7 @@ use um_keeper::{Keeper, create};
 use um_model::Layout;
 use um_sector::{Disk, Fuse, MemDisk, Sector};
 
-/// Asserts that a sector has these bytes in front and zeros behind them.
+/// Asserts that a sector has these bytes in front and zeros after them.
 pub fn has_layout<D: Disk>(rt: &impl Abort, disk: &mut D, k: usize, bytes: &[u8]) {
     let mut wanted: Sector = [0; 512];
     for (place, byte) in wanted.iter_mut().zip(bytes) {
@@ -23,7 +23,7 @@ pub fn made(rt: &(impl AllocGlobal + Abort)) -> MemDisk {
     disk
 }
 
-/// The keeper that is opened over a disk, in a box, which a row lets go in one call.
+/// The keeper that is opened over a disk, in a box, which a row drops in one call.
 pub fn over<D: Disk>(rt: &(impl AllocGlobal + Abort), disk: D) -> Box<Keeper<D>> {
     match Keeper::open(rt.alloc(), disk) {
         Ok(keeper) => Box::new(rt.alloc(), keeper).expect(rt, "no memory"),
@@ -52,7 +52,7 @@ pub fn files_on(rt: &(impl AllocGlobal + Abort), disk: MemDisk) -> usize {
     files_in(&over(rt, disk))
 }
 
-/// What a crash leaves of a disk, with those of the writes that weren't synced.
+/// The disk that a crash leaves, with the picked ones of the writes that weren't synced.
 pub fn crash(rt: &(impl AllocGlobal + Abort), disk: Fuse<MemDisk>, picks: &[usize]) -> MemDisk {
     let left = disk.into_inner().crash(rt.alloc(), picks);
     left.expect(rt, "no memory")
@@ -63,7 +63,7 @@ pub fn calls_of_open(rt: &(impl AllocGlobal + Abort), disk: MemDisk) -> u64 {
     disk_of(over(rt, Fuse::new(disk, 0))).calls()
 }
 
-/// The keeper of a new store, over a disk whose call of that number behind the open fails; with 0 none.
+/// The keeper of a new store, over a disk whose call of that number after the open fails; with 0 none.
 pub fn opened(rt: &(impl AllocGlobal + Abort), call: u64) -> Box<Keeper<Fuse<MemDisk>>> {
     let fails = match call {
         0 => Some(0),

@@ -1,4 +1,5 @@
-//! Worked rows of the store: disk and bytes, the small layers, and the keeper with what a crash leaves of it, by their public calls alone.
+//! Worked rows of the store: disk and bytes, the small layers, and the keeper with the disks that a crash leaves of it,
+//! by their public calls alone.
 #![tactic(auto)]
 
 #[cfg(test)]

@@ -4,8 +4,8 @@ use um_asserts::{same, same_at};
 use um_limit::{Counted, Window};
 use um_model::{Moment, Span};
 
-/// What a window has counted before and after these starts: since which moment, and how many. Of each start its moment, and whether
-/// the window lets it through.
+/// The count of a window before and after these starts: since which moment, and how many. Of each start its moment, and
+/// whether the window lets it through.
 struct Row {
     before: Option<(u64, u32)>,
     starts: &'static [(u64, bool)],
@@ -81,7 +81,7 @@ fn interval(row: &Row) -> Option<Span> {
     row.interval.map(Span::from_micros)
 }
 
-/// Asserts that the window of the row lets its starts through as they tell, and what it has counted then.
+/// Asserts that the window of the row lets its starts through as the row says, and its count then.
 fn counts(rt: &impl Abort, row: &Row) {
     let label = (row.burst, row.starts);
     let mut counting = window(rt, row.before);

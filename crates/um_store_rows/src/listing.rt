@@ -1,4 +1,4 @@
-//! Lists of inputs that a keeper takes one behind the other, with one sync behind them.
+//! Lists of inputs that a keeper takes in order, with one sync after them.
 use crate::answers::sector_at;
 use crate::inputs::{A, B, input, put, put_long, starts, take};
 use crate::keepers::{calls_since, crash, disk_of, files_in, files_on, opened, over};
@@ -11,7 +11,7 @@ use um_state::{Command, Event, Happening, Input};
 use um_tree::Tree;
 use um_wire::Refusal;
 
-/// What comes in: an empty file at the path, a start of the unit, or a tick at the moment.
+/// An input: an empty file at the path, a start of the unit, or a tick at the moment.
 enum Coming {
     Put(&'static str),
     Start(&'static str),
@@ -29,7 +29,7 @@ fn start(rt: &(impl AllocGlobal + Abort), unit: &str) -> Input {
     input(rt, 0, Event::Commanded(command))
 }
 
-/// The input that comes in.
+/// The input by its texts.
 fn input_of(rt: &(impl AllocGlobal + Abort), coming: &Coming) -> Input {
     match coming {
         Coming::Put(path) => put(rt, path, ""),
@@ -62,7 +62,7 @@ fn text_of(rt: &(impl AllocGlobal + Abort), answer: Result<Receipt, Refusal>) ->
     }
 }
 
-/// Spends the answers of a list, and gives them as they print, each with a semicolon behind it.
+/// Spends the answers of a list, and returns them as they print, each with a semicolon after it.
 fn told(
     rt: &(impl AllocGlobal + Abort),
     answers: Result<Vec<Result<Receipt, Refusal>>, Refusal>,
@@ -87,8 +87,8 @@ fn answered<D: Disk>(
     told(rt, keeper.submit_all(inputs(rt, list)))
 }
 
-/// Lists, what their inputs are answered, how many files there are then, how many disk calls it took, and how many syncs: a record of
-/// one sector for each accepted input with an effect, and a sync behind them all.
+/// Lists, the answers to their inputs, the number of files then, of disk calls, and of syncs: a record of one sector
+/// for each accepted input with an effect, and a sync after them all.
 const LISTS: &[(&[Coming], &str, usize, u64, usize)] = &[
     (&[Coming::Put(A)], "done; ", 1, 2, 1),
     (&[Coming::Put(A), Coming::Put(B)], "done; done; ", 2, 3, 1),
@@ -147,8 +147,8 @@ fn a_list_is_answered_in_its_order(rt: HostRuntime) {
     }
 }
 
-/// Lists of which two inputs are to be recorded, and what their inputs are answered where the sync behind both records fails: E16, but
-/// for those that are refused for another cause.
+/// Lists of which two inputs are to be recorded, and the answers to their inputs if the sync after both records fails:
+/// E16, except for those that are refused for another cause.
 const FAULTY: &[(&[Coming], &str)] = &[
     (
         &[Coming::Put(A), Coming::Put(B)],
@@ -199,8 +199,8 @@ const FOUR: &[Coming] = &[
     Coming::Put(C),
 ];
 
-/// The disk call of that list that fails, of three records and a sync, and what its inputs are answered: behind the one at which it
-/// failed none is judged.
+/// The disk call of that list that fails, of three records and a sync, and the answers to its inputs: none that follows
+/// the failure is judged.
 const CALLS: &[(u64, &str)] = &[
     (1, "E16 Device; E16 Device; E16 Device; E16 Device; "),
     (
@@ -282,7 +282,7 @@ const IDLE: &[Coming] = &[
     Coming::Tick(10),
 ];
 
-/// What they are answered.
+/// The answers to them.
 const IDLE_DONE: &str = "done; done; done; done; done; done; done; done; done; done; done; ";
 
 #[test]
@@ -326,7 +326,7 @@ fn whole(picks: &[usize]) -> usize {
     }
 }
 
-/// A keeper whose disk failed at the sync behind three records of two sectors.
+/// A keeper whose disk failed at the sync after three records of two sectors.
 fn unsynced(rt: &(impl AllocGlobal + Abort)) -> Fuse<MemDisk> {
     let mut keeper = opened(rt, 7);
     let mut inputs = Vec::new(rt.alloc());
@@ -338,7 +338,7 @@ fn unsynced(rt: &(impl AllocGlobal + Abort)) -> Fuse<MemDisk> {
     disk_of(keeper)
 }
 
-/// Asserts that the tree has the first so many of the three files, in this row.
+/// Asserts that the tree has the first `files` of the three files, in this row.
 fn has_first(rt: &impl Abort, tree: &Tree, files: usize, row: usize) {
     let has = (
         tree.get(A).is_some(),

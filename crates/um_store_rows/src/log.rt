@@ -1,4 +1,4 @@
-//! The log of a store: its records and what a crash leaves of them.
+//! The log of a store: its records and the disks that a crash leaves of them.
 use crate::answers::{change, filled, sector_at};
 use std::fmt::Debug;
 use std::process::Abort;
@@ -6,7 +6,7 @@ use um_asserts::{is_refused, same, same_at};
 use um_log::{Format, Layout, Log, Reader, Record, greatest, scan};
 use um_sector::{Disk, Fuse, MemDisk};
 
-/// The first sector of generation 2's records, behind slots of 64 sectors.
+/// The first sector of generation 2's records, after slots of 64 sectors.
 const START: usize = 129;
 
 /// That of generation 3's, in the other area.
@@ -87,7 +87,7 @@ const TORN: &[([usize; 2], &[(usize, usize)])] = &[
     ([1, 1], &[(129, 481)]),
 ];
 
-/// The disk behind a record of two sectors that it failed to sync.
+/// The disk after a record of two sectors that it failed to sync.
 fn torn(rt: &(impl AllocGlobal + Abort), disk: MemDisk, log: &mut Log) -> MemDisk {
     // the third call, the sync, fails
     let mut disk = Fuse::new(disk, 3);
@@ -130,7 +130,7 @@ fn a_record_takes_the_least_number_of_sectors(rt: HostRuntime) {
     has_records(&rt, &mut disk, &log, &wanted, "the end");
 }
 
-/// Asserts that a record of this length takes its parts and a sync, so that the disk has taken so many calls then.
+/// Asserts that a record of this length takes its parts and a sync, so that the disk has taken this many calls then.
 fn takes_calls<D: Disk>(
     rt: &(impl AllocGlobal + Abort),
     disk: &mut Fuse<D>,
@@ -142,7 +142,7 @@ fn takes_calls<D: Disk>(
     same!(rt, disk.calls(), calls);
 }
 
-/// Asserts that a scan reads of each of both records its parts, and behind them one sector.
+/// Asserts that a scan reads of each of both records its parts, and after them one sector.
 fn is_scanned<D: Disk>(rt: &(impl AllocGlobal + Abort), disk: &mut Fuse<D>, log: &Log) {
     let wanted = [(START, 480), (START + 1, 481)];
     has_records(rt, disk, log, &wanted, "the end");
@@ -184,7 +184,8 @@ fn fits_by_size(rt: &impl Abort, log: &Log) {
     same!(rt, fits, [false, true, true, false]);
 }
 
-/// Asserts that the longest record fits into an empty area, all of which it takes: 256 sectors, behind which no record is written.
+/// Asserts that the longest record fits into an empty area, all of which it takes: 256 sectors, after which no record
+/// is written.
 fn fits_once(rt: &(impl AllocGlobal + Abort), disk: &mut MemDisk, log: &mut Log, long: &[u8]) {
     let before = log.next;
     append(rt, disk, log, &[long]);
@@ -225,8 +226,8 @@ fn two_generations_have_an_area_each_and_the_one_behind_takes_the_first_again(rt
     has_records(&rt, &mut disk, &behind, &[(START, 480)], 4);
 }
 
-/// Bytes of a record, and another value of each, with which it is none: generation, length 0, length above the limit, parts, a byte
-/// behind the payload, the record's number, the name.
+/// Bytes of a record, and another value of each, with which it is none: generation, length 0, length above the limit,
+/// parts, a byte after the payload, the record's number, the name.
 const NO_RECORDS: &[(usize, u8)] = &[
     (11, 3),
     (31, 0),
@@ -258,7 +259,7 @@ fn what_is_not_as_it_is_written_is_no_record(rt: HostRuntime) {
 /// one that is in neither.
 const SAYING: &[(usize, u8)] = &[(140, 4), (400, 5), (641, 6)];
 
-/// The greatest generation that the disk of a store tells, of whose newest snapshot the generation is 2.
+/// The greatest generation that stands on the disk of a store whose newest snapshot is of generation 2.
 fn greatest_of(rt: &impl Abort, disk: &mut MemDisk, layout: Layout) -> Option<u64> {
     let reader = Reader::new(Format::Two, layout, 2);
     let following = reader.following().expect(rt, "no generation behind it");

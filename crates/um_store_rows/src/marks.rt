@@ -1,4 +1,4 @@
-//! What a file is wanted to hold, as a value; nothing of it needs to be read or asserted.
+//! The wanted content of a file, as a value; nothing of it needs to be read or asserted.
 ghost use Rattle.std.specs.Prelude.{◌≡◌, ◌<◌, ◌≤◌};
 
 /// The byte at this place of the file of a disk whose second sector is marked, and which has zeros in all others: 8 at the

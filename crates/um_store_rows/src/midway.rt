@@ -1,4 +1,4 @@
-//! Stores that are opened in the middle of a snapshot, or behind a crash there.
+//! Stores that are opened in the middle of a snapshot, or after a crash there.
 use crate::inputs::{A, B, input, put, put_long, take};
 use crate::keepers::{calls_since, disk_of, opened, over};
 use crate::stepping::{C, Counted, stands, steps};
@@ -37,7 +37,7 @@ fn restart(rt: &(impl AllocGlobal + Abort)) -> Input {
     input(rt, 0, Event::Commanded(command))
 }
 
-/// The end of its process, behind which it is started as number 2.
+/// The end of its process, after which it is started as number 2.
 fn end(rt: &impl Abort) -> Input {
     let end = Happening::ProcessEnded {
         number: 1,
@@ -46,7 +46,8 @@ fn end(rt: &impl Abort) -> Input {
     input(rt, 0, Event::Happened(end))
 }
 
-/// That keeper behind a restart and the end: with the first one a snapshot of three sectors has begun. Taken twice, the restart would stop number 2.
+/// That keeper after a restart and the end: with the first one a snapshot of three sectors has begun. Taken twice, the
+/// restart would stop number 2.
 fn restarted(rt: &(impl AllocGlobal + Abort), call: u64) -> Counted {
     let mut keeper = full(rt, call);
     same!(rt, take(rt, &mut keeper, restart(rt)), 0);
@@ -60,8 +61,8 @@ fn state_of<D: Disk>(rt: &(impl AllocGlobal + Abort), keeper: &Keeper<D>) -> Vec
     spell(rt.alloc(), keeper.state()).expect(rt, "no memory")
 }
 
-/// Asserts that an opening of a disk finds this generation, so many records and this state, and that another one finds the state alone; gives
-/// the disk back.
+/// Asserts that an opening of a disk finds this generation, this number of records and this state, and that another one
+/// finds the state alone; gives the disk back.
 fn opens<D: Disk>(
     rt: &(impl AllocGlobal + Abort),
     disk: D,
@@ -84,7 +85,8 @@ fn opens<D: Disk>(
     disk_of(again)
 }
 
-/// Steps in the middle of the snapshot, what each is answered and how many sectors are left, and what counts then.
+/// Steps in the middle of the snapshot, the answer to each and how many sectors are left, and the records that count
+/// then.
 const MIDDLES: &[(u32, (bool, u32), (u64, usize))] = &[
     (0, (false, 3), BEFORE),
     (1, (false, 2), BEFORE),
@@ -92,7 +94,7 @@ const MIDDLES: &[(u32, (bool, u32), (u64, usize))] = &[
     (3, (true, 0), BEHIND),
 ];
 
-/// Asserts what counts behind a step, and that the state is the same then.
+/// Asserts which records count after a step, and that the state is the same then.
 fn opens_behind(
     rt: &(impl AllocGlobal + Abort),
     sectors: u32,
@@ -112,7 +114,7 @@ fn what_was_recorded_since_it_began_is_taken_once(rt: HostRuntime) {
     }
 }
 
-/// Picks of so many writes: of the one of that number the other one than of all others.
+/// Picks of this many writes: of the one of that number the other one than of all others.
 fn picks_but(
     rt: &(impl AllocGlobal + Abort),
     count: usize,
@@ -139,8 +141,8 @@ fn is_one_lost(picks: &[usize]) -> bool {
     false
 }
 
-/// Asserts that what a crash leaves of a disk opens to this state, where all writes that weren't synced are lost or there, or one is otherwise
-/// than the others; and what counts then where one is lost, and where none is.
+/// Asserts that a disk that a crash leaves opens to this state, if all unsynced writes are lost or there, or one is
+/// otherwise than the others; and which records count then if one is lost, and if none is.
 fn leaves(
     rt: &(impl AllocGlobal + Abort),
     disk: &MemDisk,
@@ -159,12 +161,13 @@ fn leaves(
     }
 }
 
-/// What counts before the header of the snapshot, and behind it.
+/// The records that count before the header of the snapshot, and after it.
 const BEFORE: (u64, usize) = (3, 256);
 
 const BEHIND: (u64, usize) = (4, 2);
 
-/// Asserts what a crash leaves at the disk call of this number of a step of three sectors: each sector, a sync, the header, a sync.
+/// Asserts which store a crash leaves at the disk call of this number of a step of three sectors: each sector, a sync,
+/// the header, a sync.
 fn crashes_at(rt: &(impl AllocGlobal + Abort), call: u64) {
     let calls = calls_since(rt, &disk_of(restarted(rt, 0)));
     let fails = calls.checked_add(call).expect(rt, "too many");
@@ -191,7 +194,7 @@ fn half_a_body_is_written_over_by_the_next_opening(rt: HostRuntime) {
     let mut keeper = restarted(&rt, 0);
     steps(&rt, &mut keeper, 2, (false, 1));
     let disk = disk_of(over(&rt, disk_of(keeper)));
-    // a snapshot begins anew, with nothing of it written
+    // a snapshot begins again, with nothing of it written
     let mut keeper = over(&rt, disk);
     same!(&rt, keeper.left(), 0);
     for _ in 0..257 {

@@ -1,5 +1,6 @@
-//! A store of layout 1 that a program of profile 1 made, as its file was: it opens to the state that it stands for, also behind a crash at any call
-//! of the open, is of layout 2 then, and is read by profile 1 until its tree is loaded anew.
+//! A store of layout 1 that a program of profile 1 made, as its file was. It opens to the state that it stands for,
+//! also after a crash at any call of the open. Then it is of layout 2, and is read by profile 1 until its tree is
+//! loaded again.
 use crate::answers::sector_at;
 use crate::inputs::{input, submit, take};
 use crate::keepers::{calls_of_open, crash, disk_of, over};
@@ -12,8 +13,9 @@ use um_sector::{Disk, Fuse, MemDisk, Sector};
 use um_state::{Command, Event, Input};
 use um_wire::spell;
 
-/// The sectors of its 641 that hold anything, without the zeros behind: sector 0, the header and the body of slot A, those of slot B, and
-/// three records, which are a boot, a file `lib/p.service` with ExecStartPre=, and a reload.
+/// The sectors of its 641 that hold anything, without the zeros at their ends: sector 0, the header and the body of
+/// slot A, those of slot B, and three records, which are a boot, a file `lib/p.service` with ExecStartPre=, and a
+/// reload.
 const SECTORS: &[(usize, &str)] = &[
     (0, "554d4449534b303100000040000002"),
     (1, "554d534c4f54303100000000000000010000000000000025"),
@@ -76,7 +78,7 @@ fn stands(rt: &(impl AllocGlobal + Abort), disk: MemDisk) {
     same!(rt, bytes.as_slice(), hex(rt, STATE).as_slice());
 }
 
-/// What a crash leaves of an open that a failing call ends.
+/// The disk that a crash leaves of an open that a failing call ends.
 pub fn crashed(rt: &(impl AllocGlobal + Abort), disk: Fuse<MemDisk>, pick: usize) -> MemDisk {
     match Keeper::open(rt.alloc(), disk) {
         Ok(_) => rt.abort(),

@@ -1,4 +1,4 @@
-//! Stores that are made and opened: what stands there, and what is refused with which sector.
+//! Stores that are made and opened: their sectors, and which are refused with which sector.
 use crate::answers::sector_at;
 use crate::inputs::{A, put, take};
 use crate::keepers::{
@@ -87,7 +87,7 @@ fn a_new_store_has_its_layout_and_one_snapshot(rt: HostRuntime) {
     refuses(&rt, made_on(&rt, 0), "E19 NotFormatted");
 }
 
-/// What a sector of the log holds that spells no input: generation 3, record 0, part 0 of 1, a length of 1, and that byte.
+/// A sector of the log that spells no input: generation 3, record 0, part 0 of 1, a length of 1, and that byte.
 const NO_INPUT: &[u8] = &[
     0x55, 0x4d, 0x4c, 0x47, 0, 0, 0, 0, 0, 0, 0, 3, 0, 0, 0, 0, 0, 0, 0, 0, 0, 0, 0, 0, 0, 0, 0, 1,
     0, 0, 0, 1, 9,
@@ -99,7 +99,7 @@ const NO_NEXT_INPUT: &[u8] = &[
     0, 0, 0, 1, 9,
 ];
 
-/// What a sector of the log holds that says generation 5, of no whole record.
+/// A sector of the log that says generation 5, of no whole record.
 const LATER: &[u8] = &[0x55, 0x4d, 0x4c, 0x47, 0, 0, 0, 0, 0, 0, 0, 5];
 
 /// The generation before the last one.
@@ -108,9 +108,9 @@ const BEFORE_LAST: &[u8] = &[255, 255, 255, 255, 255, 255, 255, 254];
 /// The one before that.
 const TWO_BEFORE: &[u8] = &[255, 255, 255, 255, 255, 255, 255, 253];
 
-/// What is changed, and how the open is refused.
+/// The damage, and how the open is refused.
 const REFUSED: &[(&[Damage], &str)] = &[
-    // sector 0 tells whether a store is there
+    // sector 0 shows whether a store is there
     (&[(0, 0, &[0; 16])], "E19 NotFormatted"),
     (&[(0, 11, &[63])], "E18 Damaged 0"),
     (&[(0, 7, b"9")], "E22 OtherLayout"),
@@ -121,13 +121,13 @@ const REFUSED: &[(&[Damage], &str)] = &[
     // a body that spells no state, a record that spells no input
     (&[(66, 0, &[9])], "E18 Damaged 66"),
     (&[(385, 0, NO_INPUT)], "E18 Damaged 385"),
-    // and one of the next generation, in the other area, also behind one of this generation
+    // and one of the next generation, in the other area, also after one of this generation
     (&[(129, 0, NO_NEXT_INPUT)], "E18 Damaged 129"),
     (
         &[(129, 0, NO_NEXT_INPUT), (385, 0, NO_INPUT)],
         "E18 Damaged 385",
     ),
-    // in the last generation a body that spells no state is told first
+    // in the last generation a body that spells no state is reported first
     (&[(65, 8, &[255; 8]), (66, 0, &[9])], "E18 Damaged 66"),
     (&[(65, 8, &[255; 8])], "E20 GenerationsSpent"),
     // the next generation may be in the log of a header before the last one
@@ -167,7 +167,7 @@ fn what_is_refused_is_named_and_left_as_it_was(rt: HostRuntime) {
     }
 }
 
-/// Asserts that such a store is opened in the state that it stands for, and what its slot A holds then.
+/// Asserts that such a store is opened in the state that it stands for, and the content of its slot A then.
 fn opens_above(rt: &(impl AllocGlobal + Abort), changes: &[Damage], header: &[u8]) {
     let mut disk = disk_of(over(rt, changed(rt, changes)));
     has_layout(rt, &mut disk, 1, header);
@@ -201,7 +201,7 @@ fn the_last_generation_is_written_and_not_opened(rt: HostRuntime) {
     refuses(&rt, disk, "E20 GenerationsSpent");
 }
 
-/// A store that was opened once, with a log of 513 sectors: the last one is behind both areas.
+/// A store that was opened once, with a log of 513 sectors: the last one is past both areas.
 fn odd(rt: &(impl AllocGlobal + Abort)) -> MemDisk {
     let mut disk = MemDisk::new(rt.alloc(), 642).expect(rt, "no memory");
     let layout = Layout::new(64, 513).expect(rt, "no layout");
@@ -224,7 +224,7 @@ fn filed(rt: &(impl AllocGlobal + Abort)) -> MemDisk {
     disk_of(keeper)
 }
 
-/// That store, behind a checkpoint whose last sync failed: its header was written, and isn't synced.
+/// That store, after a checkpoint whose last sync failed: its header was written, and isn't synced.
 fn half_checkpointed(rt: &(impl AllocGlobal + Abort)) -> MemDisk {
     // the body, a sync, the header, and the sync that fails
     let calls = calls_of_open(rt, filed(rt));
@@ -234,7 +234,7 @@ fn half_checkpointed(rt: &(impl AllocGlobal + Abort)) -> MemDisk {
     disk_of(keeper).into_inner()
 }
 
-/// What a crash leaves of an open that a failing call ends.
+/// The disk that a crash leaves of an open that a failing call ends.
 fn crashed(rt: &(impl AllocGlobal + Abort), disk: Fuse<MemDisk>, pick: usize) -> MemDisk {
     let disk = refuses(rt, disk, "E16 Device");
     crash(rt, disk, &[pick])
@@ -249,8 +249,8 @@ fn one_file(rt: &(impl AllocGlobal + Abort), is_half: bool) -> MemDisk {
     }
 }
 
-/// Asserts that a crash behind the failed call of that number of an open of such a store leaves its file, also where a write that failed
-/// was made.
+/// Asserts that a crash after the failed call of that number of an open of such a store leaves its file, also if a
+/// write that failed was made.
 fn adds_no_state(rt: &(impl AllocGlobal + Abort), is_half: bool, fails: u64) {
     for pick in 0..2 {
         let left = crashed(rt, Fuse::new(one_file(rt, is_half), fails), pick);
@@ -260,7 +260,7 @@ fn adds_no_state(rt: &(impl AllocGlobal + Abort), is_half: bool, fails: u64) {
     }
 }
 
-/// The number of the call of an open that is so many before the last one.
+/// The number of the call of an open that is `back` before the last one.
 fn call_before_last(rt: &impl Abort, calls: u64, back: u64) -> u64 {
     calls.checked_sub(back).expect(rt, "no call")
 }
@@ -278,7 +278,7 @@ fn crashes_inside_an_open_add_no_state(rt: HostRuntime) {
     adds_no_state(&rt, true, 1);
     adds_no_state(&rt, true, 2);
     same!(&rt, files_on(&rt, half_checkpointed(&rt)), 1);
-    // and an open that begins on what such a crash left
+    // and an open that begins on the disk that such a crash left
     let fails = call_before_last(&rt, calls, 2);
     let left = crashed(&rt, Fuse::new(filed(&rt), fails), 1);
     let disk = crashed(&rt, Fuse::new(left, fails), 1);

@@ -3,7 +3,7 @@ use std::process::Abort;
 use um_asserts::same;
 use um_order::{Order, check};
 
-/// Nodes, pairs, and how many nodes are numbered where they can be; else the cycles of which one is told.
+/// Nodes, pairs, and how many nodes are numbered if they can be; else the cycles of which one is reported.
 struct Row {
     nodes: usize,
     pairs: &'static [(usize, usize)],
@@ -25,14 +25,14 @@ const ROWS: &[Row] = &[
         numbered: 4,
         cycles: &[],
     },
-    // a ring is told from its least node on
+    // a ring is reported from its least node on
     Row {
         nodes: 5,
         pairs: &[(4, 0), (3, 1), (2, 3), (1, 2)],
         numbered: 0,
         cycles: &[&[1, 2, 3]],
     },
-    // of two rings one is told
+    // of two rings one is reported
     Row {
         nodes: 4,
         pairs: &[(0, 1), (1, 0), (3, 2), (2, 3)],
@@ -90,7 +90,7 @@ fn is_wanted(rt: &impl Abort, cycle: &[usize], row: &Row) {
     assert!(rt; is_one, "a cycle: {cycle:?}, wanted {:?}", row.cycles);
 }
 
-/// Asserts that the nodes are numbered along their pairs, or that a cycle is told that is wanted.
+/// Asserts that the nodes are numbered along their pairs, or that a wanted cycle is reported.
 fn is_ordered(rt: &(impl AllocGlobal + Abort), row: &Row) {
     match check(rt.alloc(), row.nodes, row.pairs).expect(rt, "no order") {
         Order::Numbering(numbers) => is_numbered(rt, &numbers, row),

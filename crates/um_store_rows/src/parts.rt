@@ -13,10 +13,10 @@ use um_wire::{Refusal, spell};
 /// A body of 37 sectors, of 68 bytes in the last one.
 const SIZE: usize = 18_500;
 
-/// What is stored with it.
+/// The snapshot that is stored with it.
 const NEW: Stored = (B2, SIZE, 8);
 
-/// Parts of so many sectors, and how many there are.
+/// Parts of this many sectors, and how many there are.
 type Parts = (usize, usize);
 
 /// Parts of 1, of 5 (the last of 2), of 16 (the last of 5), and one of all.
@@ -25,7 +25,7 @@ const PARTS: &[Parts] = &[(1, 37), (5, 8), (16, 3), (40, 1)];
 /// The disk calls: each sector, a sync, the header, a sync.
 const CALLS: u64 = 40;
 
-/// Writes the body as generation 2 behind the first in these parts, and its header.
+/// Writes the body as generation 2 after the first in these parts, and its header.
 fn write_in<D: Disk>(
     rt: &(impl AllocGlobal + Abort),
     disk: &mut D,
@@ -69,7 +69,7 @@ fn leaves<R: Debug + Drop>(
     stores(rt, &mut left, wanted, row);
 }
 
-/// Asserts what a crash leaves where of so many writes this one alone is there, and where it alone is lost.
+/// Asserts which store a crash leaves if of this many writes this one alone is there, and if it alone is lost.
 fn leaves_one(
     rt: &(impl AllocGlobal + Abort),
     disk: &MemDisk,
@@ -87,7 +87,8 @@ fn leaves_one(
     leaves(rt, disk, &others, lost, (k, 0));
 }
 
-/// Asserts what a crash leaves where all writes that weren't synced are lost, where all are there, and where one alone is lost or there.
+/// Asserts which store a crash leaves if all writes that weren't synced are lost, if all are there, and if one alone is
+/// lost or there.
 fn leaves_each(
     rt: &(impl AllocGlobal + Abort),
     disk: &MemDisk,
@@ -113,7 +114,7 @@ fn snapshots(call: u64) -> (Stored, Stored) {
     }
 }
 
-/// Asserts what a crash leaves behind each disk call of the writing in these parts.
+/// Asserts which store a crash leaves after each disk call of the writing in these parts.
 fn leaves_behind_each(rt: &(impl AllocGlobal + Abort), parts: Parts) {
     for call in 1..42u64 {
         let mut disk = Fuse::new(first(rt), call);
@@ -132,7 +133,8 @@ fn a_crash_leaves_the_snapshot_before_until_the_header_of_the_new_one(rt: HostRu
 /// Three parts.
 const THREE: Parts = (16, 3);
 
-/// Asserts what a read gives, and what a crash leaves, behind the failure of a call of the writing in three parts.
+/// Asserts which store a read gives, and which a crash leaves, after the failure of a call of the writing in three
+/// parts.
 fn stores_behind(
     rt: &(impl AllocGlobal + Abort),
     mut disk: Fuse<MemDisk>,

@@ -59,7 +59,7 @@ const ROWS: &[(u64, [&str; 2], &str, &str)] = &[
     (22, ["", ""], "OtherLayout", "E22 OtherLayout"),
 ];
 
-/// A refusal with a text, by its number; none where it tells none.
+/// A refusal with a text, by its number; none if it has no text.
 fn with_text(alloc: Global, number: u64, texts: [&str; 2]) -> Option<Result<Refusal, AllocError>> {
     let [first, second] = texts;
     match number {

@@ -1,4 +1,4 @@
-//! Stores of layout 1, which an opening writes anew as layout 2.
+//! Stores of layout 1, which an opening writes again as layout 2.
 use crate::answers::{change, filled, sector_at};
 use crate::inputs::{A, B, input, put, take};
 use crate::keepers::{calls_of_open, disk_of, files_in, files_on, has_layout, made, over};
@@ -49,8 +49,8 @@ fn state_of_old(rt: &(impl AllocGlobal + Abort)) -> Vec<u8> {
     spell(rt.alloc(), keeper.state()).expect(rt, "no memory")
 }
 
-/// Asserts that an opening of a disk finds this generation, so many records, and this state, and makes a store of layout 2 of it, which is opened
-/// to the same.
+/// Asserts that an opening of a disk finds this generation, this number of records, and this state, and makes a store
+/// of layout 2 of it, which is opened to the same.
 fn opens(rt: &(impl AllocGlobal + Abort), disk: MemDisk, found: (u64, usize), state: &[u8]) {
     let (generation, records) = found;
     let wanted = OpenedStore {
@@ -73,7 +73,7 @@ fn opens(rt: &(impl AllocGlobal + Abort), disk: MemDisk, found: (u64, usize), st
     same!(rt, bytes.as_slice(), state);
 }
 
-/// Asserts what a look tells of the old store, which stays as it is.
+/// Asserts the summary of a look at the old store, which stays as it is.
 fn stands(rt: &(impl AllocGlobal + Abort), generation: u8) {
     let mut disk = old(rt, generation);
     let told = inspect(rt.alloc(), &mut disk).expect(rt, "not read");
@@ -107,8 +107,8 @@ fn an_old_store_is_opened_and_written_anew(rt: HostRuntime) {
     }
 }
 
-/// Whether the new header counts where the call fails that is so many before the opening's last one, the sync behind sector 0: before that are
-/// sector 0, the sync behind the header, the header, the sync behind the body, and the body.
+/// Whether the new header counts if the call fails that is `back` before the opening's last one, the sync after sector
+/// 0: before that are sector 0, the sync after the header, the header, the sync after the body, and the body.
 fn is_renewed(back: u64, is_made: bool, pick: usize) -> bool {
     match back {
         0 | 1 => true,
@@ -118,7 +118,7 @@ fn is_renewed(back: u64, is_made: bool, pick: usize) -> bool {
     }
 }
 
-/// Asserts what a crash leaves at that call, with the write that wasn't synced or without it: the same state.
+/// Asserts which state a crash leaves at that call, with the write that wasn't synced or without it: the same.
 fn crashes_at(
     rt: &(impl AllocGlobal + Abort),
     generation: u8,
@@ -158,7 +158,7 @@ fn a_crash_while_it_is_written_anew_leaves_the_state_by_either_layout(rt: HostRu
     }
 }
 
-/// What sector 0 holds in front behind a crash before its sync, by whether its write is there.
+/// The front of sector 0 after a crash before its sync, by whether its write is there.
 const FIRSTS: [u8; 2] = [b'1', b'2'];
 
 #[test]
@@ -226,7 +226,7 @@ fn the_whole_log_of_an_old_store_counts(rt: HostRuntime) {
 fn of_an_old_store_a_cut_off_reading_is_told_over_the_whole_log(rt: HostRuntime) {
     let mut disk = with_full_log(&rt);
     change(&rt, &mut disk, 300, 0, 0);
-    // 340 records behind it, of which the last is lost with them
+    // 340 records after it, of which the last is lost with them
     let cut_off = Some(Uncounted {
         sector: 300,
         records: 340,

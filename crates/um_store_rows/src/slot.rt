@@ -61,10 +61,10 @@ pub const B2: Home = Home {
     generation: 2,
 };
 
-/// What is stored first.
+/// The snapshot that is stored first.
 pub const OLD: Stored = (A1, 37, 7);
 
-/// What is stored behind it: a body of two sectors.
+/// The snapshot that is stored after it: a body of two sectors.
 const NEW: Stored = (B2, 513, 8);
 
 /// Bytes of sector 0, and another value of each, with which it is refused so: another name; another layout, which is neither 1 nor 2; an
@@ -102,7 +102,7 @@ fn leaves_one_over(rt: &impl Abort) {
     same!(rt, told, (385, 641, 642));
 }
 
-/// Asserts that the sector tells the format and the layout of the small store.
+/// Asserts that the sector names the format and the layout of the small store.
 fn tells_layout(rt: &impl Abort, sector_0: &Sector, format: Format) {
     let (told, read) = read_superblock(sector_0).expect(rt, "no layout");
     same!(
@@ -163,7 +163,7 @@ fn the_first_header_is_written_by_its_layout(rt: HostRuntime) {
     stores(&rt, &mut disk, OLD, "the first");
 }
 
-/// Writes a body as generation 2 behind the first, and its header.
+/// Writes a body as generation 2 after the first, and its header.
 fn write_second<D: Disk>(
     rt: &impl Abort,
     disk: &mut D,
@@ -201,7 +201,7 @@ const CRASHES: &[(u64, [usize; 2], Stored)] = &[
     (5, [1, 1], NEW),
 ];
 
-/// The disk behind a writing of generation 2 that failed, with a body of two sectors.
+/// The disk after a writing of generation 2 that failed, with a body of two sectors.
 fn failed(rt: &(impl AllocGlobal + Abort), mut disk: Fuse<MemDisk>) -> MemDisk {
     let written = write_second(rt, &mut disk, &[8; 513]);
     is_refused!(rt, written, "E16 Device");
@@ -240,7 +240,7 @@ fn a_header_whose_write_failed_may_count(rt: HostRuntime) {
 /// slot, generation 0, the name.
 const NO_HEADERS: &[(usize, u8)] = &[(24, 1), (511, 1), (21, 1), (15, 0), (7, 0)];
 
-/// A body of so many bytes, each of which is 8.
+/// A body of `size` bytes, each of which is 8.
 pub fn body_of(rt: &(impl AllocGlobal + Abort), size: usize) -> Vec<u8> {
     vec![in rt.alloc(); 8u8; size].expect(rt, "no memory")
 }
@@ -278,7 +278,7 @@ fn a_body_of_32_256_bytes_fills_a_slot(rt: HostRuntime) {
     stores(&rt, &mut disk, (B2, 32_256, 8), "the second");
 }
 
-/// Writes generation 2 behind the first.
+/// Writes generation 2 after the first.
 fn writes_second<D: Disk>(rt: &impl Abort, disk: &mut D) {
     let written = write_second(rt, disk, &[8; 513]);
     same!(rt, written.expect(rt, "refused"), Some(B2));

@@ -10,7 +10,7 @@ fn has_spelling<T: Canon>(rt: &(impl AllocGlobal + Abort), value: &T, bytes: &[u
     same!(rt, spelled.as_slice(), bytes);
 }
 
-/// The bytes with others behind them.
+/// The bytes with others after them.
 pub fn followed(rt: &(impl AllocGlobal + Abort), bytes: &[u8]) -> Vec<u8> {
     let mut longer = Vec::from_slice(rt.alloc(), bytes).expect(rt, "no memory");
     longer
@@ -19,7 +19,7 @@ pub fn followed(rt: &(impl AllocGlobal + Abort), bytes: &[u8]) -> Vec<u8> {
     longer
 }
 
-/// Asserts that a value is read from the bytes with others behind them, and is spelled by the bytes.
+/// Asserts that a value is read from the bytes with others after them, and is spelled by the bytes.
 pub fn is_read<T: Canon + Drop>(rt: &(impl AllocGlobal + Abort), bytes: &[u8]) {
     let longer = followed(rt, bytes);
     let found = T::get(rt.alloc(), longer.as_slice()).expect(rt, "no memory");
@@ -45,7 +45,7 @@ pub fn is_not_read<T: Canon + Drop, R: Debug + Drop>(
     same_at!(rt, read.is_none(), true, row);
 }
 
-/// Asserts that the value is spelled by these bytes, and is read from them with others behind them.
+/// Asserts that the value is spelled by these bytes, and is read from them with others after them.
 pub fn is_spelled<T: Canon + Drop>(rt: &(impl AllocGlobal + Abort), value: &T, bytes: &[u8]) {
     has_spelling(rt, value, bytes);
     is_read::<T>(rt, bytes);
@@ -70,8 +70,8 @@ pub fn are_spelled<T: Canon + Drop>(
     are_not_read::<T>(rt, others);
 }
 
-/// Asserts that these are read as values, each with others behind it, and are spelled so, and that none of the others has a front
-/// that spells a value.
+/// Asserts that these are read as values, each with others after it, and are spelled so, and that none of the others
+/// has a front that spells a value.
 pub fn are_read<T: Canon + Drop>(rt: &(impl AllocGlobal + Abort), all: &[&[u8]], others: &[&[u8]]) {
     for bytes in all {
         is_read::<T>(rt, bytes);

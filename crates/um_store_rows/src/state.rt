@@ -192,7 +192,7 @@ const UNITS: &[(&str, Standing)] = &[
             ..DEAD_UNIT
         },
     ),
-    // it was told to end
+    // its end was ordered
     (
         "5.service",
         Standing {
@@ -302,7 +302,7 @@ fn put_jobs(rt: &(impl AllocGlobal + Abort), state: &mut State) {
     jobs.expect(rt, "no memory");
 }
 
-/// The empty state, in a box, which is let go in one call.
+/// The empty state, in a box, which is dropped in one call.
 fn empty(rt: &(impl AllocGlobal + Abort)) -> Box<State> {
     Box::new(rt.alloc(), State::empty(rt.alloc())).expect(rt, "no memory")
 }
@@ -345,7 +345,7 @@ fn stands(rt: &impl Abort, state: &State, path: &str, wanted: (bool, bool)) {
     same_at!(rt, (in_hand, is_loaded), wanted, path);
 }
 
-/// Asserts that what is put into a copy stands in its tree in hand alone.
+/// Asserts that a file put into a copy stands in the copy's tree in hand alone.
 fn is_put_apart(rt: &(impl AllocGlobal + Abort), state: &State, path: &str) {
     let mut copy = copied(rt, state);
     put(rt, &mut copy, path);
@@ -515,7 +515,7 @@ fn a_state_that_no_run_reaches_is_not_read_again(rt: HostRuntime) {
     is_no_state(&rt, &sooner(&rt), clock, first, "a window after the clock");
 }
 
-/// The bytes with so many others behind them, each of which is this one.
+/// The bytes with `count` others after them, each of which is this one.
 fn padded(rt: &(impl AllocGlobal + Abort), front: &str, count: usize, byte: u8) -> Vec<u8> {
     let mut bytes = hex(rt, front);
     for _ in 0..count {
@@ -538,7 +538,7 @@ fn put_file_of(rt: &(impl AllocGlobal + Abort), bytes: &mut Vec<u8>, number: u32
         .expect(rt, "no memory");
 }
 
-/// The bytes of a tree with so many files, none of which holds anything.
+/// The bytes of a tree with `count` files, none of which holds anything.
 fn tree_of_files(rt: &(impl AllocGlobal + Abort), count: u32) -> Vec<u8> {
     let mut bytes = Vec::new(rt.alloc());
     count.put(&mut bytes).expect(rt, "no memory");

@@ -33,7 +33,7 @@ fn calls_of_full(rt: &(impl AllocGlobal + Abort)) -> u64 {
     calls_since(rt, &disk_of(full(rt, 0)))
 }
 
-/// The same behind one record more, with which a snapshot has begun.
+/// The same after one record more, with which a snapshot has begun.
 fn begun(rt: &(impl AllocGlobal + Abort), call: u64) -> Counted {
     let mut keeper = full(rt, call);
     take(rt, &mut keeper, put(rt, C, ""));
@@ -41,7 +41,7 @@ fn begun(rt: &(impl AllocGlobal + Abort), call: u64) -> Counted {
     keeper
 }
 
-/// Asserts what a step of so many sectors is answered, and how many are left then.
+/// Asserts the answer to a step of this many sectors, and how many are left then.
 pub fn steps<D: Disk>(
     rt: &(impl AllocGlobal + Abort),
     keeper: &mut Keeper<D>,
@@ -67,11 +67,11 @@ fn without_a_snapshot_a_step_is_no_disk_call(rt: HostRuntime) {
     took(&rt, keeper, 0);
 }
 
-/// A step of so many sectors, what it is answered, and how many are left then.
+/// A step of this many sectors, its answer, and how many are left then.
 type Step = (u32, bool, u32);
 
-/// Steps behind the begin of a snapshot of 37 sectors, and the calls of the disk: the record with which it begins and its sync, a sector each,
-/// and with the last one a sync, the header and a sync.
+/// Steps after the begin of a snapshot of 37 sectors, and the calls of the disk: the record with which it begins and
+/// its sync, a sector each, and with the last one a sync, the header and a sync.
 const STEPS: &[(&[Step], u64)] = &[
     (&[(0, false, 37)], 2),
     (&[(1, false, 36), (0, false, 36)], 3),
@@ -83,7 +83,7 @@ const STEPS: &[(&[Step], u64)] = &[
     (&[(5, false, 32), (u32::MAX, true, 0), (16, true, 0)], 42),
 ];
 
-/// Asserts that a snapshot goes out in these steps, with so many calls of the disk.
+/// Asserts that a snapshot goes out in these steps, with `calls` calls of the disk.
 fn goes_out(rt: &(impl AllocGlobal + Abort), list: &[Step], calls: u64) {
     let mut keeper = begun(rt, 0);
     for (sectors, told, left) in list {
@@ -99,7 +99,7 @@ fn a_step_writes_so_many_sectors_and_with_the_last_one_the_header(rt: HostRuntim
     }
 }
 
-/// Asserts that a look tells this generation and so many records.
+/// Asserts that a look shows this generation and this number of records.
 pub fn stands<D: Disk>(
     rt: &(impl AllocGlobal + Abort),
     disk: &mut D,
@@ -111,7 +111,7 @@ pub fn stands<D: Disk>(
     same!(rt, (told.cut_off, told.damaged), (None, None));
 }
 
-/// The disk behind two records since the begin, and behind a step.
+/// The disk after two records since the begin, and after a step.
 fn behind_step(rt: &(impl AllocGlobal + Abort), step: Step) -> Fuse<MemDisk> {
     let (sectors, told, left) = step;
     let mut keeper = begun(rt, 0);
@@ -163,18 +163,19 @@ fn a_record_without_room_finishes_the_snapshot_under_way_and_begins_the_next(rt:
     same!(&rt, (record[11], record[19]), (5, 0));
 }
 
-/// What is left of a snapshot as a checkpoint comes, and how many disk calls that makes: of what is left each sector, a sync, the header and a
-/// sync; and 37 sectors, a sync, the header and a sync. Where none is under way just the latter.
+/// The sectors that are left of a snapshot when a checkpoint is made, and the number of disk calls: each sector that is
+/// left, a sync, the header and a sync; and 37 sectors, a sync, the header and a sync. If none is under way only the
+/// latter.
 const CHECKPOINTS: &[(u32, u64)] = &[(0, 40 + 40), (16, 24 + 40), (36, 4 + 40), (37, 40)];
 
-/// A keeper whose snapshot has begun, of which so many sectors went out.
+/// A keeper whose snapshot has begun, of which this many sectors went out.
 fn stepped(rt: &(impl AllocGlobal + Abort), sectors: u32) -> Counted {
     let mut keeper = begun(rt, 0);
     keeper.step(sectors).expect(rt, "refused");
     keeper
 }
 
-/// The disk of it behind a checkpoint.
+/// The disk of it after a checkpoint.
 fn checkpointed(rt: &(impl AllocGlobal + Abort), sectors: u32) -> Fuse<MemDisk> {
     let mut keeper = stepped(rt, sectors);
     keeper.checkpoint().expect(rt, "no checkpoint");
@@ -202,7 +203,7 @@ fn wants_opening<D: Disk>(rt: &(impl AllocGlobal + Abort), keeper: &mut Keeper<D
     is_refused!(rt, keeper.checkpoint(), "E17 Reopen");
 }
 
-/// Asserts that a step fails at the disk call of this number, and what a look tells of the store then.
+/// Asserts that a step fails at the disk call of this number, and the summary of a look at the store then.
 fn fails_at(rt: &(impl AllocGlobal + Abort), call: u64, wanted: (u64, usize)) {
     let (generation, records) = wanted;
     let calls = calls_of_full(rt).checked_add(2);
@@ -217,11 +218,11 @@ fn fails_at(rt: &(impl AllocGlobal + Abort), call: u64, wanted: (u64, usize)) {
 
 #[test]
 fn a_step_whose_disk_fails_wants_the_store_opened_again(rt: HostRuntime) {
-    // the first sector, the last one, the sync behind it, the header
+    // the first sector, the last one, the sync after it, the header
     for call in [1, 37, 38, 39] {
         fails_at(&rt, call, (3, 219));
     }
-    // the sync behind the header, which stands by then
+    // the sync after the header, which stands by then
     fails_at(&rt, 40, (4, 1));
 }
 
@@ -236,7 +237,7 @@ fn in_generation(rt: &(impl AllocGlobal + Abort), lowest: u8) -> Counted {
     over(rt, disk)
 }
 
-/// Submits so many files that are taken.
+/// Submits `records` files that are taken.
 fn fill<D: Disk>(rt: &(impl AllocGlobal + Abort), keeper: &mut Keeper<D>, records: usize) {
     for _ in 0..records {
         take(rt, keeper, put(rt, A, ""));
@@ -258,7 +259,7 @@ fn records_of_both_generations_are_told_until_the_snapshot_counts(rt: HostRuntim
     stands(&rt, &mut disk_of(keeper), 4, 1);
 }
 
-/// Asserts that no snapshot can begin, and that what is left of the one under way stays.
+/// Asserts that no snapshot can begin, and that the rest of the one under way stays.
 fn is_spent(rt: &(impl AllocGlobal + Abort), keeper: &mut Keeper<Fuse<MemDisk>>, left: u32) {
     is_refused!(rt, submit(keeper, put(rt, A, "#")), "E20 GenerationsSpent");
     is_refused!(rt, keeper.checkpoint(), "E20 GenerationsSpent");

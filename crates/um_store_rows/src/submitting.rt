@@ -1,4 +1,4 @@
-//! Inputs that a keeper takes: what it writes of them, what a crash leaves, what it refuses.
+//! Inputs that a keeper takes: their records, the disks that a crash leaves, and the refusals.
 use crate::answers::sector_at;
 use crate::inputs::{A, B, input, put, put_long, submit, take};
 use crate::keepers::{
@@ -19,7 +19,7 @@ const START: usize = 385;
 /// A service that is started again after its delay, of a tenth of a second.
 pub const AGAIN: &str = "[Service]\nExecStart=/bin/sleep 9\nRestart=on-failure\n";
 
-/// Takes an event at the moment, and tells how many processes it asks for.
+/// Takes an event at the moment, and returns how many processes it starts.
 fn take_at<D: Disk>(
     rt: &(impl AllocGlobal + Abort),
     keeper: &mut Keeper<D>,
@@ -71,7 +71,7 @@ fn opened_again<D: Disk>(
     again
 }
 
-/// That keeper behind a tick at the moment; asserts that it asks for so many processes.
+/// That keeper after a tick at the moment; asserts how many processes it starts.
 fn ticked(
     rt: &(impl AllocGlobal + Abort),
     micros: u64,
@@ -104,7 +104,7 @@ fn filed(rt: &(impl AllocGlobal + Abort)) -> Box<Keeper<Fuse<MemDisk>>> {
     keeper
 }
 
-/// Asserts that an open of its disk finds this generation and so many records, and the state.
+/// Asserts that an open of its disk finds this generation and this number of records, and the state.
 fn finds(
     rt: &(impl AllocGlobal + Abort),
     keeper: Box<Keeper<Fuse<MemDisk>>>,
@@ -164,7 +164,7 @@ fn a_record_takes_a_call_a_part_and_a_sync(rt: HostRuntime) {
     }
 }
 
-/// Asserts that a file of so many bytes is refused.
+/// Asserts that a file of this length, in bytes, is refused.
 fn refuses_long<D: Disk>(
     rt: &(impl AllocGlobal + Abort),
     keeper: &mut Keeper<D>,
@@ -214,7 +214,7 @@ fn a_failed_checkpoint_wants_the_store_opened_again(rt: HostRuntime) {
     has_layout(&rt, &mut disk_of(again), 65, &header);
 }
 
-/// What a crash within the record of 481 bytes leaves, opened again.
+/// The keeper after a crash within the record of 481 bytes, opened again.
 fn left(rt: &(impl AllocGlobal + Abort), picks: &[usize]) -> Box<Keeper<MemDisk>> {
     // the record's sync: two sectors are written before it
     let mut keeper = opened(rt, 3);

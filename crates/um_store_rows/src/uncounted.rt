@@ -1,4 +1,4 @@
-//! What a look and an opening tell of whole records that don't count.
+//! The reports of a look and an opening on whole records that don't count.
 use crate::answers::{change, filled};
 use crate::inputs::{A, put, put_long, take};
 use crate::keepers::{disk_of, opened, over};
@@ -7,7 +7,7 @@ use um_asserts::same;
 use um_keeper::{OpenedStore, Uncounted, inspect};
 use um_sector::{Disk, MemDisk};
 
-/// Asserts that a look and an opening tell of the store on a disk how it stands, and what of it doesn't count.
+/// Asserts that a look and an opening report how the store on a disk stands, and which of its records don't count.
 fn tells(rt: &(impl AllocGlobal + Abort), disk: MemDisk, wanted: OpenedStore) {
     let mut disk = disk;
     let told = inspect(rt.alloc(), &mut disk).expect(rt, "not read");

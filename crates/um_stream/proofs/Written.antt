@@ -17,11 +17,11 @@ pub frame_whole : (t h : List ℕ) → h ≡ big_bytes 4 (length t) → frame_of
 unfolding frame_of
 frame_whole t h is = ap (λ l. l ++ t) (sym is)
 
--- the bytes before a place, and some more of those behind it
+-- the bytes before a place, and some more of those after it
 pub take_more : (xs : List ℕ) (a n : ℕ) → take a xs ++ take n (take (length xs - a) (drop a xs)) ≡ take (a + n) xs
 take_more xs a n = ap (λ l. take a xs ++ take n l) (take_rest xs a) ∙ sym (take-add a n xs)
 
--- what holds anyhow holds at Ok, and at Err
+-- a fact that holds anyhow holds at Ok, and at Err
 pub on_ok : {T E P : Type 0} (r : Result T E) → P → OnOk r P
 on_ok (Ok x) p = p
 on_ok (Err e) p = tt

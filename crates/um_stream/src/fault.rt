@@ -1,3 +1,4 @@
+//! Why a stream can't be served.
 ghost use Rattle.std.specs.Prelude.{◌≡◌};
 
 use std::alloc::AllocError;

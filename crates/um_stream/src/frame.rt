@@ -1,3 +1,4 @@
+//! Writes frames: a length and bytes.
 ghost use Rattle.std.specs.Prelude.{◌≡◌, ◌<◌, ◌^◌, ◌++◌, ℕ, List, length, OnOk};
 ghost use Rattle.std.specs.Io.KnownBytes.{Appends};
 ghost use Rattle.um_model.specs.Frames.{frame_of};
@@ -7,7 +8,7 @@ use crate::output::{flush, put};
 use byteorder::{BigEndian, ByteOrder};
 use std::io::Write;
 
-/// The length of a frame stands in so many bytes in front of it.
+/// The length of a frame stands in this many bytes in front of it.
 pub const HEADER: usize = 4;
 
 /// Writes a frame. Where it fails, a beginning of it was written.

@@ -1,3 +1,4 @@
+//! Reads bytes and frames of an input.
 ghost use Rattle.std.specs.Prelude.{◌≡◌, ◌≤◌, ◌<◌, length, [], IfOk};
 ghost use Rattle.std.specs.Io.KnownBytes.{Consumes, IsAtEnd};
 
@@ -6,7 +7,7 @@ use std::alloc::Global;
 use std::io;
 use std::io::{ErrorKind, Read};
 
-/// Input is taken in parts of at most so many bytes, so that a frame takes memory only as its bytes come.
+/// The most bytes that a read takes, so that a frame takes memory only as its bytes arrive.
 const PART: usize = 4096;
 
 /// Some bytes of the input, at most `limit`; none only at its end.
@@ -34,7 +35,7 @@ fn read_part<R: Read>(alloc: Global, input: &mut R, limit: usize) -> Result<Vec<
     Err(Fault::Read(io::Error::from(ErrorKind::Interrupted)))
 }
 
-/// So many bytes of the input, or fewer where it ends before.
+/// The next `size` bytes of the input, or fewer if it ends before.
 pub fn read_up_to<R: Read>(alloc: Global, input: &mut R, size: usize) -> Result<Vec<u8>, Fault>
     ensures bytes { IfOk result (λ got. Consumes (R.remaining input.old) (R.remaining input.new) got.items) }
     ensures bound { IfOk result (λ got. length got.items ≤ size) }

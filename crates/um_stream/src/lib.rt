@@ -1,5 +1,5 @@
-//! Bytes and frames over a reader and a writer: what was taken of the one and put to the other is exact, and where it fails a
-//! beginning of it was.
+//! Bytes and frames over a reader and a writer: the bytes taken of the one and put to the other are exact, and after a
+//! failure they are a beginning of those.
 #![tactic(auto)]
 
 mod fault;

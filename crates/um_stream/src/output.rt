@@ -1,3 +1,4 @@
+//! Writes bytes to an output.
 ghost use Rattle.std.specs.Prelude.{◌≡◌, ◌++◌, ℕ, List, [], OnOk};
 ghost use Rattle.std.specs.Io.KnownBytes.{Appends};
 
@@ -28,7 +29,7 @@ pub fn put<W: Write>(output: &mut W, bytes: &[u8]) -> Result<(), Fault>
     Err(Fault::Write(io::Error::from(ErrorKind::Interrupted)))
 }
 
-/// Hands on what was written.
+/// Hands on the bytes written.
 pub fn flush<W: Write>(output: &mut W) -> Result<(), Fault>
     ensures same { Appends (W.contents output.old) (W.contents output.new) [] }
 {

@@ -2,7 +2,7 @@ use Rattle.std.proofs.Common.{◌≡◌, ◌∙◌, ◌∷◌, ◌++◌, [], Lis
 use Rattle.std.specs.Process.{command_args}
 use Rattle.um_children.proofs.commands.add_place.Goals as goal
 
--- words that are added behind words
+-- words that are added after words
 behind : {T E : Type 0} (r : Result T E) (old mid new a b all : List (List ℕ)) → OnOk r (new ≡ mid ++ b) → mid ≡ old ++ a → a ++ b ≡ all → OnOk r (new ≡ old ++ all)
 behind (Ok u) old mid new a b all last first whole = last ∙ ap (λ l. l ++ b) first ∙ append_assoc old a b ∙ ap (λ l. old ++ l) whole
 behind (Err e) old mid new a b all last first whole = tt

@@ -3,6 +3,6 @@ use Rattle.um_children.specs.History.{was_absent}
 use Rattle.um_children.specs.Calls.{calls_of}
 use Rattle.um_children.proofs.fake.was_absent.Given as goal
 
--- what is left of the calls decides
+-- the calls that are left decide
 abbrev pub invariant-loop-call : goal.invariant-loop-call
 invariant-loop-call l = was_absent (calls_of (drop l.call-index l.calls)) l.number ≡ was_absent (calls_of l.calls) l.number

@@ -19,12 +19,12 @@ use Rattle.um_keeper.proofs.Kept.{on_disk_at}
 use Rattle.um_wire.specs.declared.refusal.Refusal.TheVariants.{Device}
 use Rattle.um_keeper.proofs.batch.record_all.Goals as goal
 
--- what wasn't recorded leaves nothing to be synced
+-- an input without a record leaves nothing to sync
 still_clean : (s : State) (inputs : List Input) (answers : List Answer) (rest : ℕ) → length answers ≡ length inputs → NeedNoRecord s inputs (map denied answers ++ replicate rest (Err Device)) → HaveNoRecord s inputs answers
 still_clean s inputs answers rest same none =
     no_record_front s inputs answers (replicate rest (Err Device)) (need_no_record s inputs (answers ++ replicate rest (Err Device)) (unrecorded_meant s inputs answers (replicate rest (Err Device)) none)) same
 
--- one more at least is told E16
+-- at least one more is answered E16
 one_fault : (s : State) (inputs : List Input) (answers : List Answer) (rest : ℕ) → length answers < length inputs → length inputs ≤ length answers + rest
     → NeedNoRecord s inputs (map denied answers ++ replicate rest (Err Device)) → (more : List Answer) × NeedNoRecord s inputs (answers ++ Err Device ∷ more)
 one_fault s inputs answers zero fewer most none = absurd (omega (arith, fewer, most))
@@ -35,7 +35,7 @@ one_more : (b : Bool) (now mid old : ℕ) → b ≡ true → now ≡ mid + owed 
 one_more true now mid old is synced same = omega (arith, synced, same)
 one_more false now mid old is synced same = absurd cc
 
--- ---- behind the sync
+-- ---- after the sync
 
 pub returns-clause-ok : goal.returns-clause-ok
 returns-clause-ok g c = c.in_ok-take_all.ensures.ok

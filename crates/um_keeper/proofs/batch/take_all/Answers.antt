@@ -19,7 +19,7 @@ use Rattle.um_keeper.proofs.Underway.{still_begun, underway_kept, then_begun}
 use Rattle.um_wire.specs.declared.refusal.Refusal.TheVariants.{Device}
 use Rattle.um_keeper.proofs.batch.take_all.Goals as goal
 
--- the inputs that are left are one and those behind it
+-- the inputs that are left are one and those after it
 one_more : (xs : List Input) (i : ℕ) (x : Input) → i < length xs → x ≡ get_or xs i x → drop i xs ≡ x ∷ drop (i + 1) xs
 one_more xs i x low is = drop_more xs i x low ∙ ap (λ y. y ∷ drop (i + 1) xs) (sym is)
 
@@ -33,14 +33,14 @@ taken_further xs i x low is = take_more xs i x low ∙ ap (λ y. take i xs ++ y 
 fewer : (now old sectors own left more first total : ℕ) → now ≤ old + sectors + own → left ≡ sectors + own + more → old + left ≤ first + total → now + more ≤ first + total
 fewer now old sectors own left more first total one is most = omega (arith, one, is, most)
 
--- the calls of those behind it
+-- the calls of those after it
 calls_left : {layout l : Layout} {left more : List model.Input} {input : model.Input} → l ≡ layout → left ≡ input ∷ more → (now old first total : ℕ)
     → now ≤ old + most_snapshot_calls l + record_calls input → old + most_calls layout left ≤ first + total → now + most_calls layout more ≤ first + total
 calls_left {layout} {l} {left} {more} {input} same is now old first total one most =
     fewer now old (most_snapshot_calls layout) (record_calls input) (most_calls layout left) (most_calls layout more) first total
     (subst (λ (z : Layout). now ≤ old + most_snapshot_calls z + record_calls input) same one) (ap (most_calls layout) is) most
 
--- what is read of one more
+-- the value that is read of one more
 behind_same : {A : Type 0} (f : A → ℕ) (x y : A) (n : ℕ) → x ≡ y → f y ≡ n → f x ≡ n
 behind_same f x y n is same = ap f is ∙ same
 
@@ -50,7 +50,7 @@ room_left len next cap next_cap left more one grown is room = omega (arith, one,
 one_longer : (x : Input) (xs all : List Input) → all ≡ x ∷ xs → length all ≡ length xs + 1
 one_longer x xs all is = omega (arith, ap length is)
 
--- an input that is told E16 and of which nothing is to be recorded has no effect
+-- an input that is answered E16 and needs no record has no effect
 idle_at : (s : model.State) (front : List model.Input) (answers : List Answer) (rest : List Answer) (input : model.Input) (more : List model.Input) → length answers ≡ length front
     → NeedNoRecord s (front ++ input ∷ more) (answers ++ Err Device ∷ rest) → IsIdle s input
 idle_at s [] [] rest input more same none = elim none.0 [ inl idle ↦ idle | inr refusal ↦ absurd (refusal.0 refl) ]
@@ -166,7 +166,7 @@ loop-input-preserved g c =
       ways = room_left _ _ _ _ _ _ call.one call.capacity longer inv.ways;
     }
 
--- ---- behind the last
+-- ---- after the last
 
 pub returns-clause-ok : goal.returns-clause-ok
 returns-clause-ok g c =

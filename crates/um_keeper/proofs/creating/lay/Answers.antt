@@ -39,7 +39,7 @@ unreachable-requires g c =
     let same = ap (λ (l : List ℕ). length l) c.requires.empty in
     omega (arith, long, same, empty_room c.args.layout)
 
--- what stands behind sector 0 before it is written
+-- the disk past sector 0 before that is written
 module _ (layout : Rattle.um_model.specs.declared.layout.Layout.Layout) (first mid old new : Past) (body : List ℕ) (is : body ≡ state_spelling empty_state)
     (newest : IsNewest layout (seen mid) A 1 body × IsNoneAbove layout (seen mid) 0) (zero : IsZeroed (seen mid)) where
   made_run : During mid new (MaybeLaid (seen mid) 0 (superblock current layout ∷ [])) → During mid new (NoneOrEmpty layout)

@@ -5,7 +5,7 @@ use Rattle.um_keeper.specs.Opening.{AreRead, IsLast}
 use Rattle.um_keeper.proofs.Replaying.{last_there}
 use Rattle.um_keeper.proofs.opening.read_records.Goals as goal
 
--- what is told of the value where the disk does what it answers
+-- a fact of the value, if the disk does what it answers
 some_then : {H : Type 0} (o : Option ℕ) (P : ℕ → Type 0) → H → IfSome o (λ n. H → P n) → IfSome o P
 some_then None P h p = tt
 some_then (Some n) P h p = p h

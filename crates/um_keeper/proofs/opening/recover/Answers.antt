@@ -40,7 +40,7 @@ spent_last layout image format f newest greatest is last (inl none) =
 spent_last layout image format f newest greatest is last (inr some) =
     inr (subst (λ (z : Format). IsGreatest layout image (top z newest) (2 ^ 64 - 1)) (sym is) (subst (IsLast layout image (top format newest)) some last))
 
--- what was taken up, of the disk as it was given
+-- the store that was taken up, of the disk as it was given
 pub returns-in_default-clause-err : goal.returns-in_default-clause-err
 returns-in_default-clause-err g c = inr (λ h.
     let p0 = g.D.Disk.past c.args.disk.now in

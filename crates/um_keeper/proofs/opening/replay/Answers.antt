@@ -18,7 +18,7 @@ use Rattle.um_keeper.specs.Opening.{Leads, IsNoInput, IsBehind}
 use Rattle.um_keeper.proofs.Replaying.{none_reached, none_spelled, one_reached, all_replayed, all_behind}
 use Rattle.um_keeper.proofs.opening.replay.Goals as goal
 
--- what was read where the log goes on, of the disk as it was given
+-- the read record, where the log goes on, of the disk as it was given
 read_there : {format f : Format} {layout l : Layout} {generation n : ℕ} {old new : Past} (number at : ℕ) (found : Option Record) → f ≡ format → l ≡ layout → n ≡ generation → new ≡ old
     → ReadsNext f l n (seen new) number at found → ReadsNext format layout generation (seen old) number at found
 read_there {format} {f} {layout} {l} {generation} {n} {old} {new} number at found e a b c is =

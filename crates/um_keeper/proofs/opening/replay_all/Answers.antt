@@ -5,7 +5,7 @@ use Rattle.um_keeper.proofs.Results.{if_ok_all_four}
 use Rattle.um_keeper.proofs.Telling.{remain_of, remain_there}
 use Rattle.um_keeper.proofs.opening.replay_all.Goals as goal
 
--- of the log as it goes on behind the records, and of the disk as it was given
+-- of the log as it goes on after the records, and of the disk as it was given
 pub returns-clause-remains : goal.returns-clause-remains
 returns-clause-remains g c =
     let old = c.args.reader.now in

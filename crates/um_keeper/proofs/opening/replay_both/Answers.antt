@@ -17,7 +17,7 @@ why_alone : (format f there : Format) (newest n behind : ℕ) → f ≡ format �
 why_alone format f there newest n behind a b c d (inl one) = inl (sym a ∙ sym b ∙ one)
 why_alone format f there newest n behind a b c d (inr last) = inr (sym c ∙ sym d ∙ last)
 
--- what no input is spelled by, of the disk as it was given
+-- the record that spells no input, of the disk as it was given
 placed_at : (format f : Format) (layout l : Layout) (generation n : ℕ) (old new : Past) → f ≡ format → l ≡ layout → n ≡ generation → new ≡ old → (e : Refusal)
     → IsNoInput (placed (area_start f l n) (records_of f l n (seen new))) e → IsNoInput (placed (area_start format layout generation) (records_of format layout generation (seen old))) e
 placed_at format f layout l generation n old new by on of same e = subst (λ (p : List (ℕ × List ℕ)). IsNoInput p e) (λ k. placed (area_start (by k) (on k) (of k)) (records_of (by k) (on k) (of k) (seen (same k))))

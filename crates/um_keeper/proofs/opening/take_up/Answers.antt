@@ -13,7 +13,7 @@ use Rattle.um_slot.specs.Reading.{IsDamaged}
 use Rattle.um_keeper.proofs.Reopening.{newest_there, header_unread}
 use Rattle.um_keeper.proofs.opening.take_up.Goals as goal
 
--- sector 0 that tells them
+-- the sector 0 that names them
 abbrev has_layout : (count : ℕ) (image : Image) (format : Format) (layout : Layout) → image 0 ≡ sectors.superblock format layout → sectors.store_sectors layout ≤ count → HasLayout count image layout
 has_layout count image format layout first room = record { format = format; first = first; room = room }
 

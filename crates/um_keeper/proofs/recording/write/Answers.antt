@@ -32,7 +32,7 @@ pub returns-in_err-make_room-clause-during : goal.returns-in_err-make_room-claus
 returns-in_err-make_room-clause-during g c h next planned s taken under =
     weaker (g.D.Disk.past c.args.disk.now) (g.D.Disk.past c.make_room.new.disk) _ _ (begun_longer taken (input_of c.args.input.now ∷ [])) (c.make_room.ensures.during h s taken under)
 
--- behind the room that was made
+-- after room was made
 pub returns-in-Ok-true-clause-during : goal.returns-in-Ok-true-clause-during
 returns-in-Ok-true-clause-during g c h next planned s taken under =
     let a = c.make_room.new.ahead in

@@ -10,7 +10,7 @@ use Rattle.um_log.specs.Reading.{ReadsNext, bytes_of, places_of}
 use Rattle.um_log.proofs.Scanning.{serves_more, serves_all, records_grown, places_more, place_more}
 use Rattle.um_log.proofs.read.scan.Goals as goal
 
--- what was read where the log goes on, of the disk as it was given
+-- the read record, where the log goes on, of the disk as it was given
 read_there : {format f : Format} {layout l : Layout} {generation n : ℕ} {old new : Past} (number at : ℕ) (found : Option Record) → f ≡ format → l ≡ layout → n ≡ generation → new ≡ old
     → ReadsNext f l n (seen new) number at found → ReadsNext format layout generation (seen old) number at found
 read_there {format} {f} {layout} {l} {generation} {n} {old} {new} number at found e a b c is =

@@ -8,13 +8,13 @@ use Rattle.um_log.specs.Appending.{record_run}
 use Rattle.um_log.proofs.Appending.{record_count, record_each}
 use Rattle.um_log.proofs.sectors.write_record.Goals as goal
 
--- the next sector of a record, whose part begins what is left
+-- the next sector of a record, whose part begins the bytes that are left
 next_of : (generation number : ℕ) (bytes rest chunk : List ℕ) (sector : Sector) (part : ℕ) → sector ≡ log_sector generation number part (length bytes) chunk → chunk ≡ take 480 rest → rest ≡ drop (480 * part) bytes
     → part < part_count (length bytes) → sector ≡ Rattle.std.specs.Prelude.slice_index_or (record_run generation number bytes) part Rattle.std.specs.Prelude.[]
 next_of generation number bytes rest chunk sector part is cut here low =
     is ∙ ap (log_sector generation number part (length bytes)) (cut ∙ ap (take 480) here) ∙ sym (record_each generation number bytes part low)
 
--- what is left behind it
+-- the bytes that are left after it
 left_of : (bytes rest behind : List ℕ) (part : ℕ) → behind ≡ drop 480 rest → rest ≡ drop (480 * part) bytes → behind ≡ drop (480 * (part + 1)) bytes
 left_of bytes rest behind part cut here =
     let next : 480 * part + 480 ≡ 480 * (part + 1) = omega arith in

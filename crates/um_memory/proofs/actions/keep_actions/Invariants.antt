@@ -6,7 +6,7 @@ use Rattle.um_memory.proofs.actions.keep_actions.Given as goal
 abbrev pub decreases-loop-handed : goal.decreases-loop-handed
 decreases-loop-handed l = length l.receipt.1
 
--- what is kept and what is still in the receipt, where nothing was lost
+-- the actions that are kept and those still in the receipt, where nothing was lost
 abbrev pub invariant-loop-handed : goal.invariant-loop-handed
 invariant-loop-handed l = record {
   kept : OnOk l.done (map action_of l.kept.items ++ l.receipt.1 ≡ map action_of l.initial.kept.items ++ l.fn.receipt.1);

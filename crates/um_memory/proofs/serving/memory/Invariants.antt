@@ -7,7 +7,7 @@ use Rattle.um_model.specs.Machine.{empty_state}
 use Rattle.um_model.specs.declared.frames.Ending.{Ending}
 use Rattle.um_memory.proofs.serving.memory.Given as goal
 
--- what serves the rest serves the whole
+-- serving the rest serves the whole
 abbrev pub invariant-frames : goal.invariant-frames
 invariant-frames g l = record {
   working : has_failed l.manager.keeper ≡ false;

@@ -1,7 +1,7 @@
 use Rattle.std.proofs.Common.{◌≡◌, ◌≤◌, length}
 use Rattle.um_runner.proofs.files.fill.Given as goal
 
--- what came is within the buffer
+-- the bytes read are within the buffer
 abbrev pub invariant-parts : goal.invariant-parts
 invariant-parts g l = record {
   within : l.size ≤ length l.buffer;

@@ -12,7 +12,7 @@ no_name : (bytes : List ℕ) → ¬ (bytes ≡ codes "UMDISK01") → ¬ (bytes �
 no_name bytes one two One same = one same
 no_name bytes one two Two same = two same
 
--- what a test that two texts differ hasn't told
+-- the negative result of a test that two texts differ
 agree : (xs ys : List ℕ) (r : Bool) → r ≡ not (pointwise nat_eq xs ys) → r ≡ false → xs ≡ ys
 agree xs ys r is told = same_text xs ys (by_case (pointwise nat_eq xs ys) refl)
   where

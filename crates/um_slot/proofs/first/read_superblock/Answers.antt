@@ -8,7 +8,7 @@ use Rattle.um_model.specs.Store as store
 use Rattle.um_laws.proofs.StoreLaws.{superblock_says, superblock_name, same_superblock, same_name}
 use Rattle.um_slot.proofs.first.read_superblock.Goals as goal
 
--- what is told of the sector of a layout
+-- the fields of the sector of a layout
 told : (format : Format) (layout : Layout) (sector : List ℕ) (slots log : ℕ) → slots ≡ big_number 4 (drop 8 sector) → log ≡ big_number 4 (drop 12 sector) → sector ≡ store.superblock format layout
     → (slots ≡ layout.slot_sectors) × (log ≡ layout.log_sectors)
 told format layout sector slots log a b same =

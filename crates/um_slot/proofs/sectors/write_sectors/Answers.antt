@@ -8,11 +8,11 @@ use Rattle.um_slot.specs.Snapshots.{body_sector, part_run}
 use Rattle.um_slot.proofs.Writing.{part_count, part_each}
 use Rattle.um_slot.proofs.sectors.write_sectors.Goals as goal
 
--- the next sector of a body, whose bytes begin what is left
+-- the next sector of a body, whose bytes begin those that are left
 next_of : (body rest chunk : List ℕ) (sector : Sector) (i : ℕ) → sector ≡ filled chunk → chunk ≡ take 512 rest → rest ≡ drop (512 * i) body → sector ≡ body_sector body i
 next_of body rest chunk sector i is cut here = is ∙ ap filled (cut ∙ ap (take 512) here)
 
--- what is left behind it
+-- the bytes that are left after it
 left_of : (body rest behind : List ℕ) (from i : ℕ) → behind ≡ drop 512 rest → rest ≡ drop (512 * (from + i)) body → behind ≡ drop (512 * (from + (i + 1))) body
 left_of body rest behind from i cut here =
     let next : 512 * (from + i) + 512 ≡ 512 * (from + (i + 1)) = omega arith in

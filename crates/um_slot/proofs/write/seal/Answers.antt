@@ -7,7 +7,7 @@ use Rattle.um_slot.specs.Snapshots.{IsWritten}
 use Rattle.um_slot.proofs.Writing.{sealing, sealed, header_done, done_maybe}
 use Rattle.um_slot.proofs.write.seal.Goals as goal
 
--- what a run of one sector says, of the same at the same place
+-- a fact of a run of one sector, of the same at the same place
 abbrev moved : (P : ℕ → List Sector → Type 0) {at to : ℕ} {v w : Sector} → at ≡ to → v ≡ w → P at (v ∷ []) → P to (w ∷ [])
 moved P {at} {to} {v} {w} is_at is p = subst (λ (s : Sector). P to (s ∷ [])) is (subst (λ n. P n (v ∷ [])) is_at p)
 

@@ -2,7 +2,7 @@ use Rattle.std.proofs.Common.{◌≤◌, ◌-◌, length}
 use Rattle.std.specs.Io.KnownBytes.{Consumes}
 use Rattle.um_stream.proofs.input.read_up_to.Given as goal
 
--- what was taken from the input so far
+-- the bytes taken from the input so far
 abbrev pub invariant-parts : goal.invariant-parts
 invariant-parts g l = record {
   bound : length l.got.items ≤ l.size;

@@ -2,7 +2,7 @@ use Rattle.std.proofs.Common.{◌≤◌, length, take}
 use Rattle.std.specs.Io.KnownBytes.{Appends}
 use Rattle.um_stream.proofs.output.put.Given as goal
 
--- what was written so far
+-- the bytes written so far
 abbrev pub invariant-parts : goal.invariant-parts
 invariant-parts g l = record {
   within : l.written ≤ length l.bytes;

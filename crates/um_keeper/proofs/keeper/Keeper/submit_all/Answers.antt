@@ -109,7 +109,7 @@ returns-in-Ok-clause-begins g c works none rose =
 
 -- ---- where the disk failed
 
--- so many inputs there are
+-- the number of inputs
 counted : (n : ℕ) (now items : List Input) → n ≡ length items → now ≡ items → n ≡ length (map input_of now)
 counted n now items is same = is ∙ sym (ap (λ (l : List Input). length l) same) ∙ sym (length-map now input_of)
 
