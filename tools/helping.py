@@ -111,11 +111,11 @@ class Formats:
 
     def variables(self):
         """The variables that stand for an option, each with that and the subcommands that take it."""
-        found = {}
+        found, name = {}, None
         for paragraph in self.section("The program").split("\n\n"):
             begun = re.match(r"`umd ([a-z]+)", paragraph)
-            name = begun.group(1) if begun else None
-            for option, variable in re.findall(r"told by `(--[a-z-]+)`\s+or\s+else\s+by\s+(?:the\s+variable\s+)?`(UMD_[A-Z_]+)`", paragraph):
+            name = begun.group(1) if begun else name
+            for option, variable in re.findall(r"given\s+by\s+`(--[a-z-]+)`\s+or\s+else\s+by\s+(?:the\s+variable\s+)?`(UMD_[A-Z_]+)`", paragraph):
                 found.setdefault((variable, option), []).append(name)
         return [(variable, option, names) for (variable, option), names in sorted(found.items())]
 
