@@ -8,7 +8,7 @@ SECONDS = 60
 
 
 def said(program, *words):
-    """What the program prints; an error where it ends with another status than 0."""
+    """What the program prints; an error if it ends with another status than 0."""
     ran = subprocess.run([program, *words], stdin=subprocess.DEVNULL, capture_output=True, text=True, timeout=SECONDS)
     if ran.returncode:
         raise RuntimeError(f"{' '.join([program, *words])}: status {ran.returncode}, {ran.stderr.strip()}")
@@ -16,7 +16,7 @@ def said(program, *words):
 
 
 def items(lines):
-    """Indented lines as pairs: what stands in front, and what is said of it behind two spaces; a line that begins further in goes on the last one."""
+    """Indented lines as pairs: a word, and its text after two spaces; a line that begins further in goes on the last one."""
     found = []
     for line in lines:
         word, _, text = line.strip().partition("  ")
@@ -57,7 +57,7 @@ class Help:
             self.say(" ".join(it.strip() for it in lines))
 
     def say(self, text):
-        """Takes a paragraph; what stands behind its words 'Exit statuses:' are statuses."""
+        """Takes a paragraph; the part after its words 'Exit statuses:' are statuses."""
         before, found, after = text.partition("Exit statuses: ")
         if before.strip():
             (self.remarks if self.examples else self.paragraphs).append(before.strip())
@@ -71,7 +71,7 @@ class Help:
 
 
 def statuses_in(text):
-    """Statuses as they are told in one line: '0 done; 1 refused, ..; 2 wrong words.'"""
+    """Statuses as one line lists them: '0 done; 1 refused, ..; 2 wrong words.'"""
     parts = re.split(r"; (?=\d )", text.strip().rstrip("."))
     return [(it.partition(" ")[0], it.partition(" ")[2]) for it in parts]
 
@@ -88,7 +88,7 @@ class Formats:
             self.sections[title.strip()] = body.strip("\n")
 
     def section(self, title):
-        """The text of a section; what stands in brackets behind its title needn't be told."""
+        """The text of a section; the part of its title in brackets may be left out."""
         for found, body in self.sections.items():
             if found == title or found.startswith(f"{title} ("):
                 return body
@@ -105,17 +105,17 @@ class Formats:
         return "\n\n".join(kept)
 
     def statuses(self, subcommand):
-        """The exit statuses that "The program" tells of a subcommand in one sentence; none where it doesn't."""
+        """The exit statuses that "The program" lists for a subcommand in one sentence; none if it doesn't."""
         found = re.search(r"Exit statuses: (.*?)(?:\.\s|\.?$)", " ".join(self.rules(subcommand).split()))
         return statuses_in(found.group(1)) if found else []
 
     def variables(self):
         """The variables that stand for an option, each with that and the subcommands that take it."""
-        found = {}
+        found, name = {}, None
         for paragraph in self.section("The program").split("\n\n"):
             begun = re.match(r"`umd ([a-z]+)", paragraph)
-            name = begun.group(1) if begun else None
-            for option, variable in re.findall(r"told by `(--[a-z-]+)`\s+or\s+else\s+by\s+(?:the\s+variable\s+)?`(UMD_[A-Z_]+)`", paragraph):
+            name = begun.group(1) if begun else name
+            for option, variable in re.findall(r"given\s+by\s+`(--[a-z-]+)`\s+or\s+else\s+by\s+(?:the\s+variable\s+)?`(UMD_[A-Z_]+)`", paragraph):
                 found.setdefault((variable, option), []).append(name)
         return [(variable, option, names) for (variable, option), names in sorted(found.items())]
 

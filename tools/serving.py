@@ -16,7 +16,7 @@ BOOT = "rows"
 
 
 def comes(look, polls=POLLS):
-    """The first thing that the look tells and that isn't nothing, or the last one that it tells after so many polls."""
+    """The first result of the look that isn't nothing, or the last one once the polls are used up."""
     for _ in range(polls):
         found = look()
         if found:
@@ -57,7 +57,7 @@ class Client:
         self.socket.sendall(frame(request))
 
     def take(self, count):
-        """So many bytes; none where the connection ends before."""
+        """This number of bytes; none if the connection ends before."""
         while len(self.read) < count:
             try:
                 more = self.socket.recv(1 << 16)
@@ -97,7 +97,7 @@ class Client:
 
 
 class Server:
-    """A store in a folder, and who serves it. Behind a `with` nobody does, and no process is left of those that it started."""
+    """A store in a folder, and who serves it. After a `with` nobody does, and no process is left of those that it started."""
 
     def __init__(self, program, folder=None):
         self.program = program
@@ -145,7 +145,7 @@ class Server:
         self.errors.close()
 
     def told(self):
-        """What the servers told on standard error."""
+        """The servers' lines on standard error."""
         return text_of(f"{self.folder}/errors") or ""
 
     def client(self):
@@ -161,7 +161,7 @@ class Server:
         return client
 
     def first_client(self, polls=POLLS):
-        """A client as soon as the store is served; an error where the server ends before, or after so many polls."""
+        """A client as soon as the store is served; an error if the server ends before, or once the polls are used up."""
         found = comes(lambda: self.running.poll() is not None or self.client(), polls)
         if not isinstance(found, Client):
             raise RuntimeError(f"nobody serves the store: status {self.running.poll()}, told {self.told()[-400:]!r}")
@@ -186,7 +186,7 @@ class Server:
         return self.serve(**how)
 
     def ends(self, polls=POLLS):
-        """The exit status of who served, once it has ended; none where it hasn't after so many polls."""
+        """The exit status of the server, once it has ended; none if it hasn't once the polls are used up."""
         comes(lambda: self.running.poll() is not None, polls)
         return self.running.poll()
 

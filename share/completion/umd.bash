@@ -1,4 +1,4 @@
-# Completion of umd for bash. Its words are those that `umd --help` and `umd SUBCOMMAND --help` list: the program that is being typed is asked, so that
+# Completion of umd for bash. Its words are those that `umd --help` and `umd SUBCOMMAND --help` list: the program that is being typed prints them, so that
 # they are its own. Units are those that the manager at the socket knows.
 
 _umd_checkout=${BASH_SOURCE[0]%/*}/../.. # where this stands in a checkout of the repository
@@ -14,7 +14,7 @@ _umd_ask() {
     "$program" "$@" </dev/null 2>/dev/null
 }
 
-# _umd_offer WORD..: those that begin as what is being typed
+# _umd_offer WORD..: those that begin as the word being typed
 _umd_offer() {
     COMPREPLY+=($(compgen -W "$*" -- "$word"))
 }
@@ -62,7 +62,7 @@ _umd_offer_value() {
     esac
 }
 
-# _umd_plain HELP: the words that are typed behind the subcommand before the one in hand, without options and their values
+# _umd_plain HELP: the words that are typed after the subcommand and before the one in hand, without options and their values
 _umd_plain() {
     local place
     for ((place = 2; place < COMP_CWORD; place++)); do
