@@ -1,16 +1,16 @@
 //! Each call of the children fails in turn, a start both ways.
 
-use crate::alone::{Alone, spent};
 use crate::faulty_children::FaultyChildren;
 use crate::managers;
-use crate::rows::{Coming, Row, boot_of, input_of};
-use crate::stores::{made, opened, submit};
 use crate::watched::{BOOT, Running, Watched, watch};
-use crate::wrong::{Wrong, found};
 use std::alloc::Global;
 use um_children::{End, FakeChildren, ProcessNumber};
 use um_model::UnitVerb;
 use um_sector::MemDisk;
+use um_store_in_turn::alone::{Alone, spent};
+use um_store_in_turn::rows::{Coming, Row, boot_of, input_of};
+use um_store_in_turn::stores::{made, opened, submit};
+use um_store_in_turn::wrong::{Wrong, found};
 
 const START: &str = r#"{"verb":"start","unit":"a"}"#;
 

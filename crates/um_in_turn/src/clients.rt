@@ -1,17 +1,17 @@
 //! Two clients of a manager in which any allocation may fail, once: a request that finds no memory is sent again.
 
-use crate::alone::{Course, course_of};
 use crate::hoard::Hoard;
-use crate::lives::{SLEEPS, stand_for, taker_behind};
 use crate::managers;
-use crate::rows::{Coming, Row, boot_of};
 use crate::sessions::{add, frame, sent, silence};
-use crate::wrong::{Wrong, found};
 use std::alloc::Global;
 use um_children::FakeChildren;
 use um_manager::{Connection, Manager, Output, Pieces};
 use um_model::UnitVerb;
 use um_sector::MemDisk;
+use um_store_in_turn::alone::{Course, course_of};
+use um_store_in_turn::lives::{SLEEPS, stand_for, taker_behind};
+use um_store_in_turn::rows::{Coming, Row, boot_of};
+use um_store_in_turn::wrong::{Wrong, found};
 use um_wire::{Refusal, spell};
 
 type InMemory = Manager<MemDisk, FakeChildren>;

@@ -1,12 +1,8 @@
 //! Each accept, read and write of a gate fails in turn, for two clients.
 
-use crate::alone::{Course, course_of};
 use crate::faulty_gate::FaultyGate;
 use crate::managers;
-use crate::rows::{Coming, Row, boot_of};
 use crate::sessions::frames;
-use crate::stores::made;
-use crate::wrong::{Wrong, found};
 use std::alloc::Global;
 use um_children::FakeChildren;
 use um_gate::{FakeGate, FakeMoments, Note};
@@ -14,6 +10,10 @@ use um_manager::Manager;
 use um_model::{Moment, UnitVerb};
 use um_sector::MemDisk;
 use um_serve::Buffered;
+use um_store_in_turn::alone::{Course, course_of};
+use um_store_in_turn::rows::{Coming, Row, boot_of};
+use um_store_in_turn::stores::made;
+use um_store_in_turn::wrong::{Wrong, found};
 use um_wire::spell;
 
 /// The number of rounds that are served.

@@ -1,7 +1,7 @@
 //! Memory that is held, so that a call finds little.
 
-use crate::wrong::{Wrong, found};
 use std::alloc::Global;
+use um_store_in_turn::wrong::{Wrong, found};
 
 /// The bytes of a grain.
 const GRAIN: usize = 64;

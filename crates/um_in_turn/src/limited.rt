@@ -1,8 +1,8 @@
 //! The program once more, in a process of its own that has little memory.
 
-use crate::wrong::{Wrong, found};
 use std::alloc::{AllocError, Global};
 use std::process::{Command, Processes, Stdio};
+use um_store_in_turn::wrong::{Wrong, found};
 
 /// Becomes its words, with 64 MiB of memory at most.
 const LIMITED: &str = "ulimit -v 65536 && exec \"$@\"";

@@ -2,10 +2,7 @@
 
 use crate::hoard::Hoard;
 use crate::managers;
-use crate::rows::boot_of;
 use crate::sessions::frames;
-use crate::stores::made;
-use crate::wrong::{Wrong, found};
 use std::alloc::Global;
 use um_children::FakeChildren;
 use um_gate::{FakeGate, FakeMoments};
@@ -13,6 +10,9 @@ use um_manager::Manager;
 use um_model::Moment;
 use um_sector::MemDisk;
 use um_serve::Buffered;
+use um_store_in_turn::rows::boot_of;
+use um_store_in_turn::stores::made;
+use um_store_in_turn::wrong::{Wrong, found};
 use um_wire::Refusal;
 
 /// The request of the client.

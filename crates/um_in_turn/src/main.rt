@@ -6,32 +6,25 @@
 //! and the exit status is 1.
 #![tactic(auto)]
 
-mod alone;
 mod children;
 mod clients;
-mod crash;
-mod disk;
 mod faulty_children;
 mod faulty_gate;
 mod gate;
 mod hoard;
 mod limited;
-mod lives;
 mod lost_reads;
 mod managers;
-mod rows;
 mod scarce;
-mod scripts;
 mod sessions;
-mod stores;
 mod watched;
-mod wrong;
 
 use gate::Clients;
 use std::alloc::Global;
 use std::env;
 use std::process::ExitCode;
-use wrong::{Wrong, found};
+use um_store_in_turn::wrong::{Wrong, found};
+use um_store_in_turn::{crash, disk, lives, scripts};
 
 /// Each call of the disk fails in turn, for the script of this number.
 fn disk_cases(alloc: Global, number: &str) -> Result<u64, Wrong> {

@@ -1,6 +1,5 @@
 //! Calls of managers, for any disk and children: if a call promises much, it costs the prover less here than where both are known.
 
-use crate::wrong::Wrong;
 use std::alloc::Global;
 use um_children::Children;
 use um_gate::{FakeMoments, Gate};
@@ -9,6 +8,7 @@ use um_model::Moment;
 use um_sector::Disk;
 use um_serve::Buffered;
 use um_state::BootId;
+use um_store_in_turn::wrong::Wrong;
 use um_wire::Refusal;
 
 /// Opens a manager; else the refusal, with the disk and the children.

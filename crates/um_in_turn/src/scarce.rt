@@ -1,16 +1,16 @@
 //! Lives whose calls find little memory, some grains more each time, until the call is answered.
 
-use crate::alone::{Course, course_of};
 use crate::clients::two;
 use crate::hoard::Hoard;
-use crate::lives::{Taken, Taker, heard, is_answer, is_closed, is_untouched, stand_for};
 use crate::lost_reads::is_lost;
-use crate::rows::{Row, input_of};
-use crate::stores::{blank, bytes_of, create_on, open};
-use crate::wrong::{Wrong, found};
 use std::alloc::Global;
 use um_keeper::Keeper;
 use um_sector::MemDisk;
+use um_store_in_turn::alone::{Course, course_of};
+use um_store_in_turn::lives::{Taken, Taker, heard, is_answer, is_closed, is_untouched, stand_for};
+use um_store_in_turn::rows::{Row, input_of};
+use um_store_in_turn::stores::{blank, bytes_of, create_on, open};
+use um_store_in_turn::wrong::{Wrong, found};
 use um_wire::Refusal;
 
 /// The most tries of a call, the last with some 20 MiB.

@@ -1,8 +1,8 @@
 //! Frames, and the bytes from connections.
 
-use crate::wrong::{Wrong, found};
 use std::alloc::Global;
 use um_manager::{Connection, Piece, Pieces};
+use um_store_in_turn::wrong::{Wrong, found};
 
 /// The frame of a text.
 pub fn frame(alloc: Global, text: &[u8]) -> Result<Vec<u8>, Wrong> {

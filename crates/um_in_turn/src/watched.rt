@@ -1,17 +1,17 @@
 //! A manager whose children fail a call, beside the engine alone, which takes the same fates and requests.
 
-use crate::alone::{Alone, Order};
 use crate::faulty_children::FaultyChildren;
 use crate::managers;
-use crate::rows::{Coming, Row};
 use crate::sessions::{frame, sent, silence};
-use crate::wrong::{Wrong, found};
 use std::alloc::Global;
 use um_children::{Call, End, Fate, ProcessNumber};
 use um_manager::{Connection, Manager};
 use um_model::Moment;
 use um_sector::MemDisk;
 use um_state::{Event, Happening, Input};
+use um_store_in_turn::alone::{Alone, Order};
+use um_store_in_turn::rows::{Coming, Row};
+use um_store_in_turn::wrong::{Wrong, found};
 use um_wire::spell;
 
 /// The boot of all runs.
