@@ -110,7 +110,7 @@ served_before b v = served_back b.change v
 abbrev pub KeepsExact : ServedView → Change → Type 0
 KeepsExact v change = IsExact v → IsExactIfFew (served_by change v)
 
--- the number of units whose standing or pending jobs a planned step changes, if it reports that
+-- the number of units whose state or pending jobs a planned step changes, if it reports that
 abbrev pub rows_in : Next → Option ℕ
 rows_in n = rows_of n.change
 
@@ -124,7 +124,7 @@ pub record HasSameTrees (s t : model.State) : Type 0 where
   pub loaded : t.loaded ≡ s.loaded
   pub boot : t.boot ≡ s.boot
 
--- the claim of `Trees` about the trees after a command is true
+-- the statement of `Trees` about the trees after a command is true
 abbrev pub AreTrees : Trees → model.State → model.State → Type 0
 AreTrees Stay s t = HasSameTrees s t
 AreTrees Differ s t = ¬ (t.tree ≡ s.tree)
@@ -200,7 +200,7 @@ pub record DoesBy (Relation : List Action → model.State → Type 0) (t : ℕ) 
   pub leads : LeadsTo Relation t actions (state_of (changed change s))
   pub tells : TellsRows s change
 
--- the change leads to the state in which jobs have begun after these actions, at the moment, and these are all actions by then
+-- the change leads to the state in which jobs have begun after the actions `before`, at the moment, and `actions` are all actions by then
 pub record Settled (size t : ℕ) (s : Standing) (u : model.State) (before : List Action) (change : Change) (actions : List Action) : Type 0 where
   pub leads : LeadsTo (λ all v. Adds (model.Settles t u) before v all × (¬ model.IsTooHeavy size v)) t actions (state_of (changed change s))
   pub tells : TellsRows s change

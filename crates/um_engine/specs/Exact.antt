@@ -1,4 +1,4 @@
--- When `Known` is exact, and which rows let no unit go for which it was made.
+-- When `Known` is exact, and which rows let go no unit for which the graph was made.
 -- Follows no manual page: it is how the engine keeps its knowledge of units.
 -- The engine, its steps and the ways back stand on this file.
 use Rattle.std.specs.Prelude.{◌≡◌, ◌↔◌, ◌&&◌, ℕ, Bool, false, not, List, Contains}

@@ -22,7 +22,7 @@ abbrev pub actions_by : Outcome → List Action
 actions_by (Rows work) = work.actions
 actions_by (Tables served reply trees) = []
 
--- work in rows goes over the served value, at the moment; with tables, the claim of `Trees` about them is true
+-- work in rows goes over the served value, at the moment; with tables, the statement of `Trees` about the trees is true
 abbrev pub IsBasedOn : ServedView → ℕ → Outcome → Type 0
 IsBasedOn v t (Rows work) = WorksOn v work × (work.moment ≡ t)
 IsBasedOn v t (Tables served reply trees) = AreTrees trees v.state served.state

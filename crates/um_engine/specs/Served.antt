@@ -26,11 +26,11 @@ standing_of v = record { state = v.state; common = true; names = v.known.graph.n
 abbrev pub trees_weight : State → ℕ
 trees_weight s = tree_weight s.tree + tree_weight s.loaded.entries
 
--- a work that begins in this standing, at the moment
+-- a step in work that begins in this standing, at the moment
 abbrev pub begun_at : Standing → GraphView → ℕ → WorkView
 begun_at s g moment = record { graph = g; base = s; now = s; moment = moment; actions = [] }
 
--- the work goes over `Known` and began in the served state, whose trees it leaves as they are
+-- the step in work goes over `Known` and began in the served state, whose trees it leaves as they are
 pub record WorksOn (v : ServedView) (w : WorkView) : Type 0 where
   pub graph : w.graph ≡ v.known.graph
   pub base : w.base ≡ standing_of v

@@ -39,6 +39,6 @@ pub record KeepsOthers (unit : List ℕ) (s s' : State) : Type 0 where
 abbrev pub OnlyEnds : UnitJobs → UnitJobs → Type 0
 OnlyEnds before after = (kind : JobKind) → (job_of kind after ≡ job_of kind before) ⊎ (job_of kind after ≡ None)
 
--- the actions of the relation follow those that are there already
+-- the relation leads to the state, and its actions follow those that were there
 abbrev pub Adds : (List Action → State → Type 0) → List Action → State → List Action → Type 0
 Adds Goes before s' after = (new : List Action) × Goes new s' × (after ≡ before ++ new)

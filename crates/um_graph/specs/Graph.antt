@@ -46,7 +46,8 @@ Stands rows bit x y = Holds (row_of rows x) bit y
 abbrev pub AreOnce : List Neighbour → Type 0
 AreOnce row = AllPairs (λ (m n : Neighbour). m.unit ≢ n.unit) row
 
--- the names ascend and aren't too many, each with a row and a loading; neighbours are units, once in a row; dependencies and order stand in both rows
+-- the names ascend and aren't too many, each with a row and a loading; each neighbour is one of the units and stands in a row once; and each
+-- dependency stands in the rows of both units, as the order does
 pub record IsGraph (g : GraphView) : Type 0 where
   pub loaded : length g.loadings ≡ length g.names
   pub rowed : length g.rows ≡ length g.names

@@ -46,7 +46,7 @@ ready_kind g v u = if is_stop_ready g v.units u then Some Stop else (if is_start
 
 -- ---- units that needn't be looked at again
 
--- none of this number of units, from the first on, has a ready job
+-- none of the first n units has a ready job
 abbrev pub ArePassed : GraphView → List UnitJobs → List Bool → ℕ → Type 0
 ArePassed g units held n = (u : ℕ) → u < n → ready_kind g (record { graph = g; units = units; held = held }) u ≡ None
 

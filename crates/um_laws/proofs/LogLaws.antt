@@ -17,7 +17,7 @@ use Rattle.um_laws.proofs.StoreLaws.{log_size, log_payload, longest_few, same_re
 pub length-part : (bytes : List ℕ) (part : ℕ) → length (part_of bytes part) ≡ min 480 (length bytes - 480 * part)
 length-part bytes part = omega (arith, length-take 480 (drop (480 * part) bytes), length-drop (480 * part) bytes)
 
--- a later part is an earlier part of the bytes after the first part
+-- part n + 1 of the bytes is part n of those past the first part
 pub next_part : (bytes : List ℕ) (part : ℕ) → part_of bytes (suc part) ≡ part_of (drop 480 bytes) part
 next_part bytes part =
     let moved : 480 * suc part ≡ 480 + 480 * part = omega arith in

@@ -113,7 +113,7 @@ module _ (s : ServiceSettings) (c : Around) (Known : ℕ → Type 0) (Held : Typ
   winds_down_good : (w : UnitState) (i : ℕ) → Old w → Good (winds_down s c w i)
   winds_down_good w i old = by_cond Good (has_place s.stop i) (stop_command s c w i) (terminates s c w) (λ e. stop_command_good w i old) (λ e. terminates_good w old)
 
-  -- the fate of the Start job changes nothing of this
+  -- whether the start job ends or fails changes nothing of this
   started : (v : Change) → Good v → Good (start_ends v)
   started v g = record { held = g.held; fresh = g.fresh; below = g.below }
 

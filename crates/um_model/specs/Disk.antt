@@ -30,13 +30,13 @@ pub record Past : Type 0 where
   pub start : Image
   pub calls : List Call
 
--- the value of each sector that a read gives after these calls
+-- the value that a read gives of each sector after these calls
 abbrev pub seen_after : Image → List Call → Image
 seen_after start [] = start
 seen_after start (wrote k value kept ∷ calls) = with_sector (seen_after start calls) k kept
 seen_after start (synced ∷ calls) = seen_after start calls
 
--- the value of each sector that a read gives now
+-- the value that a read gives of each sector now
 abbrev pub seen : Past → Image
 seen past = seen_after past.start past.calls
 

@@ -1,4 +1,4 @@
--- When a finished job isn't repeated: a oneshot that has finished starts again only when a command calls for it.
+-- What it means that a finished job isn't repeated: a oneshot that has finished starts again only if a command calls for it.
 -- Follows systemd.service(5), "Type=oneshot" and "RemainAfterExit=".
 -- The laws that a finished job is not repeated, of runs and over all crashes, depend on this file.
 use Rattle.std.specs.Prelude.{◌≡◌, ◌≢◌, ⊤, ℕ, Bool, true, false, ◌||◌, ◌&&◌, List, None}
@@ -40,7 +40,7 @@ pub record IsAtRest (s : State) (unit : List ℕ) : Type 0 where
   pub none : (jobs_of_unit s.pending unit).start ≡ None
   pub rests : is_down_or_done (state_of_unit s.units unit).sub (state_of_unit s.units unit).stop_asked ≡ true
 
--- a command was done, and its plan has a start of the unit when none was pending
+-- a command was done, and its plan has a start of the unit, of which none was pending
 pub record PutsStart (unit : List ℕ) (s : State) (input : Input) (reply : Reply) : Type 0 where
   pub command : Command
   pub is : input.event ≡ Commanded command

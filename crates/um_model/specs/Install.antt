@@ -167,7 +167,7 @@ pub data RefusesLinks (tree : ReadTree) : InstallVerb → List ℕ → Refused �
   masks_none : {unit : List ℕ} {r : Refused} → put_link tree.entries (unit_path Etc unit) (codes "/dev/null") ≡ Err r
       → RefusesLinks tree verbs.Mask unit r
 
--- why the verb is refused for the units that it takes: for the least that can't be enabled
+-- why the verb is refused for the units that it takes: the least that can't be enabled gives the refusal
 pub data RefusesUnits (tree : ReadTree) : InstallVerb → List ℕ → Refused → Type 0 where
   takes_none : {unit : List ℕ} {r : Refused} → NamesLeast (IsBarred tree unit) (λ other r. CannotEnable other (load tree other) r) r
       → RefusesUnits tree verbs.Enable unit r

@@ -1,4 +1,4 @@
--- When the machine isn't stuck: a pending job waits for a live process.
+-- What it means that the machine isn't stuck: if a job is pending, some pending job waits for a live process.
 -- Follows no manual page: the machine is this project's own.
 -- The law of runs in proofs/LiveLaws depends on this file.
 use Rattle.std.specs.Prelude.{◌≡◌, ℕ, ◌||◌, true, List}

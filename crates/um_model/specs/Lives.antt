@@ -39,7 +39,7 @@ MayBeStep (answered r) reply = reply ≡ r
 MayBeStep turned_away reply = ⊥
 MayBeStep unanswered reply = ⊤
 
--- The image that a life which began in this state may leave when it stops: it holds a prefix of the offers, with all that were answered.
+-- The image that a life which began in this state may leave when it stops: a store of the state after a prefix of the offers, with all that were answered.
 pub data MayLeave (layout : Layout) : State → List Offer → Image → Type 0 where
   holds : {s : State} {offers : List Offer} {image : Image} → IsStoreOf layout image s → AreUnanswered offers → MayLeave layout s offers image
   takes : {s t : State} {offer : Offer} {offers : List Offer} {image : Image} (reply : Reply) (actions : List Action) → MayBeStep offer.outcome reply

@@ -430,7 +430,7 @@ Refuses profile s (Install verb unit) r =
 abbrev pub with_plan : State → List ℕ → UnitJobs → State
 with_plan s unit jobs = record s { pending = with_jobs s.pending unit jobs }
 
--- the change of the state by a command in an input of this profile that isn't refused, before any job begins
+-- the change of the state by a command that isn't refused, in an input of this profile, before any job begins
 pub data Changes (profile : Profile) (s : State) : Command → State → Type 0 where
   puts : {path text : List ℕ} {tree : Tree} → put_file s.tree path text ≡ Ok tree → Changes profile s (PutFile path text) (record s { tree = tree })
   links : {path target : List ℕ} {tree : Tree} → put_link s.tree path target ≡ Ok tree → Changes profile s (PutLink path target) (record s { tree = tree })
@@ -526,7 +526,7 @@ pub data Follows (t : ℕ) (s : State) : Happening → List Action → State →
   ticks : {actions : List Action} {v : State} (timers : Timers) → AreDeadlines s.units timers → Fires t timers s actions v → Follows t s Tick actions v
   boots : {boot : List ℕ} → Follows t s (Booted boot) [] (booted boot s)
 
--- a happening without effect: the end of a process that isn't live, a report for which no unit waits, a tick that changes nothing, the known boot
+-- a happening without effect: the end of a process that isn't live, a report for which no unit waits, a tick that changes nothing, the boot that is known
 pub data HasNoEffect (t : ℕ) (s : State) : Happening → Type 0 where
   is_over : {number : ℕ} {end : End} → IsOver s.units number → HasNoEffect t s (ProcessEnded number end)
   isnt_awaited : {number : ℕ} → ((unit : List ℕ) → IsProcessOf s.units number unit → ¬ AwaitsReport s number unit) → HasNoEffect t s (ProcessExecuted number)

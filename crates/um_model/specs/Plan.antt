@@ -17,8 +17,8 @@ use Rattle.um_model.specs.declared.jobs.UnitJobs.{UnitJobs}
 use Rattle.um_model.specs.declared.service.ActiveState.{ActiveState}
 use Rattle.um_model.specs.declared.service.ActiveState.TheVariants.{Active}
 
--- the inputs of a transaction: the dependencies, the order, which units can be loaded, why a unit can't be started, the active state of
--- each unit, and the pending jobs
+-- a transaction is made from a scene: the dependencies, the order, which units can be loaded, why a unit can't be started, the active
+-- state of each unit, and the pending jobs
 pub record Scene : Type 1 where
   pub Depends : DependencyKind → List ℕ → List ℕ → Type 0
   pub IsBefore : List ℕ → List ℕ → Type 0

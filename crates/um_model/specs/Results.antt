@@ -9,7 +9,7 @@ abbrev pub ◌and_then◌ : {A B E : Type 0} → Result A E → (A → Result B 
 (Ok a) and_then next = next a
 (Err e) and_then next = Err e
 
--- the function's value for the value, or the same error
+-- the value with the function applied to it, or the same error
 abbrev pub result_map : {A B E : Type 0} → (A → B) → Result A E → Result B E
 result_map f r = r and_then λ a. Ok (f a)
 

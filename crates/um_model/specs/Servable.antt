@@ -1,5 +1,5 @@
--- When a store of `size` bytes may hold a state, and when a state holds nothing; the weight of a state, and when one weighs no more than
--- another.
+-- When a store of `size` bytes may hold a state, and when nothing is held in a state; the weight of a state, and when one weighs no more
+-- than another.
 -- Follows no manual page: the store and its limits are this project's own.
 -- The engine, the keeper and the law of steps in proofs/ServableLaws depend on this file.
 use Rattle.std.specs.Prelude.{◌≡◌, ◌≤◌, ℕ}

@@ -102,7 +102,7 @@ end_tag (end.Code code) = 0
 end_tag (end.Signal number) = 1
 end_tag end.Lost = 2
 
--- the code or signal after it, if any
+-- the code or signal after the tag, if any
 abbrev pub end_fields : Spelling End
 end_fields (end.Code code) = code ∷ []
 end_fields (end.Signal number) = number ∷ []

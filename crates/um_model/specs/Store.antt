@@ -229,7 +229,7 @@ payloads (suc n) image at = take part_bytes (drop 32 (image at)) ++ payloads n i
 abbrev pub bytes_from : Image → ℕ → List ℕ
 bytes_from image at = let size = big_number 4 (drop 28 (image at)) in take size (payloads (part_count size) image at)
 
--- the first parts of a record, this many, stand there
+-- the first n parts of a record stand there
 abbrev pub parts_stand : ℕ → Image → ℕ → ℕ → List ℕ → ℕ → Bool
 parts_stand generation image number at bytes zero = true
 parts_stand generation image number at bytes (suc n) =

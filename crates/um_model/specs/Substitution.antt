@@ -55,7 +55,7 @@ dollar_front environment bs =
 abbrev pub piece_front : List Variable → ℕ → List ℕ → Front ℕ
 piece_front environment b bs = if b == 36 then dollar_front environment bs else Gives (b ∷ []) 1
 
--- a word becomes these words: those of the value if it is `$NAME` whole, else one word, piece by piece
+-- a word becomes these words: if the word is `$NAME` whole, those of the value, else one word, piece by piece
 pub data Becomes (environment : List Variable) : List ℕ → List (List ℕ) → Type 0 where
   splits : (word name : List ℕ) (words : List (List ℕ)) → whole_name word ≡ Some name → words_of Plain (value_of environment name) ≡ Some words
       → Becomes environment word words

@@ -1,6 +1,6 @@
 -- The reading of a unit file: its lines, joined where they go on, and of these the heads, assignments and warnings.
 -- Follows systemd.syntax(7).
--- The reader of unit files, and the units by their assignments, depend on this file.
+-- The reader of unit files, and the definition of units by their assignments, depend on this file.
 use Rattle.std.specs.Prelude.{ℕ, ◌+◌, ◌-◌, ◌%◌, Bool, true, false, ◌||◌, List, [], ◌∷◌, ◌++◌, length, drop, reverse, take_while}
 use Rattle.std.specs.Prelude.{Option, Some, None, slice_index, nat_lt, ◌==◌, if◌then◌else◌}
 use Rattle.std.specs.Option.{option_map_or}

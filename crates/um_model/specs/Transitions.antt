@@ -97,7 +97,7 @@ waits_to_restart s c u =
 abbrev pub rests : ServiceSettings → Around → UnitState → Change
 rests s c u = if not u.stop_asked && not c.stop_waits && is_restart_wanted s u then waits_to_restart s c u else rests_for_good u
 
--- its live processes get SIGTERM; without one it rests
+-- its live processes get SIGTERM; without a live process it rests
 abbrev pub terminates : ServiceSettings → Around → UnitState → Change
 terminates s c u =
     if is_live u then asking (Signal Term) (just (record u { sub = StopSigterm; deadline = deadline_after c.moment s.timeout_stop })) else rests s c u

@@ -31,6 +31,6 @@ started_at s which i = record {
 abbrev pub arguments : Room
 arguments = record { total = 2097152; longest = 131072; beside = 1 }
 
--- no process can be started with texts of this length
+-- no process can be started with these texts: they are too long
 abbrev pub is_too_long : (words environment : List (List ℕ)) → Bool
 is_too_long words environment = not (fits arguments (words ++ environment))

@@ -17,7 +17,7 @@ use Rattle.um_model.specs.declared.install.InstallVerb.TheVariants as install
 abbrev pub for_unit : UnitVerb → Decoder Command
 for_unit verb = as_at (λ f. ForUnit verb f.0 f.1) (pair_at unit_name_at (table_at modes))
 
--- enabling, disabling or the like: the name of the unit
+-- enabling or its kin: the name of the unit
 abbrev pub installs : InstallVerb → Decoder Command
 installs verb = as_at (λ unit. Install verb unit) unit_name_at
 

@@ -51,7 +51,7 @@ jobs_set s i j = record s { state = record s.state { pending = jobs_put s.names 
 abbrev pub next_set : Standing → ℕ → Standing
 next_set s next = record s { state = record s.state { next = next } }
 
--- of as many items from a number on, those whose number passes
+-- of n items from a number on, those whose number passes
 abbrev pub picked : {X : Type 0} → (ℕ → Bool) → (ℕ → X) → ℕ → ℕ → List X
 picked test item k zero = []
 picked test item k (suc n) = (if test k then item k ∷ [] else []) ++ picked test item (suc k) n

@@ -41,7 +41,7 @@ pub record CannotStart (g : GraphView) (x : List ℕ) (r : Refused) : Type 0 whe
   pub found : IsFound g x loading
   pub cause : machine.CannotStart x (loading_of loading) r
 
--- the inputs of a transaction over this graph: how active each unit is and its pending jobs, by number
+-- the scene of a transaction over this graph, with the active state and the pending jobs of each unit, by number
 abbrev pub scene_of : GraphView → List ActiveState → List UnitJobs → Scene
 scene_of g activity pending = record {
   Depends = λ kind x y. Joins g (bit_of kind) x y;

@@ -1,4 +1,4 @@
--- A transaction before anything refuses it: its inputs, and the pending jobs after it.
+-- A transaction before anything refuses it: its scene, and the pending jobs after it.
 -- Follows the definitions of plans: it states them over a graph.
 -- The public calls stand on this file.
 use Rattle.std.specs.Prelude.{◌≡◌, ℕ, ◌<◌, ◌≤◌, ◌↔◌, List, [], length}
@@ -25,7 +25,7 @@ pub record TransactionView : Type 0 where
 abbrev pub transaction : GraphView → List ActiveState → List UnitJobs → Demand × ℕ → List UnitJobs → TransactionView
 transaction graph activity pending root plan = record { graph = graph; activity = activity; pending = pending; root = root; plan = plan }
 
--- its inputs, by the names of units
+-- its scene, by the names of units
 abbrev pub scene_in : TransactionView → Scene
 scene_in t = scene_of t.graph t.activity t.pending
 
