@@ -274,7 +274,7 @@ TakesCheck rows other = ⊥
 abbrev pub IsCheckLine : List (List ℕ) → Line → Type 0
 IsCheckLine words = IsReadLine (fault_of check_words words) (TakesCheck (matches_of check_words words))
 
--- the store that is served, and its places
+-- the store that is served, and the boot, the places, the unit to start and the size of an output file
 abbrev pub IsServe : List Row → ServeLine → Type 0
 IsServe rows line =
     (first_of (codes "boot") rows ≡ Some line.boot.now) × (first_of (codes "socket") rows ≡ Some line.socket.now)
