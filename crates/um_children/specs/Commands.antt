@@ -18,11 +18,11 @@ detaching =
     codes "o=$1; shift; case $1 in */*) p=$1;; *) p=$(command -v \"$1\");; esac && test -f \"$p\" && test -x \"$p\" || exit 126; "
     ++ codes "test -f \"$o\" && true 2>/dev/null >>\"$o\" || o=/dev/null; exec </dev/null >>\"$o\" 2>&1; \"$@\" &"
 
--- the shell's program: nothing, and it fails if its word names no file that it can execute
+-- the shell's program: it does nothing, and fails if its word names no file that it can execute
 abbrev pub finding : List ℕ
 finding = codes "case $1 in */*) p=$1;; *) p=$(command -v \"$1\");; esac && test -f \"$p\" && test -x \"$p\""
 
--- the shell's program: the signal of its first word to the pid of its second
+-- the shell's program: it sends the signal of its first word to the pid of its second
 abbrev pub signalling : List ℕ
 signalling = codes "kill -s \"$1\" \"$2\""
 

@@ -1,4 +1,4 @@
--- The frame of a call over children: the parts it leaves as they were, whatever else it does and answers.
+-- The frame of a call over children: the parts it leaves as they were, whatever else it does and whatever it answers.
 -- No manual page has it: it is the project's own.
 -- The calls of um_fates, the manager's and the server's stand on this file.
 use Rattle.std.specs.Prelude.{◌≡◌, IsTrue}

@@ -1,4 +1,4 @@
--- The entry of each call in the history of calls, and the facts of a number in it.
+-- The entry of each call in the history of calls, and the facts about a number in it.
 use Rattle.std.specs.Prelude.{◌≡◌, ◌&&◌, ◌==◌, ◌++◌, ◌∷◌, [], ℕ, List, Bool, true, false, not, Option, Result}
 use Rattle.std.specs.List.{list_any}
 use Rattle.std.specs.Option.{option_map_or}
@@ -64,7 +64,7 @@ lets_go n (Forgot number) = number == n
 lets_go n (ForgotOthers live next) = not (list_any (λ m. m == n) live)
 lets_go n other = false
 
--- whether a call lets anything go
+-- whether a call forgets any number
 abbrev pub lets_any : Call → Bool
 lets_any (Forgot number) = true
 lets_any (ForgotOthers live next) = true

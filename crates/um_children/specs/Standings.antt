@@ -28,7 +28,7 @@ claimed New = Barred
 claimed (Stands Manager) = Barred
 claimed (Stands Runner) = Taken
 
--- the standing by the pid file of a number that hasn't ended; if it isn't there the number stands as before
+-- the standing of a number that hasn't ended, by its pid file; if the file isn't there the number stands as before
 abbrev pub by_pid : Told → Standing → Standing
 by_pid (Pid pid) before = Running (Some pid)
 by_pid NoPid before = Running None

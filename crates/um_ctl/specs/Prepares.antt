@@ -29,7 +29,8 @@ Prepares words old new (verb, bytes) =
     × (text : Option (List ℕ)) × IsTextRead (takes_text (row_of verb)) old new text
     × IsReadAs bytes.items (request_data verb (map (λ s. s.now) words.arguments.now) text (option_map (λ s. s.now) words.mode))
 
--- why nothing was prepared: wrong words come before the input is read, a long text before one that isn't UTF-8
+-- why nothing was prepared: wrong words are reported before the input is read, and that a text is too long before that
+-- it isn't UTF-8
 abbrev pub IsUnprepared : Option (List ℕ) → Option (List ℕ) → CtlFault → Type 0
 IsUnprepared old new Usage = Keeps old new
 IsUnprepared old new TooLarge = IsTooLong old new

@@ -3,7 +3,7 @@
 -- Gates, and the servers over them, stand on this file.
 use Rattle.std.specs.Prelude.{◌≡◌, ◌++◌, ℕ, List, Bool, true, false, Option, Some, None, IsTrue}
 
--- An accept, with the connections open after it; a read of a connection, of some bytes at most, with those that
+-- An accept, with the connections open after it; a read of a connection, of `most` bytes at most, with those that
 -- arrived, or that it is closed; a write, with the bytes offered and those taken; a connection given up.
 pub data Event : Type 0 where
   accepted : (is_open : List Bool) → Event

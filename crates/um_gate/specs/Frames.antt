@@ -1,4 +1,4 @@
--- The frame of a call over a gate and a clock: the parts it leaves as they were, whatever else it does and answers.
+-- The frame of a call over a gate and a clock: the parts it leaves as they were, whatever else it does and whatever it answers.
 -- No manual page has it: it is the project's own.
 -- Backlogs of clients, the rounds and `serve` stand on this file.
 use Rattle.std.specs.Prelude.{◌≡◌, IsTrue}

@@ -44,7 +44,7 @@ pub data AreAnswered (size : ℕ) : State → List Input → List Answer → Sta
   and_next : {s t u : State} {input : Input} {inputs : List Input} {answer : Answer} {answers : List Answer} → Answered size s input answer t
       → AreAnswered size t inputs answers u → AreAnswered size s (input ∷ inputs) (answer ∷ answers) u
 
--- the answer that is left of an answer if the disk fails after it: nothing was done, and a refusal stays
+-- the answer in place of this one if the disk fails after it: E16 if it was accepted, and a refusal stays
 abbrev pub denied : Answer → Answer
 denied (Ok given) = Err Device
 denied (Err e) = Err e
@@ -67,7 +67,7 @@ abbrev pub taken : List Input → List Answer → List Input
 taken (input ∷ inputs) (answer ∷ answers) = where_step answer input ++ taken inputs answers
 taken inputs answers = []
 
--- the actions that the answers want, in their order
+-- the actions of an answer, and those of answers, in their order
 abbrev pub asked_by : Answer → List Action
 asked_by (Ok (reply, actions)) = actions
 asked_by (Err e) = []
@@ -200,8 +200,8 @@ pub data AreSpentAsMeant (layout : Layout) (generation size from : ℕ) (s : Sta
 abbrev pub most_snapshot_calls : Layout → ℕ
 most_snapshot_calls layout = sector_count (body_limit layout) + 3
 
--- The disk calls of a list answered without a fault: its records' sectors, a sync, and a snapshot and a sync for each
--- generation that the log rose, none if the records have room from this sector on.
+-- The most disk calls of a list answered without a fault: its records' sectors, a sync, and a snapshot and a sync for
+-- each generation by which the log rose, which it doesn't if the records have room from this sector on.
 pub record TakesCalls (layout : Layout) (next generation risen before now : ℕ) (size : ℕ) (s : State) (inputs : List Input) (answers : List Answer) (t : State)
     : Type 0 where
   pub sectors : ℕ
@@ -211,7 +211,7 @@ pub record TakesCalls (layout : Layout) (next generation risen before now : ℕ)
   pub stays : next + sectors ≤ log_end layout generation → rises ≡ 0
   pub few : now ≤ before + sectors + 1 + rises * (most_snapshot_calls layout + 1)
 
--- The disk calls of a list that was answered without a fault, and begins one snapshot at most where none was under way:
+-- The most disk calls of a list answered without a fault that begins one snapshot at most where none was under way:
 -- the sectors of its records, a sync before the snapshot, and one after them all, but no sector of the snapshot.
 pub record BeginsOne (before now : ℕ) (size : ℕ) (s : State) (inputs : List Input) (answers : List Answer) (t : State) : Type 0 where
   pub sectors : ℕ

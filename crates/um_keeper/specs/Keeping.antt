@@ -43,8 +43,8 @@ pub record MayHold (layout : Layout) (size : ℕ) (s : State) : Type 0 where
   pub servable : IsServable size s
   pub fits : ∥ FitState s ∥₁
 
--- Facts that always hold of the disk of a keeper that hasn't failed, if the disk does what it answers. They depend on
--- the image that is read alone, without saying of any state or input that there is one, so that each is the same fact
+-- Facts that always hold of the disk of a keeper that hasn't failed, if the disk does what it answers. They are stated
+-- by the image that is read alone, without saying of any state or input that there is one, so that each is the same fact
 -- however it was established.
 pub record Keeps (past : Past) (sectors : ℕ) (layout : Layout) (slot : Slot) (newest : ℕ) (kept : List ℕ) (written generation number next : ℕ) (s : State)
     : Type 0 where

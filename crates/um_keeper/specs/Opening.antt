@@ -187,7 +187,7 @@ TellsDamaged format layout slot generation image (Some damaged) =
     × HaveLater format layout generation image damaged.records
 
 -- The findings in an image: the generation of its newest header, the number of records that count beside it, which are
--- replayed, and those that don't count.
+-- replayed, and the reports on records that don't count and on the other slot.
 pub record IsRead (layout : Layout) (image : Image) (opened : OpenedStore) : Type 0 where
   pub format : Format
   pub first : image 0 ≡ superblock format layout
@@ -205,7 +205,7 @@ pub record Remain (format : Format) (layout : Layout) (generation : ℕ) (image 
   pub later : HasLater format layout generation image remains.later
   pub stop : end_in format layout generation image < area_end format layout generation → EndsAt format layout generation image remains.stop
 
--- and the remains after those of the next generation, where they count too, and there is one
+-- and the remains after the records of the next generation, if they count too and there is one
 abbrev pub RemainBehind : Format → Layout → ℕ → Image → Option Remains → Type 0
 RemainBehind One layout newest image None = Unit {0}
 RemainBehind One layout newest image (Some remains) = ⊥

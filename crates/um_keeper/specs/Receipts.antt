@@ -1,4 +1,4 @@
--- The action that a receipt hands out, as one of the definitions.
+-- The action that a receipt hands out, as an action of the definitions.
 -- No manual page has this: receipts are the project's own.
 -- Receipts and the running manager stand on this file.
 use Rattle.std.specs.Prelude.{◌≡◌, ◌∷◌, [], List, Option, Some, None}

@@ -82,7 +82,8 @@ serve_words =
     (option_rule (codes "socket"))) (option_rule (codes "dir"))) (option_rule (codes "runner"))) (optional_rule (codes "start")))
     (optional_rule (codes "output"))) (optional_rule (codes "output-size"))) (word_rule (codes "file"))
 
--- the words of `umd ctl`: optional a socket, two times, a mode and three flags; then a verb with arguments, or `sync`
+-- the words of `umd ctl`: optional are a socket, two times, a mode and three flags; then a verb with its arguments, or
+-- `sync` with its folder
 abbrev pub ctl_words : App
 ctl_words =
     with_rule (with_rule (with_rule (with_rule (with_rule (with_rule (with_rule (with_rule (new_app (codes "umd ctl")) (optional_rule (codes "socket")))
@@ -274,7 +275,7 @@ TakesCheck rows other = ⊥
 abbrev pub IsCheckLine : List (List ℕ) → Line → Type 0
 IsCheckLine words = IsReadLine (fault_of check_words words) (TakesCheck (matches_of check_words words))
 
--- the store that is served, and its places
+-- the store that is served, and the boot, the places, the unit to start and the size of an output file
 abbrev pub IsServe : List Row → ServeLine → Type 0
 IsServe rows line =
     (first_of (codes "boot") rows ≡ Some line.boot.now) × (first_of (codes "socket") rows ≡ Some line.socket.now)
@@ -392,7 +393,8 @@ TakesVerify rows other = ⊥
 abbrev pub IsVerifyLine : List (List ℕ) → Line → Type 0
 IsVerifyLine words = IsReadLine (fault_of verify_words words) (TakesVerify (matches_of verify_words words))
 
--- a unit whose output is wanted, its folder, the number of last lines, and whether to follow it and to print it raw
+-- a unit whose output is wanted, the folder of outputs, the number of last lines, and whether to follow the output and
+-- to print it raw
 abbrev pub IsLogs : List Row → LogsLine → Type 0
 IsLogs rows line =
     (first_of (codes "output") rows ≡ option_map (λ folder. folder.now) line.output) × IsCount (first_of (codes "lines") rows) line.lines

@@ -23,7 +23,7 @@ ReadsPart format least sector None =
 ReadsPart format least sector (Some p) =
     (least ≤ p.generation) × IsPossible format p.generation p.number p.part p.size × IsPart p.generation p.number p.part p.size sector
 
--- the first parts of a record stand consecutively directly before a sector, that one last, not before sector `from`
+-- the parts of a record up to this one stand in a row directly before a sector, the first not before sector `from`
 pub record Stand (image : Image) (from next generation number part size : ℕ) : Type 0 where
   pub at : ℕ
   pub low : from ≤ at

@@ -1,4 +1,5 @@
--- The whole records that stand in the log after those that count, and the sector with which the reading of those ends.
+-- The whole records that stand in the log and don't count, after those that do, and the sector with which the reading
+-- of the counted ones ends.
 -- No manual page has it: it is the project's own format (docs/FORMATS.md, "The store on its disk").
 -- `Reader::remains`, the opening of a store and `inspect` stand on this file.
 use Rattle.std.specs.Prelude.{◌≡◌, ◌+◌, ◌^◌, ◌<◌, ◌≤◌, ℕ, suc, List, length}

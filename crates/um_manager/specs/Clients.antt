@@ -119,8 +119,8 @@ AreHad (rests had same) all = AreHad had all
 abbrev pub with_taken : List ℕ → Session → Session
 with_taken taken t = record t { output = taken ++ t.output }
 
--- The requests taken of a connection are those of its bytes' frames, in order, and its output, taken or not, is the
--- frames of one reply each, in order; only the last is missing, if the session failed for want of memory.
+-- The requests taken of a connection are those of its bytes' frames, in order, and its output, taken or not, is their
+-- replies' frames, one each, in order; only the last is missing, if the session failed for want of memory.
 pub record IsServed {k : ℕ} {bytes taken : List ℕ} {a : Now} (had : HasHad k bytes taken a) (t : Session) : Type 0 where
   pub exchanges : List Exchange
   pub are : AreHad had exchanges

@@ -1,4 +1,4 @@
--- The frame of a call over a store and children: the parts it leaves as they were, whatever else it does and answers.
+-- The frame of a call over a store and children: the parts it leaves as they were, whatever else it does and whatever it answers.
 -- No manual page has it: it is the project's own.
 -- The manager's calls and the server's stand on this file.
 use Rattle.std.specs.Prelude.{◌≡◌, ◌⊎◌, ◌↔◌, true, Result, Err}

@@ -41,7 +41,7 @@ pub data IsTaking {disk : Past} {before : List Call} {a b : Now} (past : History
 
 -- ---- where a life stands after them
 
--- the offers as they are known by the store's answer: if it failed no outcome is given
+-- the offers by the store's answer: if it failed none counts as answered
 abbrev pub offers_told : Result Unit declared.Refusal → List Offer → List Offer
 offers_told (Ok done) offered = offered
 offers_told (Err e) offered = all_untold offered

@@ -1,5 +1,5 @@
--- The history of a manager from its opening on: the offers to its store, the reports to its clients, and the facts that
--- they rest on.
+-- The history of a manager from its opening on: the offers to its store, the reports to its clients, and the premises
+-- that they rest on.
 -- No manual page has it: crash safety is this project's own promise (docs/HEADLINE.md reads the theorem line by line).
 -- The calls of the manager, its lives and the laws of its clients stand on this file.
 use Rattle.std.specs.Prelude.{◌≡◌, ℕ, List, [], ◌++◌, Bool, IsTrue, Result, Ok}

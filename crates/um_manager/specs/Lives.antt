@@ -63,7 +63,7 @@ pub record DiskPremises (layout : Layout) (first : State) (lives : List ManagerL
 
 -- The premises on the children.
 pub record ChildrenPremises (lives : List ManagerLife) (calls : List Call) : Type 0 where
-  -- the calls made of them before the store was made: they had started nothing
+  -- their calls before the store was made: they had started nothing
   pub before : List Call
   pub unstarted : started_numbers (orders before) ≡ []
   -- nobody else calls them
@@ -126,8 +126,8 @@ pub record Outlives (layout : Layout) (first : State) (lives : List ManagerLife)
   pub reopens : (count : ℕ) (e : Refusal) → store_sectors layout ≤ count → IsUntaken count image e → e ≡ GenerationsSpent
   -- all that was answered is in it, in its order
   pub answered : StandIn (flat_map answered_in (map (λ (life : ManagerLife). offers_of life.way) lives)) kept
-  -- the reports to any connection that its commands were done are the commands that the steps of the run did, in their
-  -- order
+  -- the commands that were reported to any connection as done are among those that the steps of the run did, with these
+  -- replies, in their order
   pub told : (k : ℕ) (run : Run (body_limit layout) first kept state) → StandIn (flat_map (λ (life : ManagerLife). told_of k life.way) lives) (done_in run)
   -- each job that begins in the run does so in its turn
   pub ready : (run : Run (body_limit layout) first kept state) → EachInTurn run
@@ -135,7 +135,7 @@ pub record Outlives (layout : Layout) (first : State) (lives : List ManagerLife)
   pub finished : (run : Run (body_limit layout) first kept state) → RepeatsNone run
   -- no number was started twice, and each that was lies below the next number of that state
   pub started : (calls : List Call) → ChildrenPremises lives calls → AreNew first.next state.next (started_numbers (orders calls))
-  -- each start that was ordered, with its number, words and environment, is one that the steps of the run want, in
-  -- their order
+  -- each start that was ordered, with its number, words and environment, is one of the actions of the run's
+  -- steps, in their order
   pub carried : (calls : List Call) → ChildrenPremises lives calls → (run : Run (body_limit layout) first kept state)
       → StandIn (starts_in (orders calls)) (starts_in (actions_in run))

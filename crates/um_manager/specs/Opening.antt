@@ -37,8 +37,8 @@ adoptions moment told = flat_map (inputs_of_tale lost moment) told
 abbrev pub boot_at : ℕ → List ℕ → Input
 boot_at moment boot = happens_at moment (Booted boot)
 
--- The children's calls: all but the live numbers below the next one were forgotten, the fates reported were queried,
--- these actions were ordered, and adopted numbers got TERM if their unit is in stop-sigterm, KILL if in stop-sigkill.
+-- The children's calls: all numbers below the next one but the live ones were forgotten, the fates reported queried,
+-- these actions ordered, and adopted numbers got TERM if their unit is in stop-sigterm, KILL if in stop-sigkill.
 pub record Ended (units : ByUnit UnitState) (live : List ℕ) (next : ℕ) (told : List Tale) (actions : List Action) (old new : List Call)
     (marked : List ℕ) : Type 0 where
   pub termed : List ℕ
@@ -53,8 +53,9 @@ abbrev pub CallsOf : Result Unit Refusal → ByUnit UnitState → List ℕ → �
 CallsOf (Ok done) units live next told actions old new marked = Ended units live next told actions old new marked
 CallsOf (Err e) units live next told actions old new marked = new ≡ old ++ (ForgotOthers live next ∷ map asks_for told)
 
--- Adoption forgot all but the live numbers below the next one, queried each live number's fate once, ascending, with a
--- claim, offered the fates, an absent number as lost, and marked the live numbers and those whose start was refused.
+-- Adoption forgot all numbers below the next one that it found but the live ones, queried each live one's fate once,
+-- ascending, with a claim, offered the fates, an absent number as lost, and marked the live ones and those whose start
+-- was refused.
 pub record Adopted (place : Place) (honest whole : Bool) (store : Result Unit Refusal) (moment : ℕ) (a b : Now) : Type 0 where
   pub live : List ℕ
   pub are_live : AreLive a.state.units live
@@ -70,8 +71,8 @@ pub record Adopted (place : Place) (honest whole : Bool) (store : Result Unit Re
   pub stored : IsTrue place.trusted → store ≡ Ok tt → Holds place b.state b.disk
   pub called : IsTrue honest → IsTrue whole → CallsOf store b.state.units live a.state.next told (all_asked answers) a.past b.past b.marks
 
--- The steps once the store is taken up: the boot is offered, which has no actions, and then the numbers that are live
--- are adopted.
+-- The steps once the store is taken up: the boot is offered, which has no actions, and then the `count` numbers
+-- that are live are adopted.
 pub record Began (place : Place) (honest whole : Bool) (store : Result Unit Refusal) (moment : ℕ) (boot : List ℕ) (count : ℕ) (a b : Now) : Type 0 where
   pub mid : Now
   pub reply : Reply
@@ -111,7 +112,7 @@ pub data IsRefused (layout : Layout) (honest whole : Bool) (moment : ℕ) (boot 
 abbrev pub IsOfOpening : Layout → Past → State → List Input → Image → Type 0
 IsOfOpening layout disk s inputs image = IsAsBefore layout disk image ⊎ IsBegun layout s inputs image
 
--- Opening: the store is taken up of a disk of this many sectors, and the steps that follow; a crash meanwhile leaves a
+-- Opening: the store is taken up of a disk of this many sectors, and these steps follow; a crash meanwhile leaves a
 -- store of a state from before, or of one that the boot and a beginning of adoption's inputs give.
 pub record Opened (place : Place) (honest whole : Bool) (moment : ℕ) (boot : List ℕ) (count sectors : ℕ) (disk : Past) (past : List Call) (b : Now)
     : Type 0 where

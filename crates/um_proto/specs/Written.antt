@@ -53,7 +53,7 @@ warning_behind path w = 91 ∷ (decimal (warning_number w.kind) ++ 44 ∷ (path 
 abbrev pub warnings_text : List model.Warning → List ℕ
 warnings_text = flat_map (λ w. compact_text (warning_data w) ++ 44 ∷ [])
 
--- the reply's own text; `None` only if the reply isn't whole
+-- the reply's own text; `None` only if that is too long
 abbrev pub IsOwnText : Reply → Option (Vec ℕ Global) → Type 0
 IsOwnText reply None = is_told_whole reply ≡ false
 IsOwnText reply (Some text) = text.items ≡ compact_text (reply_data reply)

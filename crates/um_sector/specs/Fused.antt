@@ -10,7 +10,7 @@ use Rattle.um_sector.specs.declared.fault.Fault.{Fault}
 abbrev pub failures_with : ℕ → ℕ → ℕ
 failures_with below own = min (below + own) (2 ^ 64 - 1)
 
--- The write of the value was passed to the disk below, whatever it answered.
+-- The write of the value to sector `k` was passed to the disk below, whatever that answered.
 pub record IsAsked (honest : Type 0) (below above : ℕ) (old : Past) (k : ℕ) (value : Sector) (new : Past) : Type 0 where
   pub answer : Result (Unit {0}) Fault
   pub counts : CountsFailure answer below above

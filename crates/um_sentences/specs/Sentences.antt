@@ -105,7 +105,7 @@ topic_named word = lookup (bytes_eq word) topics
 abbrev pub topic_of_reason : List ℕ → Option Topic
 topic_of_reason reason = if begins_with reason (codes "setting ") then Some Setting else topic_named reason
 
--- the outcome of a unit
+-- the sentence for the outcome of a unit
 abbrev pub result_sentence : UnitResult → List ℕ
 result_sentence result.Success = codes "nothing has failed."
 result_sentence result.ExitCode =

@@ -40,7 +40,7 @@ offers_in_rounds (and_round round found out rest) = offers_told (round.turns.1 f
 offers_in_rounds (last_round refused round found out) = offers_told (round.turns.1 found).store (offers_of_turn (round.turns.1 found))
 offers_in_rounds (lost_round untaken out) = []
 
--- Some rounds that fit the calls extend the manager's history, and so does each life with that history: it goes on with
+-- Whichever rounds fit the calls, they extend the manager's history, and each life with that history: it goes on with
 -- exactly the rounds' offers, or its store refused the last of them, and there it has stopped.
 abbrev pub LivesOn : Trust → Place → Layout → Result Unit Refusal → (x y : Served) → Type 0
 LivesOn trust at layout result x y =

@@ -16,7 +16,7 @@ use Rattle.um_serve.specs.Sleep.{has_changed}
 use Rattle.um_wire.specs.declared.refusal.Refusal.{Refusal}
 use Rattle.um_wire.specs.declared.refusal.Refusal.TheVariants.{NoMemory}
 
--- the bytes that a read gave
+-- the bytes that a read gave; none at all if it found the connection closed
 abbrev pub came_of : Piece → Option (List ℕ)
 came_of Nothing = Some []
 came_of (Bytes bytes) = Some bytes.items

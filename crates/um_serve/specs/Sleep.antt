@@ -31,11 +31,12 @@ IsSleptFor s turned deadline = MatchOption deadline (NoneAfter s.units turned) (
 abbrev pub second : ℕ
 second = 1000000
 
--- so long it is until the next deadline, and a second at most
+-- the time until the next deadline, a second at most
 abbrev pub until : ℕ → Option ℕ → ℕ
 until now (Some deadline) = min (deadline - now) second
 until now None = second
 
--- the microseconds slept: while something is open that no runner reports no more than the wait
+-- the microseconds slept, until the deadline or a second at most: and no more than the wait while something is open
+-- that no runner reports
 abbrev pub slept : (wait : ℕ) → Bool → (now : ℕ) → Option ℕ → ℕ
 slept wait is_open now deadline = min (if is_open then wait else second) (until now deadline)

@@ -25,7 +25,7 @@ use Rattle.um_status.specs.declared.standing.Standing.TheVariants.{Moving, Runs,
 
 -- ---- the reply to `show`
 
--- the unit in the reply: its own name, whether it is loaded, its two states, its result and its main process
+-- the unit in the reply: its own name, whether it is loaded, its two states, its result and its main process's number
 pub record UnitShown : Type 0 where
   pub id : List ℕ
   pub loaded : List ℕ
@@ -108,7 +108,7 @@ abbrev pub standing_for : Goal → UnitShown → Standing
 standing_for Up s = standing_up s
 standing_for Down s = standing_down s
 
--- a unit's standing for a goal: on its way if a job of it is pending or it starts or stops, otherwise reached or not
+-- a unit's standing for a goal: on its way if a job of it is pending or it starts or stops, otherwise by its states
 abbrev pub standing_of : Goal → UnitShown → List Data → Standing
 standing_of goal s jobs = if has_job s.id jobs || is_among s.sub moving_states then Moving else standing_for goal s
 

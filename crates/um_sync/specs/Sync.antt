@@ -1,4 +1,5 @@
--- The record of the files of a folder that were put into a manager's tree, and the steps to put the folder's files.
+-- The record of the entries of a folder that were put into a manager's tree, and the steps by which the tree follows
+-- the folder.
 -- No manual page has this: it is the project's own (docs/FORMATS.md, "umd ctl sync").
 -- um_sync stands on this file.
 use Rattle.std.specs.Prelude.{◌++◌, ◌==◌, ℕ, List, [], Bool, true, false, Option, Some, None, Result, Ok, Err, map, filter, flat_map, fold, is_none, length, nat_lt, option_map, option_to_list, codes, bytes_eq, if◌then◌else◌}
@@ -100,12 +101,12 @@ same (File a) (File b) = bytes_eq a b
 same (Link a) (Link b) = bytes_eq a b
 same before now = false
 
--- a file replaces a file; anything else is put after the old entry is removed
+-- a file is put over a file; anything else is put after the old entry is removed
 abbrev pub in_place_of : Mark → Mark → Action
 in_place_of (File a) (File b) = Put
 in_place_of before now = Replace
 
--- the action for this mark in the folder and that mark of the record; if they are the same, put only with all
+-- the action for this mark in the folder and that mark of the record; if they are the same it is put only with `all`
 abbrev pub action_for : (all : Bool) → Option Mark → Mark → Option Action
 action_for all None now = Some Put
 action_for all (Some before) now = if same before now then (if all then Some Put else None) else Some (in_place_of before now)

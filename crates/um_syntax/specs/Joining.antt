@@ -1,4 +1,4 @@
--- Lines that are being joined as those of the definitions.
+-- Lines that are being joined, as those of the definitions.
 use Rattle.std.specs.Prelude.{◌≡◌, ℕ, ◌+◌, ◌<◌, ◌^◌, true, false, List, ◌∷◌, ◌++◌, length, drop, map, Option, Some, None}
 use Rattle.std.specs.String.{string_bytes}
 use Rattle.um_model.specs.Syntax.{Line, joined, first_text}

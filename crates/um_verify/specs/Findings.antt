@@ -1,4 +1,4 @@
--- The report on a unit before any manager has it: each reason why it can't be loaded, at its line, and the files without that line.
+-- The report on a unit before any manager has it: each reason why it can't be loaded, at its line, and the next as without that line.
 -- Follows systemd.unit(5) in the meaning of `X-` before a key; the sentences are the project's own (docs/FORMATS.md, "The program").
 -- `umd verify`, and the reasons that `umd status` gives for a unit that isn't loaded, stand on this file.
 use Rattle.std.specs.Prelude.{◌≡◌, Ok, ◌⊎◌, ℕ, ◌+◌, ◌-◌, ◌≤◌, ◌==◌, ◌&&◌, not, Bool, true, false, List, [], ◌∷◌, ◌++◌, Option, Some, None}

@@ -5,7 +5,7 @@ use Rattle.std.specs.Prelude.{ℕ, ◌+◌, ◌-◌, Bool, ◌&&◌, nat_le, Lis
 use Rattle.std.specs.List.{list_all, sum_by}
 use Rattle.um_words.specs.declared.room.Room.{Room}
 
--- the room of a text: its bytes, and those in addition to them
+-- the room of a text: its bytes, and `beside` more
 abbrev pub size_of : ℕ → List ℕ → ℕ
 size_of beside text = length text + beside
 

@@ -18,7 +18,7 @@ pub record Split : Type 0 where
 abbrev pub split_of : List ℕ → Split
 split_of value = record { text = value; words = value_words value }
 
--- the code's value as such
+-- a value and its words, as the code holds them
 abbrev pub split_seen : Value → Split
 split_seen v = record { text = v.text.now; words = map string_bytes v.words.items }
 
