@@ -156,7 +156,7 @@ impl Waiting {
     }
 
     /// Puts bytes out for its client; with `is_last` none follow them. The gate is handed as many as it takes. A client
-    /// is given up if too many bytes wait for it then, or none while no more follow, and if its bytes find no memory.
+    /// is given up if too many bytes wait for it then, if none wait and none follow, and if its bytes find no memory.
     pub fn put<G: Gate>(&mut self, gate: &mut G, number: usize, bytes: Vec<u8>, is_last: bool)
         ensures hands { (events : List Event) × Hands number self.old bytes.items is_last events self.new
             × Logs (G.honest gate.old) (G.whole gate.new) (G.past gate.old) (G.past gate.new) events }

@@ -13,8 +13,8 @@ use um_model::{Fate, NextNumber, ProcessNumber, Signal};
 ///
 /// The clauses on the history stand under `honest`, and under `whole`, since children that keep their history may find
 /// no memory for a call. The others always stand. A call that isn't done answers `NoMemory` where a growth was refused,
-/// `TooLong` where no process can be started with this many words, and `Device` where the children failed. At `Device`,
-/// and only then, the count of failures rises by one, up to the last value of a `u64`.
+/// `TooLong` where no process can be started with words and an environment of that length, and `Device` where the
+/// children failed. At `Device`, and only then, the count of failures rises by one, up to the last value of a `u64`.
 pub trait Children {
     /// The calls, the oldest first.
     ghost past: { Self → List Call };
@@ -53,17 +53,17 @@ pub trait Children {
         ensures failures { CountsFault result (failures self.old) (failures self.new) }
         ensures honest { honest self.new ≡ honest self.old };
 
-    /// Drops the record of a number whose end is recorded, and which is not queried any more. Of one that hasn't ended
-    /// nothing is dropped, and a claim stays: a number that was reported absent never starts, now as before.
+    /// Forgets a number whose end is recorded, and which is not queried any more. One that hasn't ended isn't forgotten,
+    /// and a claim stays: a number that was reported absent never starts, now as before.
     fn forget(&mut self, number: ProcessNumber) -> Result<(), ChildFault>
         ensures past { IsTrue (honest self.old) → IsTrue (whole self.new) → Forgets number (past self.old) (past self.new) }
         ensures whole { KeepsWhole result (whole self.old) (whole self.new) }
         ensures failures { CountsFault result (failures self.old) (failures self.new) }
         ensures honest { honest self.new ≡ honest self.old };
 
-    /// Drops the record of each number that has ended and isn't among these, as a manager does that opens: those are
-    /// not queried any more. As with `forget` a claim stays. No number from `next` on was ever started: if there is a
-    /// record of one, it is another manager's, and nothing is dropped.
+    /// Forgets each number that has ended and isn't among these, as a manager does that opens: those are not queried any
+    /// more. As with `forget` a claim stays. No number from `next` on was ever started: if something is kept of one, it
+    /// is another manager's, and nothing is forgotten.
     fn forget_others(&mut self, live: &[ProcessNumber], next: NextNumber) -> Result<(), ChildFault>
         ensures past { IsTrue (honest self.old) → IsTrue (whole self.new) → ForgetsOthers live.now next (past self.old) (past self.new) }
         ensures whole { KeepsWhole result (whole self.old) (whole self.new) }

@@ -9,7 +9,7 @@ use std::process::Command;
 use um_keeper::SpawnOrder;
 use um_model::Signal;
 
-/// The words after the first become a command of its own, with no stream of the manager; nobody waits for it. Its
+/// The words after the first become a command of their own, with no stream of the manager; nobody waits for it. Its
 /// output is appended to the file of the first word, if that is a regular file that can be written, and else goes
 /// nowhere, so no pipe holds anybody up. The status shows a command that isn't there, or that nobody can execute. A
 /// path is looked at as it stands, since each `$(..)` is one process more.

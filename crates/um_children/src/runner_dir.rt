@@ -435,8 +435,8 @@ impl<'a, R: Files + Processes + Clock> RunnerDir<'a, R> {
         Ok(take_back(self.rt, self.alloc, self.folder.as_str(), number)?)
     }
 
-    /// Drops the files that this file of a number that isn't live allows to drop: all, if it is the status, and entries
-    /// that no runner has taken.
+    /// Drops the files of a number that isn't live, as far as this file of it allows: all, if it is the status, and
+    /// entries that no runner has taken.
     fn let_go(&mut self, number: ProcessNumber, file: RunnerFile) -> Result<(), ChildFault>
         ensures failures { CountsFault result self.old.failures self.new.failures }
     {

@@ -5,7 +5,7 @@ use um_ctl::CtlFault;
 use um_line::put_line;
 use um_memory::Fault;
 
-/// Puts a text on standard output, and returns the exit status.
+/// Puts a text on standard output, and returns the exit status. `Write` if that fails.
 pub fn put_text<R: Print>(rt: &R, text: &str) -> Result<u8, Fault> {
     match print!(rt; "{text}") {
         Ok(()) => Ok(0),

@@ -115,7 +115,8 @@ fn ask_and_wait<R: Net + Clock + Input + Eprint>(
     }
 }
 
-/// Runs `umd ctl`: sends the request to the manager at a socket, and waits if the line says so.
+/// Runs `umd ctl`: sends the request to the manager at a socket, waits if the line says so, and returns the exit status.
+/// A fault if standard output can't be written or memory is refused.
 pub fn ctl<R: Net + Clock + Input + Print + Eprint>(
     rt: &R,
     alloc: Global,

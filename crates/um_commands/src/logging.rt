@@ -108,7 +108,8 @@ fn refuses<R: Eprint>(rt: &R, alloc: Global, refusal: Refusal) -> u8 {
     status
 }
 
-/// Prints the output of a unit's processes; `variable` is the value of UMD_OUTPUT.
+/// Prints the output of a unit's processes, and returns the exit status; `variable` is the value of UMD_OUTPUT. A fault
+/// if standard output can't be written or memory is refused.
 pub fn logs<R: Files + Print + Eprint + Clock>(
     rt: &R,
     alloc: Global,

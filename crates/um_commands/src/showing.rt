@@ -197,7 +197,7 @@ fn lines_of(alloc: Global, findings: &[Finding]) -> Result<Vec<String>, ShowFaul
     Ok(lines)
 }
 
-/// The reasons why a unit with these findings isn't loaded.
+/// The reasons why a unit with these findings isn't loaded; if none of them stops it, that a reload is to come.
 fn told_of(alloc: Global, findings: &[Finding]) -> Result<Vec<String>, ShowFault> {
     if findings.iter().any(|finding| finding.stops) {
         lines_of(alloc, findings)
@@ -206,14 +206,14 @@ fn told_of(alloc: Global, findings: &[Finding]) -> Result<Vec<String>, ShowFault
     }
 }
 
-/// The reasons in these files of the unit of this name.
+/// The reasons why the unit of this name isn't loaded, by these files.
 fn reasons_in(alloc: Global, id: &str, files: &[Value]) -> Result<Vec<String>, ShowFault> {
     let given = files_given(alloc, files)?;
     let findings = verify_files(alloc, id, given.as_slice())?;
     told_of(alloc, findings.as_slice())
 }
 
-/// The reasons in the reply to `cat` for the unit of this name.
+/// The same by the files in the reply to `cat`.
 fn reasons_by(alloc: Global, id: &str, files: &Value) -> Result<Vec<String>, ShowFault> {
     match files.as_array() {
         Some(files) => reasons_in(alloc, id, files.as_slice()),
@@ -469,7 +469,8 @@ fn tell<R: Net + Clock + Input + Eprint>(
     }
 }
 
-/// Prints the status of units.
+/// Prints the status of units, and returns the exit status. A fault if standard output can't be written or memory is
+/// refused.
 pub fn show_units<R>(
     rt: &R,
     alloc: Global,

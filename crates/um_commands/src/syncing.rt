@@ -474,7 +474,8 @@ fn carry_out<R: Net + Clock + Input + Files + Print + Eprint>(
     take_steps(&mut syncing, steps.as_slice(), &tree)
 }
 
-/// Brings the files of a folder to the manager at a socket, or only prints the steps.
+/// Brings the files of a folder to the manager at a socket, or only prints the steps, and returns the exit status. A
+/// fault if standard output can't be written or memory is refused.
 pub fn sync<R: Net + Clock + Input + Files + Print + Eprint>(
     rt: &R,
     alloc: Global,

@@ -66,7 +66,8 @@ fn put_findings<R: Print>(rt: &R, alloc: Global, findings: &[Finding]) -> Result
     }
 }
 
-/// Verifies unit files, prints the findings, and returns the exit status.
+/// Verifies unit files, prints the findings, and returns the exit status. A fault if standard output can't be written or
+/// memory is refused.
 pub fn verify<R: Files + Print + Eprint>(
     rt: &R,
     alloc: Global,

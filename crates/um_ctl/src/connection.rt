@@ -72,6 +72,9 @@ fn cut_short() -> Fault {
 }
 
 /// Writes the frame of a request, and returns the text of the reply.
+///
+/// `Write` where the output fails; `Read` where the input can't be read, ends within the reply, or gives a length past the
+/// limit of a reply; `NoMemory` where memory is refused.
 pub fn exchange<R: Read, W: Write>(
     alloc: Global,
     output: &mut W,

@@ -20,7 +20,8 @@ pub enum FileText {
     NoText,
 }
 
-/// Reads the text of a file from an input to its end, or 65,537 bytes of it.
+/// Reads the text of a file from an input to its end, or 65,537 bytes of it. `Read` where the input can't be read,
+/// `NoMemory` where memory is refused.
 pub fn read_text<R: Read>(alloc: Global, input: &mut R) -> Result<FileText, Fault>
     ensures { IfOk result (IsFileText (R.remaining input.old) (R.remaining input.new)) }
 {

@@ -21,7 +21,7 @@ pub trait Keeps {
     /// Notes the fate of a process.
     fn note_fate(&self, number: ProcessNumber, fate: Fate);
 
-    /// Follows a turn that ended in this state.
+    /// Notes that a turn has left this state.
     fn settle(&self, state: &State);
 
     /// Looks after the output files of the processes that are live in this state, once a second.

@@ -164,7 +164,8 @@ fn open_disk<'a, R: Files<File = File> + Clock>(
     FileDisk::open(rt, path)
 }
 
-/// Opens the store's file to be read alone; where a manager has its lock it is tried again.
+/// Opens the store's file to be read alone; where a manager has its lock it is tried again. Refused as
+/// `FileDisk::open_read_only` is.
 pub fn open_read_only<'a, R: Files<File = File> + Clock>(
     rt: &'a R,
     path: &'a str,
@@ -299,8 +300,8 @@ where
     }
 }
 
-/// Warns if others than its owner may write the file at the path. A sticky bit is enough for a folder: nobody else
-/// may replace its files then.
+/// Warns if others than its owner may write the file or folder at the path. With `is_safe_if_sticky` it doesn't warn if
+/// the sticky bit is set: then nobody else may replace the files of a folder.
 fn tell_writable<R: Files, E: Eprint>(rt: &R, lines: &E, path: &str, is_safe_if_sticky: bool) {
     let Ok(found) = fs::metadata(rt, path) else {
         return;

@@ -436,9 +436,10 @@ where
     ended
 }
 
-/// Serves a store over a socket, until it fails; then says why on standard error, and returns the exit status: 1 for
-/// a refusal of the store or of memory, 5 for a failed file, socket or disk. As the first process, the manager first
-/// says what that means.
+/// Serves a store over a socket, until it fails; then says why on standard error, and returns the exit status. It is 1
+/// for a refusal of the store or of memory, and for a folder of another store; 2 for words: a unit to start whose name
+/// is none, or equal paths of two places; 5 for a failed file, socket or disk. As the first process, the manager says
+/// what that means before it takes its places.
 pub fn serve_store<R>(rt: &R, alloc: Global, line: &ServeLine<'_>, is_first: bool) -> u8
 where
     R: Files<File = File> + Net + Processes + Clock + Eprint,

@@ -20,9 +20,9 @@ use um_state::State;
 /// The processes seen since the last look.
 #[derive(Drop)]
 pub struct Tally {
-    /// How many fates were queried and how many processes started, in all.
+    /// The number of fates queried and of processes started, added up.
     live: Cell<u64>,
-    /// How many of these fates were `Absent`.
+    /// The number of these fates that were `Absent`.
     absent: Cell<u64>,
     /// The time of the last look; `None` if the system gave no time, and before the first look.
     looked: Cell<Option<Instant>>,
@@ -302,7 +302,7 @@ pub trait News {
     /// Sets the moment of everything that is noted from now on.
     fn begin(&self, moment: Moment);
 
-    /// Follows a turn that ended in this state.
+    /// Notes that a turn has left this state.
     fn settle(&self, state: &State);
 
     /// Looks after the output files of the processes that are live in this state.

@@ -11,7 +11,7 @@ const MOST: usize = 64;
 #[derive(Drop)]
 pub(crate) struct News {
     listener: UnixListener,
-    /// As many were closed as are at once: another one may wait, of which no event reports any more.
+    /// As many were closed as are at once: another one may wait that no event reports any more.
     has_more: bool,
     /// Why none could be closed at the last look, whether any waited or not.
     fault: Option<io::Error>,

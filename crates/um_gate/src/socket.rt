@@ -42,7 +42,7 @@ pub struct SocketGate {
     poll: Poll,
     events: Events,
     listener: UnixListener,
-    /// The last accept took a client: another one may wait, of which no event reports any more.
+    /// The last accept took a client: another one may wait that no event reports any more.
     has_accepted: bool,
     /// The socket at which the gate is woken; None before it was made.
     news: Option<News>,
@@ -120,7 +120,7 @@ impl SocketGate {
     /// removed again.
     ///
     /// `AddrInUse` and `AlreadyExists` as of `look_at_socket`, with the file there left as it is; another error where
-    /// the system refuses it, as for a path past 101 bytes, or where memory is.
+    /// the system refuses it, as for a path past 101 bytes, or where memory is refused.
     pub fn open<R: Files + Net>(rt: &R, alloc: Global, path: &str) -> io::Result<SocketGate> {
         let poll = Poll::new(rt)?;
         let events = Events::with_capacity(alloc, EVENTS)?;

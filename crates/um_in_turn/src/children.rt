@@ -20,7 +20,7 @@ const STARTS: Row = (0, Coming::Verb(UnitVerb::Start, "a.service"));
 
 const STOPS: Row = (0, Coming::Verb(UnitVerb::Stop, "a.service"));
 
-/// A doing of a run.
+/// One thing that a run does.
 #[derive(Clone, Copy)]
 pub enum Doing {
     /// A turn in which a request comes, and the row that it is.

@@ -109,7 +109,7 @@ fn output(manager: &mut InMemory, number: usize) -> Result<Output, Wrong> {
     }
 }
 
-/// Which of these replies was put out; None if the session has failed with a reply less.
+/// Which of these replies was put out; None if the session has failed without one.
 fn reply_among(alloc: Global, output: &Output, texts: &[&str]) -> Result<Option<usize>, Wrong> {
     if output.failed {
         if output.bytes.is_empty() {

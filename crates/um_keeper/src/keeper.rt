@@ -120,7 +120,7 @@ impl<D: Disk> Keeper<D> {
         self.engine.state()
     }
 
-    /// The reply to a query. It makes no call on the disk.
+    /// The reply to a query. It makes no call on the disk. Refused only for want of memory.
     pub fn query(&self, query: &Query) -> Result<Reply, AllocError>
         ensures { IfOk result (λ reply. model.IsReplyTo (state_in self.now) (query_of query.now) (reply_of reply)) }
     {

@@ -49,9 +49,9 @@ impl SpawnOrder {
         self.start.environment(alloc)
     }
 
-    /// Whether no process can be started with this many words: past two MiB (2,097,152 bytes) of words and environment
-    /// in all, or 128 KiB (131,072 bytes) in one, each with a zero byte at its end. No word is built. Refused only for
-    /// want of memory.
+    /// Whether no process can be started with the words and the environment, since they are too long: past two MiB
+    /// (2,097,152 bytes) in all, or 128 KiB (131,072 bytes) in one text, each with a zero byte at its end. Nothing is
+    /// put together. Refused only for want of memory.
     pub fn is_too_long(&self, alloc: Global) -> Result<bool, AllocError>
         ensures { IfOk result (λ told. told ≡ is_too_long self.now.words self.now.environment) }
     {

@@ -18,9 +18,9 @@ impl Log {
     /// Writes a record directly after those of the generation, without a sync. Returns whether it fits: if it doesn't,
     /// nothing is written.
     ///
-    /// The log goes on here, after records of which not all were synced. Each image that a crash leaves meanwhile holds
-    /// the synced ones and a beginning of the others with this one after them: a torn record ends the reading. Once it
-    /// is written, the log goes on after it. No sector but those of the record is written.
+    /// If the log goes on here, after records of which not all were synced, each image that a crash leaves meanwhile
+    /// holds the synced ones and a beginning of the others with this one after them: a torn record ends the reading.
+    /// Once it is written, the log goes on after it. No sector but those of the record is written.
     ///
     /// E16 where a disk call fails: it takes no memory. After it, and where the record doesn't fit, the log is as
     /// before, but after E16 its sectors may have been written. It makes at most as many disk calls as the record has

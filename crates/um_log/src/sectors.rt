@@ -40,7 +40,7 @@ pub fn log_sector(generation: u64, number: u64, part: u32, size: u32, payload: &
     fields.sector()
 }
 
-/// The bytes of a part of a record, of which `left` are still to come.
+/// The bytes of a part, if `left` bytes of its record remain from this part on.
 pub fn payload(sector: &Sector, left: u32) -> &[u8]
     ensures payload { result.now ≡ take (min 480 left) (drop 32 sector.now) }
     ensures long { length result.now ≡ min 480 left }
@@ -54,7 +54,7 @@ pub fn payload(sector: &Sector, left: u32) -> &[u8]
     }
 }
 
-/// Writes the sectors of a record in order, from sector `at` on.
+/// Writes the sectors of a record in order, from sector `at` on. A fault where a disk call fails.
 ///
 /// Each image that a crash leaves during it is one of before, with any of these sectors in their places.
 pub fn write_record<D: Disk>(
@@ -85,7 +85,8 @@ pub fn write_record<D: Disk>(
     Ok(())
 }
 
-/// Writes the sectors of a record in order, from sector `at` on, and syncs after them. It takes no memory.
+/// Writes the sectors of a record in order, from sector `at` on, and syncs after them. It takes no memory. A fault
+/// where a disk call fails.
 ///
 /// Each image that a crash leaves during it is one of before, with any of these sectors in their places; after Ok they
 /// all stand there.

@@ -33,7 +33,7 @@ use um_session::Session;
 use um_state::{BootId, Event, Happening, Input, Reply, State, Units};
 use um_wire::Refusal;
 
-/// The state of a manager from its opening on.
+/// The parts of a manager that its opening makes.
 #[derive(Drop)]
 pub struct Held {
     pub marks: Marks,

@@ -7,7 +7,7 @@ use crate::connection::{CONNECTIONS, Connection};
 use std::alloc::{AllocError, Global};
 use std::marker::Model;
 
-/// The news of a connection since the last turn.
+/// The piece of a connection: its bytes since the last turn, or its end.
 #[derive(Debug, Drop)]
 pub enum Piece {
     Nothing,

@@ -143,7 +143,8 @@ fn write_on<D: Disk>(keeper: &mut Keeper<D>, submitted: Result<(), Refusal>) -> 
     }
 }
 
-/// A turn: it hears the fates, takes the pieces, offers the inputs, carries out the actions, puts out the replies, and goes on with a snapshot.
+/// A turn: it hears the fates, takes the pieces, offers the inputs, carries out the actions, puts out the replies, and
+/// goes on with a snapshot. Refused as `Manager::turn` is.
 #[tactic(auto, using(crate::proofs::Turning::all_same))]
 pub fn turn<D: Disk, C: Children>(
     alloc: Global,

@@ -30,7 +30,7 @@ fn next_body<R: Read>(alloc: Global, input: &mut R, size: usize) -> Result<Piece
     Ok(Piece::Frame(body))
 }
 
-/// The next frame, or the end of the input.
+/// The next frame, or the end of the input. `Read` where the input can't be read, `NoMemory` where memory is refused.
 pub fn next_piece<R: Read>(alloc: Global, input: &mut R) -> Result<Piece, Fault>
     ensures { IfOk result (λ piece. Comes piece (R.remaining input.old) (R.remaining input.new)) }
 {

@@ -58,7 +58,7 @@ struct Manager {
     keeper: Keeper<MemDisk>,
     /// The actions since they were last requested.
     kept: Vec<Action>,
-    /// The count of the inputs since the store was renewed.
+    /// The inputs since the store was renewed, counted as for `RENEWAL`.
     taken: usize,
 }
 

@@ -50,7 +50,7 @@ fn open_store(alloc: Global, disk: MemDisk) -> Result<Keeper<MemDisk>, Fault>
     }
 }
 
-/// The keeper of a new store of the empty state, over a disk in memory.
+/// The keeper of a new store of the empty state, over a disk in memory. Its faults are those of `fault_of`.
 pub fn new_store(alloc: Global) -> Result<Keeper<MemDisk>, Fault>
     ensures state { IfOk result (λ k. state_in k ≡ empty_state) }
     ensures size { IfOk result (λ k. size_in k ≡ memory_size) }
@@ -65,7 +65,7 @@ pub fn new_store(alloc: Global) -> Result<Keeper<MemDisk>, Fault>
 }
 
 /// The keeper of the same store over its disk as it stands, which keeps nothing of the calls before. It is opened as
-/// after a crash, and so it is in the same state.
+/// after a crash, and so it is in the same state. Its faults are those of `fault_of`.
 pub fn renewed(alloc: Global, keeper: Keeper<MemDisk>) -> Result<Keeper<MemDisk>, Fault>
     requires working { has_failed keeper ≡ false }
     ensures state { IfOk result (λ k. state_in k ≡ state_in keeper) }

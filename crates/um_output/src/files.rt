@@ -16,10 +16,10 @@ use um_runner::number_in;
 /// A file's mode: only the owner reads and writes it.
 pub(crate) const MODE: u32 = 0o600;
 
-/// A folder's mode.
+/// A folder's mode: only the owner lists and enters it, and makes files in it.
 const FOLDER_MODE: u32 = 0o700;
 
-/// How often a draft is made again if another process has made one in the meantime.
+/// The number of attempts at a draft. Between two of them one that somebody else made in the meantime is removed.
 const TRIES: u32 = 8;
 
 /// The parts of a number's output, a file each.

@@ -169,7 +169,7 @@ fn live_in(state: &State) -> io::Result<Vec<ProcessNumber>> {
 }
 
 /// Moves the file of a live process into the folder of its unit. A new folder also gets the file of its ends now: a
-/// new file takes the disk some time, and clients wait for an end but not for a start.
+/// new file takes the disk some time, and an end is waited for, but a start that was ordered isn't.
 fn place_in<R: Files>(
     rt: &R,
     alloc: Global,

@@ -78,7 +78,8 @@ pub fn read_beginning<R: Files>(rt: &R, path: &str) -> io::Result<Option<Beginni
     Ok(Some(Beginning { bytes, size }))
 }
 
-/// Reads the beginning of a file of the folder; None where it isn't there.
+/// Reads the beginning of a file of the folder; None where it isn't there. `NoMemory` if memory is wanting, `System` if
+/// the system refuses the file.
 pub fn read_file<R: Files>(
     rt: &R,
     alloc: Global,
@@ -90,7 +91,7 @@ pub fn read_file<R: Files>(
     Ok(read_beginning(rt, path.as_str())?)
 }
 
-/// The number of attempts at a draft, each after the removal of one that somebody else made in the meantime.
+/// The number of attempts at a draft. Between two of them one that somebody else made in the meantime is removed.
 const TRIES: u32 = 8;
 
 /// A draft holds nothing that isn't shown to anyone who may look into the folder.
@@ -147,7 +148,8 @@ fn fill_room<F: Write + Seek + OpenFile>(draft: &mut F, text: &str) -> io::Resul
     draft.set_len(text.len() as u64)
 }
 
-/// Gives a file its text, whole: by the draft that is open and has room for it, which is renamed. Where it fails, the file is as it was.
+/// Gives a file its text, whole: by the draft that is open and has room for it, which is renamed. `NoMemory` if memory
+/// is wanting, `System` if the folder refuses it; in both cases the file is as it was.
 pub fn replace_by<R: Files>(
     rt: &R,
     alloc: Global,
@@ -165,7 +167,8 @@ pub fn replace_by<R: Files>(
     Ok(fs::rename(rt, draft.as_str(), path.as_str())?)
 }
 
-/// Gives a file its text, whole: by its draft, which is renamed. Where it fails, the file is as it was.
+/// Gives a file its text, whole: by its draft, which is renamed. `NoMemory` if memory is wanting, `System` if the folder
+/// or its disk refuses it; in both cases the file is as it was.
 pub fn replace_file<R: Files>(
     rt: &R,
     alloc: Global,
@@ -192,7 +195,8 @@ pub enum Creation {
     DraftTaken,
 }
 
-/// Makes a file with its text, whole, where none stands there: by its draft, to which the file is linked.
+/// Makes a file with its text, whole, where none stands there: by its draft, to which the file is linked. `NoMemory` if
+/// memory is wanting, `System` if the folder or its disk refuses it.
 pub fn create_file<R: Files>(
     rt: &R,
     alloc: Global,

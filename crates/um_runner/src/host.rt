@@ -30,7 +30,7 @@ pub trait Host {
         ensures past { IsTrue (honest self.old) → past self.new ≡ past self.old ++ Starts (words_of job.now) (entries_of job.now) result ∷ [] }
         ensures honest { honest self.new ≡ honest self.old };
 
-    /// Writes the pid file, whole or not at all.
+    /// Writes the pid file, whole or not at all. An error where the folder refuses it.
     fn write_pid(&mut self, pid: u32) -> Result<(), FolderFault>
         ensures past { IsTrue (honest self.old) → past self.new ≡ past self.old ++ Writes files.Pid (pid_text pid) (is_ok result) ∷ [] }
         ensures honest { honest self.new ≡ honest self.old };
@@ -40,7 +40,7 @@ pub trait Host {
         ensures past { IsTrue (honest self.old) → past self.new ≡ past self.old ++ Waits result ∷ [] }
         ensures honest { honest self.new ≡ honest self.old };
 
-    /// Writes the status file, whole or not at all.
+    /// Writes the status file, whole or not at all. An error where the folder refuses it.
     fn write_status(&mut self, end: End) -> Result<(), FolderFault>
         ensures past { IsTrue (honest self.old) → past self.new ≡ past self.old ++ Writes files.Status (status_text end) (is_ok result) ∷ [] }
         ensures honest { honest self.new ≡ honest self.old };

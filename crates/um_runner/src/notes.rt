@@ -51,7 +51,7 @@ fn standing_in<R: Files>(
     Ok(Claiming::Stands(standing))
 }
 
-/// The number of attempts at a claim whose draft another claimant of the same number has removed at the same time.
+/// The number of attempts at a claim. The next one is made if another claimant of the number has removed its draft.
 const TRIES: u32 = 64;
 
 /// Claims the number for this one. A claim that stands there is left as it was, and read.

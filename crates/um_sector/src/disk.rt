@@ -55,7 +55,8 @@ pub trait Disk {
         ensures size { size self.new ≡ size self.old }
         ensures honest { honest self.new ≡ honest self.old };
 
-    /// Waits until the disk holds all that was written.
+    /// Waits until the disk holds all that was written. After a fault a crash may
+    /// still lose any of the writes since the last sync.
     fn sync(&mut self) -> Result<(), Fault>
         ensures past { IsTrue (honest self.old) → Synced result (past self.old) (past self.new) }
         ensures calls { calls self.new ≡ one_more (calls self.old) }

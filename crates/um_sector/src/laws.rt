@@ -30,7 +30,7 @@ pub fn each_image_is_picked()
         → (picks : List ℕ) × ((k : ℕ) → k < sectors → picked past picks k ≡ image k) }
 {}
 
-/// A fact of each image during either of two consecutive runs of calls holds of each image during both together.
+/// A fact that holds of each image during each of two consecutive runs of calls holds of each during both together.
 pub fn runs_of_calls_join()
     ensures { (old mid new : Past) (p : Image → Bool) → During old mid (λ image. IsTrue (p image)) → During mid new (λ image. IsTrue (p image))
         → During old new (λ image. IsTrue (p image)) }

@@ -15,6 +15,7 @@ pub enum Noted {
 impl Noted {
     ghost use Rattle.um_sector.specs.Noted.{call_of};
 
+    /// Whether the call was a sync; else it was a write.
     pub fn is_sync(&self) -> bool
         ensures { result ≡ syncs.is_sync (call_of self.now) }
     {

@@ -9,7 +9,7 @@ use crate::disk::{Disk, Sector};
 use crate::fault::Fault;
 use um_model::SECTOR_BYTES;
 
-/// Writes the sectors of a run in order, from sector `at` on.
+/// Writes the sectors of a run in order, from sector `at` on. A fault where a disk call fails.
 ///
 /// Each image that a crash leaves during it is one of before, with any of the run's sectors in their places.
 pub fn write_run<D: Disk>(disk: &mut D, at: usize, run: &[Sector]) -> Result<(), Fault>
@@ -29,7 +29,7 @@ pub fn write_run<D: Disk>(disk: &mut D, at: usize, run: &[Sector]) -> Result<(),
     Ok(())
 }
 
-/// Writes the sectors of a run in order, from sector `at` on, and syncs after them.
+/// Writes the sectors of a run in order, from sector `at` on, and syncs after them. A fault where a disk call fails.
 ///
 /// On a settled disk each image that a crash leaves during it has each sector of the run's place old or new and all
 /// others as before, and after Ok only the new ones: the disk is settled again.
@@ -49,7 +49,7 @@ pub fn write_run_synced<D: Disk>(disk: &mut D, at: usize, run: &[Sector]) -> Res
     disk.sync()
 }
 
-/// Writes `count` sectors of zeros, from sector `at` on.
+/// Writes `count` sectors of zeros, from sector `at` on. A fault where a disk call fails.
 ///
 /// Each image that a crash leaves during it is one of before, with any of these sectors zero.
 pub fn write_blank<D: Disk>(disk: &mut D, at: usize, count: usize) -> Result<(), Fault>

@@ -51,7 +51,7 @@ pub fn what_a_client_reads_was_told()
         (rounds : AreRounds trust place rs result x y past all) → IsTakenBy k took x past → IsTakenBy k (took_in_rounds k took rounds) y all }
 {}
 
-/// The record of a client's bytes goes on over any calls, whatever they answer. So the law above holds after each of
+/// The bytes of a client can be followed over any calls, whatever they answer. So the law above holds after each of
 /// them, or, if a read was lost, before the round that lost it. That one hands out nothing.
 pub fn any_calls_go_on_with_a_client()
     ensures { (trust : Trust) (place : Place) (rs : List Round) (result : Result Unit Refusal) (k : ℕ) (x y : Served) → IsFollowed k x

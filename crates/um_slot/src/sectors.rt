@@ -19,7 +19,7 @@ fn sector_of(bytes: &[u8]) -> Sector
 }
 
 /// Writes `count` sectors of a body, from sector `from` of it on, in order from sector `at` of the disk on. It takes no
-/// memory.
+/// memory. A fault where a disk call fails.
 ///
 /// Each image that a crash leaves during it is one of before, with any of these sectors in their places; after Ok a
 /// read gives them.

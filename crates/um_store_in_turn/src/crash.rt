@@ -116,7 +116,7 @@ pub struct Crashes<'a> {
     images: u64,
 }
 
-/// The next combination of picks, by the number of picks of each sector; the first one after the last.
+/// The next combination of picks, by the number of picks of each sector; after the last one the first.
 pub fn turn(picks: &mut [usize], unsynced: &[(usize, usize)]) {
     for (pick, (_, count)) in picks.iter_mut().zip(unsynced) {
         if pick.saturating_add(1) < *count {

@@ -118,7 +118,7 @@ fn is_renewed(back: u64, is_made: bool, pick: usize) -> bool {
     }
 }
 
-/// Asserts which state a crash leaves at that call, with the write that wasn't synced or without it: the same.
+/// Asserts that a crash at that call leaves the same state, with the write that wasn't synced and without it.
 fn crashes_at(
     rt: &(impl AllocGlobal + Abort),
     generation: u8,

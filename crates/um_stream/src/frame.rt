@@ -11,7 +11,7 @@ use std::io::Write;
 /// The length of a frame stands in this many bytes in front of it.
 pub const HEADER: usize = 4;
 
-/// Writes a frame. Where it fails, a beginning of it was written.
+/// Writes a frame, and flushes. `Write` where the output fails: then a beginning of the frame was written.
 pub fn put_frame<W: Write>(output: &mut W, text: &[u8]) -> Result<(), Fault>
     requires { length text.now < 2 ^ 32 }
     ensures ok { OnOk result (Appends (W.contents output.old) (W.contents output.new) (frame_of text.now)) }

@@ -35,7 +35,8 @@ fn read_part<R: Read>(alloc: Global, input: &mut R, limit: usize) -> Result<Vec<
     Err(Fault::Read(io::Error::from(ErrorKind::Interrupted)))
 }
 
-/// The next `size` bytes of the input, or fewer if it ends before.
+/// The next `size` bytes of the input, or fewer if it ends before. `Read` where the input can't be read, `NoMemory` where
+/// memory is refused.
 pub fn read_up_to<R: Read>(alloc: Global, input: &mut R, size: usize) -> Result<Vec<u8>, Fault>
     ensures bytes { IfOk result (λ got. Consumes (R.remaining input.old) (R.remaining input.new) got.items) }
     ensures bound { IfOk result (λ got. length got.items ≤ size) }

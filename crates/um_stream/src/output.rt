@@ -6,7 +6,7 @@ use crate::fault::Fault;
 use std::io;
 use std::io::{ErrorKind, Write};
 
-/// Writes the bytes. Where it fails, a beginning of them was written.
+/// Writes the bytes. `Write` where the output fails: then a beginning of them was written.
 pub fn put<W: Write>(output: &mut W, bytes: &[u8]) -> Result<(), Fault>
     ensures ok { OnOk result (Appends (W.contents output.old) (W.contents output.new) bytes.now) }
     ensures front { (front more : List ℕ) × (bytes.now ≡ front ++ more) × Appends (W.contents output.old) (W.contents output.new) front }
@@ -29,7 +29,7 @@ pub fn put<W: Write>(output: &mut W, bytes: &[u8]) -> Result<(), Fault>
     Err(Fault::Write(io::Error::from(ErrorKind::Interrupted)))
 }
 
-/// Hands on the bytes written.
+/// Hands on the bytes written. `Write` where the output fails.
 pub fn flush<W: Write>(output: &mut W) -> Result<(), Fault>
     ensures same { Appends (W.contents output.old) (W.contents output.new) [] }
 {

@@ -359,7 +359,7 @@ fn read_path<R: Files>(rt: &R, collected: &mut Collected, path: &str) -> Result<
 /// Reads folders and files into a tree. A folder is read by its folders `etc`, `run` and `lib`, or as `lib` if it has
 /// none of them, with links as links; a file is read as one of `lib`. Anything without a served path, or that can't
 /// be a file of a unit, is reported and skipped. `Twice` if two files would be at one path of the tree, `Read` if
-/// something can't be read.
+/// something can't be read, `Refused` if there are more files than a tree may have, `NoMemory` if an allocation failed.
 pub fn collect<R: Files>(rt: &R, alloc: Global, paths: &[&str]) -> Result<Collected, VerifyFault> {
     let mut collected = Collected::new(alloc);
     for path in paths {
@@ -384,7 +384,7 @@ fn read_own_layer<R: Files>(
 }
 
 /// Reads the folders `etc`, `run` and `lib` of a folder into a tree, as `collect` does, and nothing else of it.
-/// Anything that can't be put at its place in a tree is also a misfit.
+/// Anything that can't be put at its place in a tree is also a misfit. Refused as `collect` is.
 pub fn collect_layers<R: Files>(
     rt: &R,
     alloc: Global,

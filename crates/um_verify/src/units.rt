@@ -106,6 +106,7 @@ fn in_order(findings: Vec<Finding>) -> Result<Vec<Finding>, AllocError>
 }
 
 /// The findings about files that were read, by path and line; those about a whole file follow those about its lines.
+/// Only a failed allocation is an error: `NoMemory`.
 pub fn verify(collected: Collected) -> Result<Vec<Finding>, VerifyFault> {
     let Collected {
         alloc,

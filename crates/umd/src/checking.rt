@@ -142,7 +142,8 @@ fn tell<R: Print + Eprint>(
     }
 }
 
-/// Reports on a store. Nothing is written.
+/// Reports on a store, and returns the exit status; nothing is written to the store. A fault if standard output can't be
+/// written.
 pub fn check<R>(rt: &R, alloc: Global, line: &CheckLine<'_>) -> Result<u8, Fault>
 where
     R: Files<File = File> + Print + Eprint + Clock,
