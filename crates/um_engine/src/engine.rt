@@ -84,8 +84,8 @@ impl Next {
         }
     }
 
-    /// Whether the step changes anything. Four steps don't, and need no record: the end of a process that isn't live, a report for which no
-    /// unit waits, a tick at which nothing happens, and a boot with the known id.
+    /// Whether the step has an effect. The end of a process that isn't live, a report for which no unit waits, a tick at which nothing
+    /// happens, and a boot with the known id have none, and need no record.
     pub fn has_effect(&self) -> bool
         ensures { result ≡ has_effect_in self.now }
     {
