@@ -54,7 +54,7 @@ pub(crate) fn list_units(alloc: Global, state: &State) -> Result<Reply, AllocErr
     Ok(Reply::Listed(units))
 }
 
-/// The same reply, by the graph of just these units: no file is read.
+/// The reply to `list-units`, by the graph of just the units that are listed: no file is read.
 pub fn list_known(alloc: Global, state: &State, graph: &Graph) -> Result<Reply, AllocError>
     ensures { IsGraphOf (state_of state.now).loaded (model.IsHeld (state_of state.now)) graph.now
         → IfOk result (λ reply. model.IsReplyTo (state_of state.now) model.ListUnits (reply_of reply)) }

@@ -16,13 +16,14 @@ use um_graph::known_units;
 use um_name::Names;
 use um_state::{Delta, Numbered, State, Work};
 
-/// Which of a command's trees are new, without a look into them.
+/// What is clear, without a look into them, about the trees that a command leaves.
 #[derive(Clone, Copy)]
 pub enum Trees {
     /// Neither tree has changed, nor has the boot's id.
     Stay,
     /// The tree in hand has changed.
     Differ,
+    /// Nothing.
     Untold,
 }
 

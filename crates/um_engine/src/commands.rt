@@ -143,7 +143,7 @@ fn without_path(state: &State, path: &str) -> Result<State, Refusal>
 pub enum Outcome<'s> {
     /// Units and pending jobs alone change, and the reply is Done.
     Rows(Work<'s>),
-    /// A tree or the `Known` is a new one; with a note which trees are.
+    /// A tree or the `Known` is a new one. `Trees` says which trees differ, as far as that is clear.
     Tables(Served, Reply, Trees),
 }
 
@@ -155,7 +155,7 @@ fn kept(served: &Served, state: State) -> Result<Served, AllocError>
     Served::numbered(state, served.share_known()?)
 }
 
-/// The outcome of a file with the text at the path: no rows if it stands there already. No other text is read.
+/// The outcome of putting a file with the text at the path: nothing changes if it stands there already. No other text is read.
 fn filed<'s>(
     alloc: Global,
     served: &'s Served,
@@ -177,7 +177,7 @@ fn filed<'s>(
     Ok(Outcome::Tables(kept(served, changed)?, Reply::Done, Trees::Differ))
 }
 
-/// The outcome of a link to the target at the path: no rows if it stands there already.
+/// The outcome of putting a link to the target at the path: nothing changes if it stands there already.
 fn linked<'s>(
     alloc: Global,
     served: &'s Served,

@@ -34,7 +34,7 @@ use um_model::{Moment, Profile};
 use um_state::{Action, Command, Delta, Event, Input, Query, Reply, State};
 use um_wire::Refusal;
 
-/// The manager's state, its `Known`, and the size of its store.
+/// The manager's state with the graph of its loaded tree, and the size of its store.
 pub struct Engine {
     alloc: Global,
     served: Served,
@@ -58,7 +58,7 @@ pub(crate) enum Change {
     Nothing,
     /// The rows of some units, the moment and the next process number; trees and numbers stay.
     Rows(Delta),
-    /// All: the state and its `Known`; and the number of units whose held state differs, if neither a tree, the boot's id nor the known
+    /// All: the state and its `Known`; and the number of units whose held state differs, or None if a tree, the boot's id or the known
     /// units differ.
     Tables(Served, Option<usize>),
 }
@@ -84,8 +84,8 @@ impl Next {
         }
     }
 
-    /// Whether the step changes anything. Four steps don't, and need no record: the end of a process that isn't live, a report for which no
-    /// unit waits, a tick at which nothing happens, and a boot with the known id.
+    /// Whether the step has an effect. The end of a process that isn't live, a report for which no unit waits, a tick at which nothing
+    /// happens, and a boot with the known id have none, and need no record.
     pub fn has_effect(&self) -> bool
         ensures { result ≡ has_effect_in self.now }
     {

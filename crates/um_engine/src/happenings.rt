@@ -192,7 +192,7 @@ fn after_tick(
     Ok((change, actions))
 }
 
-/// Want of memory, as the one cause for which a happening is refused.
+/// The error for a refusal that can only be want of memory.
 fn want_of_memory(refusal: Refusal) -> AllocError
     requires { ¬ ¬ (refusal ≡ NoMemory) }
 {

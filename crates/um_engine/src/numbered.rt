@@ -1,4 +1,4 @@
-//! The pending jobs of a state by the numbers of a graph's units, with a mark at those that count as deactivating.
+//! The pending jobs of a state by the numbers of a graph's units, with a mark at the units that count as deactivating.
 
 ghost use Rattle.std.specs.Prelude.{◌≡◌, ℕ, List, Contains, IfOk, MatchOption, length};
 ghost use Rattle.um_engine.specs.Filled.{Tells, is_deactivating, is_held_back, told_of};

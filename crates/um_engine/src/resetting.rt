@@ -55,7 +55,8 @@ pub fn asked_unit(alloc: Global, served: &Served, asked: &UnitName) -> Result<Un
     Ok(unit)
 }
 
-/// The units whose failures are forgotten: the requested one, or all whose standing is held.
+/// The units whose failures are forgotten: the requested one, or all whose unit states are held. Refused if the requested one is neither
+/// found nor held (E7).
 fn units_reset(
     alloc: Global,
     served: &Served,
@@ -74,7 +75,7 @@ fn units_reset(
     }
 }
 
-/// The work after the failure of the unit, or of all units, was forgotten.
+/// The work after the failure of the requested unit, or of all units, was forgotten. Refused as `units_reset` is.
 pub fn without_failures<'s>(
     alloc: Global,
     served: &'s Served,

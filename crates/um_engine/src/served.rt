@@ -178,8 +178,8 @@ impl Served {
         self.known().fits(self.state(), None)
     }
 
-    /// The same state with a `Known` of just its units, made again if it isn't. If too many units would be known, it stays as it is; no
-    /// step leads there.
+    /// The same state with a `Known` of just its units, which is made again unless the present one is that. If too many units would be
+    /// known, the present one stays; no step leads there.
     pub fn exactly(self, alloc: Global) -> Result<Served, AllocError>
         ensures state { IfOk result (λ s. s.state ≡ self.state) }
         ensures exact { IfOk result IsExactIfFew }

@@ -62,8 +62,8 @@ fn change(work: &mut Work<'_>, unit: usize, event: UnitEvent) -> Result<bool, Al
     Ok(fails_start(asked.start, jobs.start))
 }
 
-/// Carries out an event of the unit with this number at the moment, for that unit by itself; the actions on its processes follow the other
-/// actions. If its start fails, that takes along the starts that need it. Returns whether it failed: if not, the other units are unchanged.
+/// Carries out an event of the unit with this number at the moment, for that unit by itself; the actions on its processes follow those so
+/// far. If its start fails, that takes along the starts that need it. Returns whether it failed: if not, the other units are unchanged.
 /// If memory is refused, the work is of no use.
 pub fn carry(work: &mut Work<'_>, unit: usize, event: UnitEvent) -> Result<bool, AllocError>
     ensures carries { OnOk result ((name : List ℕ) → IsNumberOf work.old.graph unit name

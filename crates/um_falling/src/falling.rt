@@ -153,8 +153,8 @@ fn fall_all(work: &mut Work<'_>, list: &mut VecDeque<usize>) -> Result<(), Alloc
     Ok(())
 }
 
-/// Carries out an event of the unit with this number at the moment, with all units that fall with it; the actions follow the other actions;
-/// past the last unit nothing happens. Returns whether other units may have changed too. If memory is refused, the work is of no use.
+/// Carries out an event of the unit with this number at the moment, with all units that fall with it. Its actions follow those so far. Past
+/// the last unit nothing happens. Returns whether other units may have changed too. If memory is refused, the work is of no use.
 pub fn happen(work: &mut Work<'_>, unit: usize, event: UnitEvent) -> Result<bool, AllocError>
     ensures happens { OnOk result ((name : List ℕ) → IsNumberOf work.old.graph unit name
         → Goes (model.Happens work.old.moment name event (state_of work.old.now)) work.old work.new) }

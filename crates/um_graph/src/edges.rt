@@ -23,7 +23,7 @@ fn number_of(names: &Names, name: &UnitName) -> Option<usize>
     names.number(name)
 }
 
-/// The relation by numbers; None if it is one of a unit with itself.
+/// The relation by numbers; None if it is one of a unit with itself, or one of its names isn't among these.
 fn edge_of(names: &Names, told: &Told) -> Option<Edge>
     ensures edge { option_to_list result ≡ edge_seen names.now told.now }
     ensures within { IfSome result (λ e. (e.from < length names.now) × (e.to < length names.now)) }

@@ -12,8 +12,8 @@ use um_name::UnitName;
 use um_unit::Reading;
 use um_wire::Refusal;
 
-/// Enables the unit (systemctl(1), "enable"): makes the links in `etc/` that the [Install] sections of the unit, of those in its Also=, and
-/// so on request. It is refused for the first cause that applies:
+/// Enables the unit (systemctl(1), "enable"): makes the links in `etc/` that [Install] sections request: that of the unit, those of the
+/// units in its Also=, and so on. It is refused for the first cause that applies:
 /// - the least path that isn't served or at which its link may not stand (E12);
 /// - the least path that has another entry or for which another link is requested (E11);
 /// - more new paths than there is room for (E13 `entries`);

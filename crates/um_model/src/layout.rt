@@ -156,14 +156,14 @@ impl Layout {
         self.area_start(CURRENT, generation)
     }
 
-    /// The first sector past them.
+    /// The first sector past the place of a generation's records in the format in which stores are written.
     pub fn log_end(self, generation: u64) -> usize
         ensures { result ≡ log_end self generation }
     {
         self.area_end(CURRENT, generation)
     }
 
-    /// The longest record of a generation in that format, in bytes.
+    /// The longest record of a generation in the format in which stores are written, in bytes.
     pub fn record_limit(self, _generation: u64) -> usize
         ensures { result ≡ record_limit self _generation }
     {

@@ -78,7 +78,7 @@ pub fn is_unit_name(text: &str) -> bool
 }
 
 impl UnitName {
-    /// The name of the text. A text that is no unit name is refused by `BadName`, with the text as it was sent.
+    /// The unit name with this text. A text that is no unit name is refused by `BadName` (E3), with the text as it was sent.
     pub fn parse(alloc: Global, text: &str) -> Result<UnitName, Refusal>
         ensures ok { IfOk result (λ name. (name ≡ text.now) × (names.is_unit_name text.now ≡ true)) }
         ensures err { IfErr result (λ e. ¬ (e ≡ NoMemory)
@@ -90,7 +90,7 @@ impl UnitName {
         }
     }
 
-    /// The name of the text, if it is a unit name.
+    /// The unit name with this text; `None` if it is no unit name.
     pub fn named(alloc: Global, text: &str) -> Result<Option<UnitName>, AllocError>
         ensures { IfOk result (λ name. name ≡ names.named text.now) }
     {

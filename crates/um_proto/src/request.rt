@@ -3,7 +3,7 @@
 use um_model::Moment;
 use um_state::{Event, Query};
 
-/// The kinds of a request.
+/// The content of a request.
 #[derive(Drop)]
 pub enum Asked {
     /// An event for the manager.

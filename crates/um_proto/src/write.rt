@@ -219,7 +219,7 @@ fn units_value(alloc: Global, units: &[UnitListed]) -> Result<Value, AllocError>
     Ok(Value::Array(list))
 }
 
-/// A pending job: its unit, its action, and its progress.
+/// A pending job: its unit, its kind, and how far it is.
 fn job_value(alloc: Global, job: &JobShown) -> Result<Value, AllocError>
     ensures { IfOk result (λ v. view v ≡ written.job_data (job_of job.now)) }
 {

@@ -92,7 +92,7 @@ fn spawn(
     only(alloc, Action::Spawn { number, start })
 }
 
-/// The actions of the order, in their order.
+/// The actions that carry out the order, one after another.
 pub fn actions_of(
     alloc: Global,
     settings: &Rc<ServiceSettings>,

@@ -61,7 +61,8 @@ fn is_clean_alone(kind: UnitKind, sub: SubState, end: End) -> bool
     }
 }
 
-/// Whether the command of the main process is written with `-`. For a oneshot in one of these states it is the command at the unit's index.
+/// Whether the command of the main process is written with `-`. For a oneshot in start, stop-sigterm or stop-sigkill that is the command at
+/// the unit's index; in another state it has none.
 fn main_has_dash(settings: &ServiceSettings, unit: &UnitState) -> bool
     ensures { result ≡ main_has_dash settings.now.kind unit.now.sub (service_settings_of settings.now) unit.now }
 {

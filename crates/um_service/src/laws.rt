@@ -12,8 +12,9 @@ ghost use Rattle.um_model.specs.declared.transition.Order.{Order};
 ghost use Rattle.um_model.specs.declared.transition.UnitEvent.{UnitEvent};
 ghost use Rattle.um_service.specs.Started.{started_words};
 
-/// After any event, a unit that had its live process has one. A unit that starts or runs has its main process, and one that its
-/// `ExecStop=` commands stop has a control process. One whose processes were sent a signal to end has one of them.
+/// After any event, a unit that had its live process has one. A unit that starts or runs has its main process. One that its
+/// `ExecStartPre=` commands prepare or its `ExecStop=` commands stop has a control process. One whose processes were sent a signal to end
+/// has one of them.
 pub fn a_process_is_kept()
     ensures { (s : ServiceSettings) (around : Around) (unit : UnitState) (event : UnitEvent) → HasItsProcess unit → HasItsProcess (transition s around unit event).unit }
 {}

@@ -136,7 +136,7 @@ fn run_meets(settings: &ServiceSettings, around: Around, unit: UnitState, end: E
     }
 }
 
-/// An `ExecStop=` command ended: well, so that the next one is started, or so that the unit's processes are sent a signal to end.
+/// An `ExecStop=` command ended: if it ended well, the next one is started; otherwise the unit's processes are sent a signal to end.
 fn stop_meets(settings: &ServiceSettings, around: Around, unit: UnitState, end: End) -> Change
     ensures { result ≡ row (service_settings_of settings.now) around unit Deactivating Stop (ControlEnds end) }
 {

@@ -60,7 +60,7 @@ impl Awaited {
         }
     }
 
-    /// Lets go of the number that a unit waited for, unless one still waits for it. It takes no memory.
+    /// Lets go of the number that a unit waited for, unless a unit still waits for it. It takes no memory.
     pub(crate) fn leave(&mut self, finder: &Finder, rows: &[UnitState], before: &UnitState)
         requires finds { Finds rows.now finder.now }
         requires all { HasAll rows.now self.old }

@@ -48,7 +48,7 @@ pub enum Command {
     },
 }
 
-/// An event that happens to the manager, and is never refused.
+/// Something that happens to the manager, and is never refused.
 #[derive(Debug, Drop)]
 pub enum Happening {
     /// The process of this number ended. If no live process has the number, this has no effect and is no error.

@@ -68,7 +68,7 @@ pub fn each_state_of_a_run_has_a_spelling()
         → AllByRecursion FitInput inputs → Run size s inputs t → FitState t }
 {}
 
-/// The spelling of such a state of a run has at most as many bytes as the state weighs.
+/// The spelling of each state of such a run has at most as many bytes as the state weighs.
 pub fn no_spelling_of_a_run_is_longer_than_the_weight()
     ensures { (size : ℕ) (s : model.State) (inputs : List model.Input) (t : model.State) (units : ℕ) → IsBlank s → FitState s
         → AllByRecursion FitInput inputs → Run size s inputs t → CountsFor t.loaded (IsHeld t) units

@@ -37,7 +37,7 @@ pub fn trim(text: &str) -> &str
     trim_end(trim_start(text))
 }
 
-/// Whether the text has only spaces and tabs; an empty one has.
+/// Whether the text has no characters but spaces and tabs. An empty text is blank.
 pub fn is_blank(text: &str) -> bool
     ensures { result ≡ is_blank text.now }
 {

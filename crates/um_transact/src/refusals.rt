@@ -20,8 +20,8 @@ fn check_found(alloc: Global, asked: &UnitName, found: &LoadedUnit) -> Result<()
     Ok(())
 }
 
-/// Refuses to start a unit that isn't found (E4), is masked (E5), has a refused setting or is a template (E6); or lacks memory for the
-/// refusal's texts (E15). The unit is the one that the name leads to.
+/// Refuses to start a unit that isn't found (E4), is masked (E5), has a refused setting or is a template (E6). Want of memory for the
+/// refusal's texts is E15. The unit is the one that the name leads to.
 pub fn check_start(alloc: Global, asked: &UnitName, loading: &Loading) -> Result<(), Refusal>
     ensures { RefusesBy (machine.CannotStart asked.now (loading_of loading.now)) result }
 {

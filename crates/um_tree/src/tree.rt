@@ -93,7 +93,7 @@ impl Tree {
     }
 
     /// The entries in a folder with their paths, in ascending order of the paths by bytes: those whose path begins
-    /// with the folder's and a slash. No other entry is looked at.
+    /// with the folder's and a slash. It doesn't go over the other entries.
     pub fn entries_in(&self, folder: &str) -> Result<Entries<'_>, AllocError>
         ensures entries { IfOk result (λ found. found ≡ entries_in folder.now self.now) }
 

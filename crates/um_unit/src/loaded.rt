@@ -1,4 +1,4 @@
-//! A loaded unit, and the outcomes of looking for one.
+//! A loaded unit, and the outcomes of looking one up.
 
 use crate::settings::Settings;
 use crate::warnings::FileWarnings;

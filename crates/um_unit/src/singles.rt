@@ -18,7 +18,7 @@ use um_value::{boolean, number, restart, span};
 
 /// How the values of one kind of setting are read.
 pub trait Reader {
-    /// The result of a value.
+    /// The result of reading a value.
     type Said: Drop;
 
     /// The kind of its values.
@@ -27,7 +27,7 @@ pub trait Reader {
     /// The unit under whose name a value is read.
     ghost unit: { Self → List ℕ };
 
-    /// The result of a value, independent of its place in memory.
+    /// That result, independent of its place in memory.
     ghost seen: { Self.Said → model.Said kind };
 
     /// Reads a value; None if it can't be read.
@@ -35,7 +35,7 @@ pub trait Reader {
         ensures { IfOk result (λ said. option_to_list (option_map seen said) ≡ filter_map result_ok (model.value_readings (unit self.now) kind value.now)) };
 }
 
-/// The result of the last value of the keys that can be read, or else the default.
+/// The result of reading the last value of the keys that can be read, or else the default.
 pub fn last_read<R: Reader>(
     alloc: Global,
     reader: &R,
@@ -158,7 +158,7 @@ impl Reader for Delay {
     }
 }
 
-/// The result of a value of `DefaultInstance=`: an empty one restores the default.
+/// The result of reading a value of `DefaultInstance=`: an empty one restores the default.
 pub(crate) fn default_instance_in(value: &str) -> Option<Option<&str>>
     ensures { option_map option_copied result ≡ model.default_instance_in value.now }
 {
@@ -169,7 +169,7 @@ pub(crate) fn default_instance_in(value: &str) -> Option<Option<&str>>
     }
 }
 
-/// Reads the default instance of a template's links.
+/// Reads default instances, which templates are linked with.
 #[derive(Clone, Copy)]
 pub struct Instance {
     pub alloc: Global,
@@ -193,7 +193,7 @@ impl Reader for Instance {
     }
 }
 
-/// The result of `Type=`.
+/// The type that `Type=` gives, if any.
 #[derive(Clone, Copy, Debug, PartialEq, Eq)]
 pub enum TypeSaid {
     Unsaid,
@@ -202,7 +202,7 @@ pub enum TypeSaid {
     Unserved,
 }
 
-/// The result of a value of `Type=`, if it can be read (systemd.service(5)).
+/// The result of reading a value of `Type=`, if it can be read (systemd.service(5)).
 #[tactic(auto, unfolding(um_model::specs::Units::type_said))]
 pub fn type_said(value: &str) -> Option<TypeSaid>
     ensures { option_map said_of result ≡ model.type_said value.now }

@@ -10,7 +10,7 @@ use crate::tables::number_among;
 use um_model::End;
 use um_text::Class;
 
-/// The union of two sets with the same number of places.
+/// Adds another set, with the same number of places, to the set.
 fn add_all(set: &mut [bool], other: &[bool])
     requires { length set.old ≡ length other.now }
     ensures same_length { length set.new ≡ length set.old }

@@ -1,4 +1,4 @@
-//! Refusals with a text, each with a copy of its own; the copy can fail only for lack of memory.
+//! Refusals with a text, each with a copy of its own; the copy can fail only for want of memory.
 ghost use Rattle.std.specs.Prelude.{◌≡◌, IfOk};
 ghost use Rattle.um_model.specs.Refusals as told;
 ghost use Rattle.um_wire.specs.Refusal.{refused_of};

@@ -24,8 +24,8 @@ fn front_text(bytes: &[u8], len: usize) -> Option<&str>
     }
 }
 
-/// The text in front of the bytes and its length in bytes with the bytes of the length, or `None` if there is none.
-/// It takes no memory.
+/// The text in front of the bytes, and how many bytes it takes with those of its length; `None` if there is none. It
+/// takes no memory.
 pub fn text_in_front(bytes: &[u8]) -> Option<(&str, usize)>
     ensures read { text_at bytes.now ≡ option_map (λ x. (x.0.now, drop x.1 bytes.now)) result }
     ensures within { IfSome result (λ x. x.1 ≤ length bytes.now) }

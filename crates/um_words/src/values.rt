@@ -40,8 +40,8 @@ impl<'a> Value<'a> {
     }
 }
 
-/// The values of an environment by the names of its variables, each split once: neither the environment nor a value
-/// is searched again for each place at which a command names it.
+/// The values of an environment by the names of its variables, each split once: the environment isn't searched again,
+/// nor is a value split again, for each place at which a command names it.
 #[derive(Drop)]
 pub(crate) struct Values<'a> {
     by_name: BTreeMap<&'a str, Value<'a>>,
