@@ -4,7 +4,7 @@
 # make umd: builds the proved program, crates/umd/out/umd, and prints crate by crate how far it is.
 # make test: the whole gate. Sees that each edit applies to the text. Proves every crate and its tests from nothing, tries each must-fail edit, and runs the tests and the program as two
 # compilers build it; then plays the rows with real processes, sockets and files against the program that was proved.
-# make edits NAME ..: tries the further edits of these crates, which stand in edits/NAME; with no name those of every crate.
+# make edits NAME ..: tries the further edits of these crates, which stand in crates/NAME/edits; with no name those of every crate.
 # make runner-rows: plays the rows of a runner against the proved program, with real processes.
 # make serve-rows: plays the rows of a served store against the proved program, with real processes, sockets and files.
 # make ctl-rows: plays the rows of the command line against the proved program: create and ctl, their faults, statuses, help and output.
