@@ -24,7 +24,7 @@
 # and programs that aren't everywhere; one that is missing fails its row and is named.
 # make bench: measures the proved program, and the writing and reading of states (um_bench); the figures that a document calls
 # measured come from it. It ends with an error if a wanted ratio isn't reached, that of queries while services run, or a step costs more than it may
-# (docs/DECISIONS.md, "Serving").
+# (docs/COST.md, "What a step costs").
 .PHONY: run umd unproved test edits bench runner-rows serve-rows ctl-rows status-rows memory-rows mutated in-turn install uninstall deb soak pictures installed-rows
 # the variables of install and its kin, as their scripts take them
 export PREFIX DESTDIR UNPROVED BASHDIR ZSHDIR
