@@ -8,6 +8,7 @@ types of receivers. OLD may be `Type::method` there. KIND `file` is a file of sr
 the name of a clause, and `variant` a case of an enum; for the others KIND is for the reader alone."""
 import bisect
 import collections
+import functools
 import os
 import re
 
@@ -34,6 +35,18 @@ def read_table(path):
             old, new, kind, crate = (cells + ["", ""])[:4]
             rows.append(Row(old, new, kind, "" if crate == "-" else crate))
     return rows
+
+
+@functools.cache
+def kit_words():
+    """The names of functions in the kit, which a call in this repository may mean."""
+    found = set()
+    for top, _, names in os.walk("/opt/rattle/rattle"):
+        for name in names:
+            if name.endswith(".rt"):
+                with open(f"{top}/{name}", encoding="utf-8", errors="replace") as file:
+                    found.update(re.findall(r"\bfn\s+(\w+)", file.read()))
+    return found
 
 
 def close_of(shape, at):
@@ -188,16 +201,15 @@ class Naming:
     """Rows and the files of a repository; `rename` gives the files with their new names."""
 
     def __init__(self, files, rows):
-        self.rows, self.uses_of, self.unsure, self.mixed = rows, collections.Counter(), [], []
+        self.rows, self.uses_of, self.unsure, self.mixed, self.by_hand = rows, collections.Counter(), [], [], []
         self.all = files
-        self.everywhere = {it.old: it for it in rows if not it.crate and it.kind not in APART}
+        self.everywhere = {it.old: it for it in rows if not it.crate and it.kind not in APART and it.kind != "crate"}
         self.clauses = {it.old: it for it in rows if it.kind == "clause"}
         self.crates = {it.old: it for it in rows if it.kind == "crate"}
         self.of_file = {(it.crate, it.old): it for it in rows if it.kind == "file"}
         self.of_module = {(it.crate, it.old): it for it in rows if it.kind == "module"}
         self.variants = {(it.crate, it.old): it for it in rows if it.kind == "variant"}
-        self.by_crate = {(it.crate, it.old): it for it in rows if it.crate and it.kind not in APART}
-        self.words = {it.old.split("::")[-1] for it in self.by_crate.values()} | {it.old for it in self.variants.values()}
+        self.by_crate = {(it.crate, it.kind == "definition", it.old): it for it in rows if it.crate and it.kind not in APART}
         self.texts = {path: File(path, text) for path, text in files.items() if path.startswith("crates/") and path.endswith((".rt", ".antt"))}
         self.needs = {}
         for line in files.get("crates.txt", "").splitlines():
@@ -205,10 +217,35 @@ class Naming:
             if name.strip():
                 self.needs[name.split()[0]] = tail.split()
         self.index()
+        self.widen()
+        self.words = {it.old.split("::")[-1] for it in self.by_crate.values()} | {it.old for it in self.variants.values()}
+
+    def widen(self):
+        """Rows of a crate that hold everywhere: the word stands for nothing but what that crate declares, and the new one stands nowhere."""
+        stands, said = collections.defaultdict(set), set()
+        for file in self.texts.values():
+            said.update(WORD.findall(file.shape))
+            for it in re.finditer(r"\b(?:fn|struct|enum|trait|type|const|static|ensures|requires|let|mut|mod)\s+(\w+)|(\w+)\s*:(?!:)|[|(]\s*(\w+)\s*[|,)]" if file.is_rust else r"^(?:(?:pub|abbrev|unfoldable|data|record)\s+)*([A-Za-z_]\w*)|^\s+(?:pub\s+)?(\w+)\s*:|\(((?:\w+\s+)*\w+)\s*:", file.shape, re.MULTILINE):
+                for word in (it[1] or it[2] or it[3] or "").split():
+                    stands[word].add((file.crate, file.is_antt))
+            for it in file.enums:
+                for word in re.findall(r"[{,]\s*([A-Z]\w*)", file.shape[it[0] : it[1]]):
+                    stands[word].add((file.crate, "case"))
+            for ghost, _, path, name, _ in file.uses:
+                if path[0][0] not in ("crate", "self", "super", *file.mods) and not path[0][0].startswith("um_") and not (len(path) > 1 and path[1][0] in self.needs):
+                    stands[name].add(("std", True))
+        kit = kit_words()
+        for key, row in list(self.by_crate.items()):
+            crate, is_definition, old = key
+            if "::" in old or "/" in crate or old in kit or row.new in said or sum(it.old.split("::")[-1] == old for it in self.by_crate.values()) > 1:
+                continue
+            if stands[old] == {(crate, is_definition)} or (old[:1].isupper() and stands[old] == {(crate, False)}):
+                self.everywhere[old] = row
+                del self.by_crate[key]
 
     def index(self):
         self.declared, self.methods, self.reexports, self.spec_names, self.fields = {}, collections.defaultdict(set), {}, {}, {}
-        self.folders, self.labels = {}, collections.defaultdict(set)
+        self.folders, self.labels, self.traits = {}, collections.defaultdict(set), collections.defaultdict(set)
         self.stems = {(it.crate, it.stem) for it in self.texts.values() if it.room == "src"}
         self.modules = {(it.crate, it.room, it.stem) for it in self.texts.values() if it.is_antt}
         for it in self.texts.values():
@@ -219,8 +256,10 @@ class Naming:
                     for f in re.finditer(r"(\w+)\s*:\s*([^,}]+)", it.shape[m.end() : close_of(it.shape, m.end() - 1)]):
                         self.fields[(it.crate, m[1], f[1])] = f[2]
                 for begin, _, name, owner, folder, _, opens in it.bodies:
-                    if owner:
+                    if owner and folder == owner:
                         self.methods[name].add((it.crate, owner))
+                    elif owner:
+                        self.traits[owner].add(folder[len(owner) :])
                     else:
                         self.declared.setdefault((it.crate, name), it.path)
                     self.folders[(it.crate, it.stem, folder, name)] = (it, begin)
@@ -266,19 +305,29 @@ class Naming:
         return self.owner_of(first, path[-1], hops + 1) if (first, path[-1]) != (crate, name) else (crate, name)
 
     def ghost_owner(self, path, hops=0):
-        """Of a path `Rattle.um_x...name` the crate that declares it, the name, and whether it is a case of an enum."""
+        """The row for what a path `Rattle.um_x...name` leads to, through what is handed on."""
         crate, room, name = path[1], path[2] if len(path) > 2 else "", path[-1]
-        is_variant = "TheVariants" in path[:-1]
         other = self.spec_reexports.get((crate, room, "/".join(path[3:-1]), name))
         if other and hops < 8 and other[0] == "Rattle":
             return self.ghost_owner(other, hops + 1)
-        return crate, name, is_variant
+        if "TheVariants" in path[:-1]:
+            return self.variants.get((crate, name))
+        if len(path) > 4 and path[3] == "declared":
+            return self.row_for(crate, name, stem=path[4]) if name[:1].isupper() else None
+        stem = "/".join(path[3:-1])
+        if room == "specs" and name in self.spec_names.get((crate, room, stem), ()):
+            return self.row_for(crate, name, is_definition=True, stem=stem)
+        return None
 
-    def row_for(self, crate, name, kind=""):
-        """The row for what a crate declares; of a method with its type."""
-        if kind and (crate, f"{kind}::{name}") in self.by_crate:
-            return self.by_crate[(crate, f"{kind}::{name}")]
-        return self.by_crate.get((crate, name))
+    def row_for(self, crate, name, kind="", is_definition=False, stem=""):
+        """The row for what a crate declares: of a method with its type, of a file that is named beside the crate."""
+        for old in ([f"{kind}::{name}"] if kind else []) + [name]:
+            for place in ([f"{crate}/{stem}"] if stem else []) + [crate]:
+                if (place, is_definition, old) in self.by_crate:
+                    row = self.by_crate[(place, is_definition, old)]
+                    if "::" in old or not name[:1].islower() or row.kind not in ("function", "method") or (row.kind == "method") == ((crate, kind) in self.methods[name]):
+                        return row
+        return None
 
     def put(self, file, at, row):
         """Writes the new name in the place of the old one; the word alone, of a method with its type."""
@@ -293,14 +342,14 @@ class Naming:
         for row in self.rows:
             new, kind = row.new.split("::")[-1], row.old.rpartition("::")[0]
             if row in self.everywhere.values():
-                is_taken = new in words and new not in away
+                is_taken = not row.crate and new in words and new not in away
             elif row.kind == "file":
                 is_taken = any(it == (row.crate, new) for it in self.stems) and (row.crate, new) not in self.of_file
             elif row.kind == "module":
                 is_taken = any(it[0] == row.crate and it[2] == new for it in self.modules) and any(it[0] == row.crate and it[2] == row.old for it in self.modules if (it[0], it[1], new) in self.modules) and (row.crate, new) not in self.of_module
             elif row.kind == "clause":
                 is_taken = any({row.old, new} <= labels for labels in self.labels.values()) and new not in self.clauses
-            elif row.crate and row.kind not in APART:
+            elif row.crate and "/" not in row.crate and row.kind not in APART:
                 is_taken = self.is_taken(row, new, kind)
             else:
                 is_taken = False
@@ -310,7 +359,7 @@ class Naming:
 
     def is_taken(self, row, new, kind):
         """Whether the crate of a row declares a type, function, method of the same type, or definition of the new name."""
-        if (row.crate, new) in self.by_crate or any(it.crate == row.crate and it.old.split("::")[-1] == new and (not kind or it.old.startswith(kind + "::")) for it in self.by_crate.values()):
+        if any(it.crate == row.crate and it.old.split("::")[-1] == new and (not kind or it.old.startswith(kind + "::")) for it in self.by_crate.values()):
             return False
         was = {other for crate, other in self.methods.get(row.old.split("::")[-1], ()) if crate == row.crate}
         are = {other for crate, other in self.methods.get(new, ()) if crate == row.crate}
@@ -351,15 +400,21 @@ class Naming:
             elif is_ghost and "TheVariants" in [it for it, _ in words[:k]]:
                 row = self.variants.get((crate, word))
             elif is_ghost:
-                owner, name, _ = self.ghost_owner([it for it, _ in words[: k + 1]])
-                row = self.row_for(owner, name, words[k - 1][0]) if word in self.words else None
+                so = [it for it, _ in words[: k + 1]]
+                row = None
+                if is_code and words[2][0] == "proofs" and (word in self.words or word[:1].isupper()):
+                    row = self.folder_row(crate, [it for it, _ in words[3:k]], word)
+                elif word in self.words:
+                    row = self.ghost_owner(so)
             elif k and words[k - 1][0][:1].isupper():
                 owner, _ = self.owner_of(crate, words[k - 1][0])
                 row = self.variants.get((owner, word)) if word[:1].isupper() else self.row_for(owner, word, words[k - 1][0])
             else:
                 owner, name = self.owner_of(crate, word)
-                row = self.row_for(owner, name) if word in self.words else None
-            if row:
+                row = self.row_for(owner, name, stem=words[k - 1][0] if k else "") if word in self.words else None
+            if isinstance(row, str):
+                file.edit(at, word, row)
+            elif row:
                 self.put(file, at, row)
 
     def near(self, crate, stem):
@@ -384,12 +439,13 @@ class Naming:
                 found[name] = None
                 continue
             if ghost:
-                owner, original, is_variant = self.ghost_owner(words) if words[0] == "Rattle" and len(words) > 2 else ("", name, False)
+                found[name] = self.ghost_owner(words) if words[0] == "Rattle" and len(words) > 2 and words[1] in self.needs else None
+                continue
             else:
                 crate = file.crate if words[0] in file.mods or words[0] in ("crate", "self", "super") else words[0]
                 owner, original = self.owner_of(crate, words[-1])
                 is_variant = len(words) > 1 and words[-2][:1].isupper()
-            found[name] = self.variants.get((owner, original)) if is_variant else self.row_for(owner, original)
+            found[name] = self.variants.get((owner, original)) if is_variant else self.row_for(owner, original, stem=words[-2] if len(words) > 1 else "")
         return found
 
     def aliases(self, file):
@@ -452,7 +508,7 @@ class Naming:
                 return self.variants.get((file.crate, word))
             if word in brought:
                 return brought[word]
-            return self.row_for(file.crate, word)
+            return self.row_for(file.crate, word, stem=file.stem)
         if re.search(r"\bfn$", before):
             body = file.body_at(at)
             if body and body[3]:
@@ -461,8 +517,8 @@ class Naming:
                 if trait:
                     theirs = self.type_owner(file, trait)
                     return self.row_for(theirs, word, trait) if theirs in self.needs and (theirs, trait) in self.methods[word] else None
-                return self.row_for(file.crate, word, body[3]) if owner else None
-            return self.row_for(file.crate, word)
+                return self.row_for(file.crate, word, body[3], stem=file.stem)
+            return self.row_for(file.crate, word, stem=file.stem)
         is_call = bool(re.match(r"\(|::<", after))
         is_value = bool(re.search(r"[(,=]$", before) and re.match(r"[),;]", after)) and not self.is_local(file, word, at)
         if not (is_call or is_value):
@@ -471,7 +527,7 @@ class Naming:
             return brought[word]
         is_free = self.declared.get((file.crate, word)) == file.path or any(b[2] == word and not b[3] for b in file.bodies)
         if is_free and not self.is_local(file, word, at):
-            return self.row_for(file.crate, word)
+            return self.row_for(file.crate, word, stem=file.stem)
         return None
 
     def is_local(self, file, word, at):
@@ -491,36 +547,60 @@ class Naming:
         """The row for a method that is called, by the type of what it is called on."""
         seen = self.below(file.crate)
         among = {(crate, kind) for crate, kind in self.methods[word] if crate in seen}
-        news = {self.row_for(crate, word, kind) for crate, kind in among}
-        if len(news) <= 1:
-            return next(iter(news), None)
-        kinds = self.receiver(file, at, before) if not is_path else set()
+        rows = [self.row_for(crate, word, kind) for crate, kind in among]
+        news = {row and row.new.split("::")[-1] for row in rows}
+        if news <= {None} or (len(news) == 1 and word not in kit_words()):
+            return next((row for row in rows if row), None)
+        kinds = self.receiver(file, at) if not is_path else set()
         those = {(crate, kind) for crate, kind in among if kind in kinds}
-        news = {self.row_for(crate, word, kind) for crate, kind in those}
-        if len(news) == 1:
-            return next(iter(news))
+        those = those or {(crate, kind) for crate, kind in among if kind in {trait for it in kinds for trait in self.traits[it]}}
+        rows = [self.row_for(crate, word, kind) for crate, kind in those]
+        if len({row and row.new.split("::")[-1] for row in rows}) == 1:
+            return rows[0]
+        if word in kit_words() and not those:
+            return None
         line = file.shape.count("\n", 0, at) + 1
         self.unsure.append((file.path, line, word, sorted(among), file.text.split("\n")[line - 1].strip()))
         return None
 
-    def receiver(self, file, at, before):
+    def receiver(self, file, at):
         """The names of types that what stands in front of a call may have."""
-        said = file.shape[max(0, at - 400) : at].rstrip()[:-1].rstrip()
-        said = re.sub(r"\?$", "", said)
         body = file.body_at(at)
+        said = re.sub(r"\.\s*$", "", file.shape[max(body[0] if body else 0, at - 600) : at].rstrip())
+        return self.kinds_of(file, body, said, 0) if body else set()
+
+    def kinds_of(self, file, body, said, hops):
+        """The names of types of the expression that a text ends with."""
+        said = re.sub(r"[?\s]+$", "", said)
+        if hops > 6:
+            return set()
+        if said.endswith(")"):
+            opens, depth = len(said) - 1, 0
+            while opens >= 0:
+                depth += {")": 1, "(": -1}.get(said[opens], 0)
+                if depth == 0:
+                    break
+                opens -= 1
+            called = re.search(r"(?:([A-Z]\w*)\s*::\s*)?(\w+)\s*(?:::<[^()]*>)?$", said[:opens])
+            if not called:
+                return self.kinds_of(file, body, said[opens + 1 : -1], hops + 1)
+            if called[1] and called[1] not in ("Some", "Ok", "Err"):
+                return {called[1]} | ({body[3]} if called[1] == "Self" else set())
+            if called[2] in ("as_mut", "as_ref", "borrow", "borrow_mut", "try_borrow", "try_borrow_mut", "take", "unwrap", "clone"):
+                return self.kinds_of(file, body, re.sub(r"\.\s*$", "", said[: called.start()]), hops + 1)
+            return self.results(file, body, called[2])
         chain = re.search(r"((?:[A-Za-z_]\w*)(?:\s*\.\s*[A-Za-z_]\w*|\[[^\[\]]*\])*)$", said)
-        called = re.search(r"([A-Za-z_]\w*)\s*\([^()]*(?:\([^()]*\)[^()]*)*\)$", said)
-        if called and not chain:
-            return self.results(file, called[1], said[: called.start()])
-        if not chain or not body:
+        if not chain:
             return set()
         links = [it.strip() for it in re.split(r"\.", re.sub(r"\[[^\[\]]*\]", "", chain[1]))]
-        head = file.shape[body[0] : body[6]]
-        inner = file.shape[body[0] : body[1]]
+        head, inner = file.shape[body[0] : body[6]], file.shape[body[0] : body[1]]
         if links[0] == "self":
             kinds = {body[3]}
         else:
-            kinds = self.kinds_in(head, body, links[0]) or self.kinds_let(file, inner, links[0], body)
+            typed = re.search(rf"\b{links[0]}\s*:\s*([^,)]*(?:<[^>]*>)?[^,)]*)", head)
+            kinds = self.names_in(typed[1], body, file) if typed else self.kinds_let(file, inner, links[0], body, hops)
+            if not kinds:
+                kinds = {"".join(it.capitalize() for it in links[0].split("_"))}
         for link in links[1:]:
             found = set()
             for (crate, kind, field), said in self.fields.items():
@@ -530,45 +610,37 @@ class Naming:
         return kinds
 
     def names_in(self, said, body, file):
+        """The names of types in a text; of a type parameter the traits that bound it."""
         names = set(re.findall(r"\b[A-Z]\w*", said))
-        bounds = dict(re.findall(r"\b([A-Z]\w?)\s*:\s*([A-Z]\w*)", (body[5] if body else "") + file.shape[body[0] : body[6]] if body else ""))
-        for it in re.finditer(r"\bstruct\s+\w+\s*<([^{;]*)>\s*(?:where[^{;]*)?\{", file.shape):
-            bounds.update(dict(re.findall(r"\b([A-Z]\w?)\s*:\s*([A-Z]\w*)", it[1])))
-        return names | {bounds[it] for it in names if it in bounds} | {{"D": "Disk", "C": "Children", "G": "Gate", "M": "Moments", "K": "Keeps", "N": "News", "H": "Host"}.get(it, "") for it in names if len(it) == 1}
+        heads = f"{body[5]} {file.shape[body[0] : body[6]]} " + " ".join(re.findall(r"\bstruct\s+\w+\s*<[^{;]*\{", file.shape))
+        for it in list(names):
+            if len(it) <= 2:
+                for bound in re.findall(rf"\b{it}\s*:\s*([^,>{{]+)", heads):
+                    names |= set(re.findall(r"\b[A-Z]\w*", bound))
+        return names
 
-    def kinds_in(self, head, body, name):
-        it = re.search(rf"\b{name}\s*:\s*([^,)]*(?:<[^>]*>)?[^,)]*)", head)
-        return self.names_in(it[1], body, self.file_of(body)) if it else set()
+    def kinds_let(self, file, inner, name, body, hops):
+        """The names of types of a variable, by where it is bound."""
+        for it in re.finditer(rf"\blet\s+(?:mut\s+)?{name}\s*(?::\s*([^=;]+))?=\s*([^;]*?)(?:\selse\s*\{{|;)|\b(?:Some|Ok)\((?:mut\s+|ref\s+|&)*{name}\)\s*=\s*(?=([^{{;]*))|\bfor\s+{name}\s+in\s+(?=([^{{;]*))", inner):
+            if it[1]:
+                return self.names_in(it[1], body, file)
+            made = re.match(r"&?(?:mut\s+)?([A-Z]\w*)\s*\{", it[2] or "")
+            kinds = {made[1]} if made else self.kinds_of(file, body, it[2] or it[3] or it[4] or "", hops + 1)
+            if kinds:
+                return kinds
+        return set()
 
-    def file_of(self, body):
-        return self.bodies_file.get(id(body)) or next(it for it in self.texts.values() if body in it.bodies)
-
-    bodies_file = {}
-
-    def kinds_let(self, file, inner, name, body):
-        it = re.search(rf"\blet\s+(?:mut\s+)?{name}\s*(?::\s*([^=]+))?=\s*([^;]*)", inner)
-        if not it:
-            it = re.search(rf"\b(?:for|Some\(|Ok\()\s*(?:mut\s+|&|ref\s+)*{name}\)?\s*(?:in)?()=?\s*([^;{{]*)", inner)
-        if not it:
-            return set()
-        if it[1]:
-            return self.names_in(it[1], body, file)
-        made = re.match(r"&?(?:mut\s+)?([A-Z]\w*)\s*(?:::|\{)", it[2])
-        if made:
-            return {made[1]}
-        called = re.match(r"&?(?:mut\s+)?(?:[\w.]+[.:])?(\w+)\s*\(", it[2].strip())
-        return self.results(file, called[1], "") if called else set()
-
-    def results(self, file, name, said):
+    def results(self, file, body, name):
         """The names of types in what functions of this name give."""
         found = set()
         for other in self.texts.values():
             if other.is_rust and other.crate in self.below(file.crate):
-                for body in other.bodies:
-                    if body[2] == name:
-                        it = re.search(r"->\s*(.*)$", other.shape[body[0] : body[6]].split("ensures")[0].split("requires")[0], re.DOTALL)
-                        names = set(re.findall(r"\b[A-Z]\w*", it[1])) if it else set()
-                        found |= ({body[3]} | names) - {"Self"} if "Self" in names else names
+                for made in other.bodies:
+                    if made[2] == name:
+                        it = re.search(r"->\s*(.*)$", other.shape[made[0] : made[6]].split("ensures")[0].split("requires")[0], re.DOTALL)
+                        if it:
+                            found |= self.names_in(it[1], made, other) | self.names_in(it[1], body, file)
+                            found |= {made[3]} if "Self" in it[1] else set()
         return found
 
     # ---- ghost terms
@@ -579,8 +651,7 @@ class Naming:
             path = aliases.get(chain[1]) if chain else None
             if not path or re.search(r"[\w']\.$", before[: chain.start()]):
                 return None
-            owner, name, is_variant = self.ghost_owner([*path, word])
-            return self.variants.get((owner, name)) if is_variant or path[-1] == "TheVariants" else self.row_for(owner, name)
+            return self.ghost_owner([*path, word]) if path[1] in self.needs else None
         if file.text[at + len(word) : at + len(word) + 1] in "-'" and file.text[at + len(word) : at + len(word) + 1]:
             if file.is_antt:
                 return None
@@ -591,7 +662,7 @@ class Naming:
         if word in ghosts:
             return ghosts[word]
         if file.is_antt and file.room == "specs" and word in file.declares:
-            return self.row_for(file.crate, word)
+            return self.row_for(file.crate, word, is_definition=True, stem=file.stem)
         return None
 
     def rename_antt(self, file):
@@ -615,10 +686,29 @@ class Naming:
         body = next(it for it in file.bodies if it[0] == begin)
         found = collections.defaultdict(set)
         for it in WORD.finditer(file.shape, body[0], body[1]):
-            if it[0] in self.words and not is_in(file.ghosts, it.start()):
+            if it[0] in self.words and not is_in(file.ghosts, it.start()) and not re.search(r"\b(?:ensures|requires)\s+$", file.shape[: it.start()][-12:]):
                 new = file.edits.get(it.start())
                 found[it[0]].add(new[1] if new else None)
         return {word: news for word, news in found.items() if news != {None}}, body
+
+    def rename_locals(self, file):
+        """Variables that have the name of a function that their own function calls: they are renamed with it, since a proof names both alike."""
+        for begin, end, *_ in file.bodies:
+            places = collections.defaultdict(list)
+            for it in WORD.finditer(file.shape, begin, end):
+                if it[0] in self.words and it[0][:1].islower() and not re.search(r"\b(?:ensures|requires)\s+$", file.shape[: it.start()][-12:]):
+                    places[it[0]].append(it.start())
+            for word, ats in places.items():
+                news = {file.edits[at][1] for at in ats if at in file.edits and not is_in(file.ghosts, at)}
+                rest = [at for at in ats if at not in file.edits]
+                if len(news) != 1 or not rest:
+                    continue
+                is_field = any(re.search(r"\.$", file.shape[begin:at]) and not is_in(file.ghosts, at) or re.match(rf"{word}\s*:[^:]", file.shape[at:]) and re.search(r"[{{,]\s*$", file.shape[begin:at]) for at in rest)
+                if is_field or (all(is_in(file.ghosts, at) for at in rest)):
+                    continue
+                for at in rest:
+                    if not re.search(r"\.$", file.shape[begin:at]):
+                        file.edit(at, word, next(iter(news)))
 
     def rename_proofs(self, file):
         """What a function's own proof says of its calls, by the names of its goals and steps."""
@@ -708,8 +798,6 @@ class Naming:
                     made[k] = plus + row.new.split("::")[-1] + dot + end
                 elif word in self.everywhere:
                     made[k] = plus + self.everywhere[word].new + dot + end
-                else:
-                    made[k] = plus + self.joined_types(crate, word) + dot + end
         return "/".join(made)
 
     def near_stem(self, crate, stem):
@@ -718,7 +806,8 @@ class Naming:
     def folder_row(self, crate, before, word):
         """Of a folder of proofs/ that is a type's or a function's."""
         if word[:1].isupper():
-            return self.row_for(crate, word)
+            row = self.everywhere.get(word) or self.row_for(crate, word, stem=before[0] if before else "")
+            return row if row or (crate, word) in self.declared else self.joined_types(crate, word)
         kind = before[-1] if before and before[-1][:1].isupper() else ""
         for (owner, folder), (file, begin) in self.folders.items():
             if owner == crate and folder == "/".join([*before, word]):
@@ -729,17 +818,16 @@ class Naming:
         return self.row_for(crate, word, kind)
 
     def joined_types(self, crate, word):
-        """`TypeTrait`, the folder of what a type does for a trait."""
+        """`TypeTrait`, the folder of what a type does for a trait; None where neither is renamed."""
         for k in range(2, len(word)):
-            if word[:1].isupper() and word[k].isupper():
-                one, other = word[:k], word[k:]
-                if (crate, one) in self.declared or one in ("Vec", "String", "BTreeMap"):
-                    first = self.everywhere.get(one) or self.row_for(crate, one)
-                    traits = {self.row_for(owner, other) for owner, name in self.declared if name == other} - {None}
-                    second = self.everywhere.get(other) or (traits.pop() if len(traits) == 1 else None)
-                    if first or second:
-                        return (first.new if first else one) + (second.new if second else other)
-        return word
+            one, other = word[:k], word[k:]
+            if other[:1].isupper() and other in self.traits.get(one, ()):
+                first = self.everywhere.get(one) or self.row_for(crate, one)
+                traits = {self.everywhere.get(other) or self.row_for(owner, other) for owner, name in self.declared if name == other} - {None}
+                second = traits.pop() if len(traits) == 1 else None
+                if first or second:
+                    return (first.new if first else one) + (second.new if second else other)
+        return None
 
     def quoted(self, text, crate, path):
         """A text in which the names in backquotes are renamed: in documents and comments."""
@@ -760,7 +848,7 @@ class Naming:
                     if len({row.new.split("::")[-1] for row in those}) == 1:
                         row = those[0]
                     elif rows and not crate:
-                        self.unsure.append((path, text.count("\n", 0, it.start()) + 1, name, sorted({row.crate for row in rows}), said))
+                        self.by_hand.append((path, text.count("\n", 0, it.start()) + 1, name, sorted({row.crate for row in rows}), said))
                 if not row:
                     return name
                 self.uses_of[row] += 1
@@ -805,8 +893,10 @@ class Naming:
                 return name
             if name in self.everywhere:
                 return self.everywhere[name].new
-            if name not in self.words:
+            if name not in self.words and (target.crate, name) not in self.of_file:
                 return name
+            if shape[it.end() :].lstrip().startswith("::") and (target.crate, name) in self.of_file:
+                return self.of_file[(target.crate, name)].new
             here = {new for place, (end, new) in target.edits.items() if target.text[place:end] == name}
             stays = any(m.start() not in target.edits for m in re.finditer(rf"\b{name}\b", target.shape))
             if len(here) == 1 and not stays:
@@ -826,11 +916,9 @@ class Naming:
     def rename(self):
         """The files with their new names, by their new paths."""
         for file in self.texts.values():
-            for body in file.bodies:
-                self.bodies_file[id(body)] = file
-        for file in self.texts.values():
             if file.is_rust:
                 self.rename_rust(file)
+                self.rename_locals(file)
                 self.rename_labels(file)
         for file in self.texts.values():
             if file.is_antt:
