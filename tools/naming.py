@@ -17,6 +17,12 @@ import texts
 Row = collections.namedtuple("Row", "old new kind crate")
 WORD = re.compile(r"[A-Za-z_]\w*", re.ASCII)
 PATHS = r"crates/[^/]+/.*\.(rt|antt|edit)|edits/.*\.edit|tools/in-turn-wrong/.*\.edit|crates\.txt|README\.md|docs/[^/]+\.md|(share|examples)/.*\.md|Makefile|(tools|bench)/[^/]+"
+# Words that the languages themselves have.
+KEYWORDS = {"Type", "Self", "self", "where", "data", "record", "module", "mod", "use", "pub", "abbrev", "let", "in", "as", "elim", "rw", "simp", "cc", "omega", "grind", "search", "match", "move"}
+# Words of the protocol and of the program, which stand in backquotes for themselves.
+SPOKEN = set(
+    "actions boot cancel cat check create ctl disable enable end executed help link logs mask memory query remove reset restart run serve show start status stop sync tick unmask verify wait units jobs put".split()
+)
 APART = ("file", "module", "clause", "crate", "variant")
 
 
@@ -237,7 +243,7 @@ class Naming:
         kit = kit_words()
         for key, row in list(self.by_crate.items()):
             crate, is_definition, old = key
-            if "::" in old or "/" in crate or old in kit or row.new in said or sum(it.old.split("::")[-1] == old for it in self.by_crate.values()) > 1:
+            if "::" in old or "/" in crate or old in KEYWORDS or old in kit or row.new in said or sum(it.old.split("::")[-1] == old for it in self.by_crate.values()) > 1:
                 continue
             if stands[old] == {(crate, is_definition)} or (old[:1].isupper() and stands[old] == {(crate, False)}):
                 self.everywhere[old] = row
@@ -276,7 +282,11 @@ class Naming:
             home = self.declared.get((crate, owner), file.path) if owner and folder == owner else file.path
             stem = self.texts[home].stem
             placed[(crate, "/".join(filter(None, [stem if stem not in ("lib", "main") else "", folder, name])))] = (file, begin)
-        self.folders = placed
+        self.folders, self.proofs = placed, collections.defaultdict(list)
+        for it in self.texts.values():
+            place = it.room == "proofs" and placed.get((it.crate, it.stem.rpartition("/")[0].replace("/+", "/")))
+            if place:
+                self.proofs[(place[0].path, place[1])].append(it)
         self.spec_reexports = {}
         for it in self.texts.values():
             if it.is_antt:
@@ -312,6 +322,8 @@ class Naming:
             return self.ghost_owner(other, hops + 1)
         if "TheVariants" in path[:-1]:
             return self.variants.get((crate, name))
+        if len(path) > 4 and path[3] == "contracts":
+            return self.row_for(crate, name, stem=path[4]) if (crate, name) in self.declared else self.derived_row(crate, name)
         if len(path) > 4 and path[3] == "declared":
             return self.row_for(crate, name, stem=path[4]) if name[:1].isupper() else None
         stem = "/".join(path[3:-1])
@@ -380,7 +392,7 @@ class Naming:
             return
         if is_ghost:
             crate, start = words[1][0], 3
-            if len(words) > 2 and words[2][0] == "specs" and len(words) > 3 and words[3][0] == "declared":
+            if len(words) > 3 and words[2][0] == "specs" and words[3][0] in ("declared", "contracts"):
                 start = 4
         else:
             crate, start = (file.crate, 0) if words[0][0] in file.mods else (file.crate, 1) if words[0][0] in ("crate", "self", "super") else (words[0][0], 1)
@@ -402,7 +414,9 @@ class Naming:
             elif is_ghost:
                 so = [it for it, _ in words[: k + 1]]
                 row = None
-                if is_code and words[2][0] == "proofs" and (word in self.words or word[:1].isupper()):
+                if words[3][0] == "contracts" and word[:1].isupper():
+                    row = self.ghost_owner(so)
+                elif is_code and words[2][0] == "proofs" and (word in self.words or word[:1].isupper()):
                     row = self.folder_row(crate, [it for it, _ in words[3:k]], word)
                 elif word in self.words:
                     row = self.ghost_owner(so)
@@ -468,7 +482,7 @@ class Naming:
                 continue
             before, after = file.shape[max(0, at - 200) : at].rstrip(), file.shape[it.end() : it.end() + 40].lstrip()
             if is_in(file.ghosts, at):
-                row = self.ghost_row(file, word, at, before, ghosts, aliases)
+                row = self.ghost_row(file, word, at, file.shape[max(0, at - 200) : at], ghosts, aliases)
             else:
                 row = self.rust_row(file, word, at, before, after, brought)
             if row:
@@ -701,7 +715,7 @@ class Naming:
             for word, ats in places.items():
                 news = {file.edits[at][1] for at in ats if at in file.edits and not is_in(file.ghosts, at)}
                 rest = [at for at in ats if at not in file.edits]
-                if len(news) != 1 or not rest:
+                if len(news) != 1 or not rest or not any(re.search(rf"(?<!\w){word}(?!\w)", it.shape) for it in self.proofs[(file.path, begin)]):
                     continue
                 is_field = any(re.search(r"\.$", file.shape[begin:at]) and not is_in(file.ghosts, at) or re.match(rf"{word}\s*:[^:]", file.shape[at:]) and re.search(r"[{{,]\s*$", file.shape[begin:at]) for at in rest)
                 if is_field or (all(is_in(file.ghosts, at) for at in rest)):
@@ -733,18 +747,19 @@ class Naming:
             is_step = it[0] in goals or bool(after) or (front and front[1] in ("c", "l", "goal"))
             offset, words = it.start(), it[0].split("-")
             for k, word in enumerate(words):
-                if word in steps and offset not in file.edits and not (k and words[k - 1] == "clause"):
+                is_label = (k and words[k - 1] == "clause") or (len(words) == 1 and front and re.search(r"(^|\.)(ensures|requires)$", front[1]))
+                if is_label:
+                    if word in labels and offset not in file.edits:
+                        self.put(file, offset, labels[word])
+                elif word in steps and offset not in file.edits and is_step:
                     news = steps[word]
-                    if len(news) == 1 and is_step:
+                    if len(news) == 1:
                         self.edit_word(file, offset, word, next(iter(news)))
-                    elif is_step:
+                    else:
                         row = next(it for it in news if it)
                         self.mixed.append((file.path, file.shape.count("\n", 0, offset) + 1, it[0], word, row))
                         if k == 0 or (k == 1 and words[0].startswith(("in_ok", "in_err", "if", "returns", "decreases"))):
                             self.edit_word(file, offset, word, row)
-                elif word in labels and offset not in file.edits:
-                    if (k and words[k - 1] == "clause") or (len(words) == 1 and front and re.search(r"\.(ensures|requires)$|^c\.requires$", front[1])):
-                        self.put(file, offset, labels[word])
                 offset += len(word) + 1
 
     def edit_word(self, file, at, old, new):
@@ -817,6 +832,15 @@ class Naming:
                 return new[1] if new else None
         return self.row_for(crate, word, kind)
 
+    def derived_row(self, crate, word):
+        """`TypeTrait`, what a type derives, as a row."""
+        for k in range(2, len(word)):
+            if word[k].isupper() and (crate, word[:k]) in self.declared:
+                row = self.everywhere.get(word[:k]) or self.row_for(crate, word[:k])
+                if row:
+                    return Row(word, row.new + word[k:], row.kind, row.crate)
+        return None
+
     def joined_types(self, crate, word):
         """`TypeTrait`, the folder of what a type does for a trait; None where neither is renamed."""
         for k in range(2, len(word)):
@@ -835,9 +859,20 @@ class Naming:
         def within(it):
             def word(m):
                 said, name = it[0], m[0]
+                front = re.search(r"(\w+)(?:::|\.)$", said[: m.start()])
                 row = self.everywhere.get(name)
+                if re.fullmatch("[a-z]+", name) and not front and not said[m.end() :].startswith("(") and (not crate or name in SPOKEN or (row and row.crate != crate)):
+                    return name
+                behind = re.match(r"::(\w+)", said[m.end() :])
+                owners = {owner for owner, kind in self.methods[behind[1]] if kind == name} if behind else set()
+                holders = {owner for owner, kind in self.methods[name] if kind == front[1]} if front else set()
+                if not row and name in self.words and (len(owners) == 1 or holders):
+                    known = {self.row_for(owner, name) for owner in owners} if owners else {self.row_for(owner, name, front[1]) for owner in holders}
+                    if len(known) == 1:
+                        row = known.pop()
+                        if not row:
+                            return name
                 if not row and name in self.words:
-                    front = re.search(r"(\w+)(?:::|\.)$", said[: m.start()])
                     rows = [row for row in self.by_crate.values() if row.old.split("::")[-1] == name]
                     named = [row for row in rows if front and (row.crate == front[1] or row.old.startswith(front[1] + "::"))]
                     own = [row for row in rows if row.crate == crate]
