@@ -210,7 +210,7 @@ class Naming:
         self.rows, self.uses_of, self.unsure, self.mixed, self.by_hand = rows, collections.Counter(), [], [], []
         self.all = files
         self.everywhere = {it.old: it for it in rows if not it.crate and it.kind not in APART and it.kind != "crate"}
-        self.clauses = {it.old: it for it in rows if it.kind == "clause"}
+        self.clauses = {(it.crate, it.old): it for it in rows if it.kind == "clause"}
         self.crates = {it.old: it for it in rows if it.kind == "crate"}
         self.of_file = {(it.crate, it.old): it for it in rows if it.kind == "file"}
         self.of_module = {(it.crate, it.old): it for it in rows if it.kind == "module"}
@@ -251,7 +251,7 @@ class Naming:
 
     def index(self):
         self.declared, self.methods, self.reexports, self.spec_names, self.fields = {}, collections.defaultdict(set), {}, {}, {}
-        self.folders, self.labels, self.traits = {}, collections.defaultdict(set), collections.defaultdict(set)
+        self.folders, self.labels, self.traits = {}, collections.defaultdict(dict), collections.defaultdict(set)
         self.stems = {(it.crate, it.stem) for it in self.texts.values() if it.room == "src"}
         self.modules = {(it.crate, it.room, it.stem) for it in self.texts.values() if it.is_antt}
         for it in self.texts.values():
@@ -270,7 +270,7 @@ class Naming:
                         self.declared.setdefault((it.crate, name), it.path)
                     self.folders[(it.crate, it.stem, folder, name)] = (it, begin)
                     for m in re.finditer(r"\b(?:requires|ensures)\s+(\w+)\s*\{", it.shape[begin:opens]):
-                        self.labels[name].add(m[1])
+                        self.labels[name].setdefault(m[1], set()).add((it.crate, it.stem))
                 for ghost, is_pub, path, name, _ in it.uses:
                     if is_pub and not ghost:
                         self.reexports[(it.crate, name)] = [word for word, _ in path]
@@ -360,7 +360,10 @@ class Naming:
             elif row.kind == "module":
                 is_taken = any(it[0] == row.crate and it[2] == new for it in self.modules) and any(it[0] == row.crate and it[2] == row.old for it in self.modules if (it[0], it[1], new) in self.modules) and (row.crate, new) not in self.of_module
             elif row.kind == "clause":
-                is_taken = any({row.old, new} <= labels for labels in self.labels.values()) and new not in self.clauses
+                is_taken = any(
+                    {row.old, new} <= {*labels} and any(not row.crate or f"{crate}/{stem}".startswith(row.crate) for crate, stem in labels[row.old] & labels[new])
+                    for labels in self.labels.values()
+                )
             elif row.crate and "/" not in row.crate and row.kind not in APART:
                 is_taken = self.is_taken(row, new, kind)
             else:
@@ -732,7 +735,7 @@ class Naming:
             return
         steps, body = self.steps_of(*place)
         calls = set(re.findall(r"\b([a-z_]\w*)(?=\s*(?:\(|::<))", place[0].shape[body[0] : body[1]])) | {body[2]}
-        labels = {label: row for label, row in self.clauses.items() if any(label in self.labels[it] for it in calls)}
+        labels = {label for _, label in self.clauses if any(label in self.labels[it] for it in calls)}
         if not steps and not labels:
             return
         goals = set(re.findall(r"\bgoal\.([\w-]+)", file.shape)) | set(re.findall(r"^(?:pub\s+|abbrev\s+)*([a-z][\w-]*)\s*:\s*goal\.", file.shape, re.MULTILINE))
@@ -750,7 +753,7 @@ class Naming:
                 is_label = (k and words[k - 1] == "clause") or (len(words) == 1 and front and re.search(r"(^|\.)(ensures|requires)$", front[1]))
                 if is_label:
                     if word in labels and offset not in file.edits:
-                        self.put(file, offset, labels[word])
+                        self.rename_label(file, offset, word, words[:k], front[1] if front else "", calls, place[0])
                 elif word in steps and offset not in file.edits and is_step:
                     news = steps[word]
                     if len(news) == 1:
@@ -769,9 +772,36 @@ class Naming:
                 self.uses_of[row] += 1
                 return
 
+    def label_row(self, crate, stem, label):
+        """The row for the name of a clause of a function in this file."""
+        return self.clauses.get((f"{crate}/{stem}", label)) or self.clauses.get((crate, label)) or self.clauses.get(("", label))
+
+    def rename_label(self, file, at, label, before, front, calls, code):
+        """The name of a clause in a proof: of the function itself in its goals, or of one that it calls."""
+        own = before and "requires" not in before
+        step = re.search(r"([\w'-]+)\.(?:ensures|requires)$", front)
+        first = before[0] if before else step[1].split("-")[0] if step else ""
+        names = {first} if first in calls and label in self.labels[first] else {it for it in calls if label in self.labels[it]}
+        seen = self.below(file.crate)
+        places = {(file.crate, code.stem)} if own or front in ("c.requires", "requires") else {it for name in names for it in self.labels[name][label] if it[0] in seen}
+        for name in names:
+            path = next((path for ghost, _, path, here, _ in code.uses if not ghost and here == name), None)
+            owner = file.crate if (file.crate, name) in self.declared else path and self.owner_of(path[0][0] if path[0][0] in self.needs else file.crate, path[-1][0])[0]
+            if owner and any(crate == owner for crate, _ in self.labels[name][label]):
+                places -= {it for it in self.labels[name][label] if it[0] != owner}
+        rows = {self.label_row(crate, stem, label) for crate, stem in places}
+        if len({row and row.new for row in rows}) == 1:
+            row = rows.pop()
+            if row:
+                self.put(file, at, row)
+        elif rows:
+            line = file.shape.count("\n", 0, at) + 1
+            self.unsure.append((file.path, line, label, sorted(places), file.text.split("\n")[line - 1].strip()))
+
     def rename_labels(self, file):
+        """The names of clauses where they stand."""
         for it in re.finditer(r"\b(?:requires|ensures)\s+(\w+)\s*\{", file.shape):
-            if row := self.clauses.get(it[1]):
+            if row := self.label_row(file.crate, file.stem, it[1]):
                 self.put(file, it.start(1), row)
 
     # ---- all of it
@@ -984,7 +1014,11 @@ class Naming:
             if not file.is_rust:
                 continue
             for begin, end, name, *_ in file.bodies:
-                here = {(file.text[at:to], new) for at, (to, new) in file.edits.items() if begin <= at < end and re.fullmatch(r"[a-z_]\w*", new)}
+                here = {
+                    (file.text[at:to], new)
+                    for at, (to, new) in file.edits.items()
+                    if begin <= at < end and re.fullmatch(r"[a-z_]\w*", new) and not re.search(r"\b(?:ensures|requires)\s+$", file.shape[max(0, at - 12) : at])
+                }
                 for old, new in sorted(here):
                     if re.search(rf"\b{new}\b", file.shape[begin:end]):
                         found.append(f"{file.path}:{file.shape.count(chr(10), 0, begin) + 1}: {name}: {new} stands there beside {old}")
