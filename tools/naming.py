@@ -11,6 +11,7 @@ import collections
 import functools
 import os
 import re
+import shutil
 
 import texts
 
@@ -47,7 +48,8 @@ def read_table(path):
 def kit_words():
     """The names of functions in the kit, which a call in this repository may mean."""
     found = set()
-    for top, _, names in os.walk("/opt/rattle/rattle"):
+    kit = os.path.dirname(os.path.dirname(os.path.realpath(shutil.which("rt") or "/opt/rattle/bin/rt")))
+    for top, _, names in os.walk(f"{kit}/rattle"):
         for name in names:
             if name.endswith(".rt"):
                 with open(f"{top}/{name}", encoding="utf-8", errors="replace") as file:
@@ -315,7 +317,7 @@ class Naming:
         return self.owner_of(first, path[-1], hops + 1) if (first, path[-1]) != (crate, name) else (crate, name)
 
     def ghost_owner(self, path, hops=0):
-        """The row for what a path `Rattle.um_x...name` leads to, through what is handed on."""
+        """The row for what a path `Rattle.um_x...name` leads to, through re-exports."""
         crate, room, name = path[1], path[2] if len(path) > 2 else "", path[-1]
         other = self.spec_reexports.get((crate, room, "/".join(path[3:-1]), name))
         if other and hops < 8 and other[0] == "Rattle":
@@ -538,19 +540,21 @@ class Naming:
             return self.row_for(file.crate, word, stem=file.stem)
         is_call = bool(re.match(r"\(|::<", after))
         is_value = bool(re.search(r"[(,=]$", before) and re.match(r"[),;]", after)) and not self.is_local(file, word, at)
-        if not (is_call or is_value):
+        if not (is_call or is_value) or (not is_call and self.is_local(file, word, at)):
             return None
         if word in brought:
             return brought[word]
         is_free = self.declared.get((file.crate, word)) == file.path or any(b[2] == word and not b[3] for b in file.bodies)
-        if is_free and not self.is_local(file, word, at):
+        if is_free:
             return self.row_for(file.crate, word, stem=file.stem)
         return None
 
     def is_local(self, file, word, at):
+        """Whether the function around this place binds the word: a parameter, or in a pattern."""
         body = file.body_at(at)
         said = file.shape[body[0] : body[1]] if body else ""
-        return bool(re.search(rf"(?:\b(?:let|mut|ref|in|for)\s+(?:mut\s+)?\(?|[|(,&]\s*)(?<!\.){word}\s*(?::(?!:)|=(?!=)|\||\bin\b|,[^;]*\)\s*=|,[^|]*\|)", said))
+        forms = (rf"\b{word}\s*:(?!:)", rf"\b(?:let|for)\b[^=;{{}}]*\b{word}\b", rf"\|[^|;{{}}()]*\b{word}\b[^|;{{}}()]*\|", rf"[({{,|&]\s*(?:ref\s+|mut\s+)*{word}\b[^=;{{}}\n]*\}}?\s*(?:if\b[^\n]*)?=>")
+        return any(re.search(form, said) for form in forms)
 
     def type_owner(self, file, name):
         for ghost, _, path, here, _ in file.uses:
@@ -564,14 +568,14 @@ class Naming:
         """The row for a method that is called, by the type of what it is called on."""
         seen = self.below(file.crate)
         among = {(crate, kind) for crate, kind in self.methods[word] if crate in seen}
-        rows = [self.row_for(crate, word, kind) for crate, kind in among]
+        rows = [self.row_for(crate, word, kind) for crate, kind in sorted(among)]
         news = {row and row.new.split("::")[-1] for row in rows}
         if news <= {None} or (len(news) == 1 and word not in kit_words()):
             return next((row for row in rows if row), None)
         kinds = self.receiver(file, at) if not is_path else set()
         those = {(crate, kind) for crate, kind in among if kind in kinds}
         those = those or {(crate, kind) for crate, kind in among if kind in {trait for it in kinds for trait in self.traits[it]}}
-        rows = [self.row_for(crate, word, kind) for crate, kind in those]
+        rows = [self.row_for(crate, word, kind) for crate, kind in sorted(those)]
         if len({row and row.new.split("::")[-1] for row in rows}) == 1:
             return rows[0]
         if word in kit_words() and not those:
