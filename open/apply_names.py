@@ -2,7 +2,7 @@
 """open/apply_names.py [--write] [--top FOLDER] TABLE: renames what the table lists in a working tree, and without --write says what it would change.
 
 It prints a line for each row: how often the old name was replaced; and then what it can't decide by itself: calls of methods of one name whose types it
-doesn't find, and names in documents that several crates have. It changes .rt and .antt files of all crates, the wrong bodies in must-fail/, edits/ and
+doesn't find, and names in documents that several crates have. It changes .rt and .antt files of all crates, the wrong bodies in must-fail/ and edits/, and
 tools/in-turn-wrong/, names in backquotes in documents and comments, the names of files and folders, `mod` lines and crates.txt. tools/naming.py says what a
 row means. Exit status: 0; 1 where a call is undecided, or a row replaces nothing; 2 for other words, or for a new name that is taken."""
 import os

@@ -11,12 +11,19 @@ import collections
 import functools
 import os
 import re
+import shutil
 
 import texts
 
 Row = collections.namedtuple("Row", "old new kind crate")
 WORD = re.compile(r"[A-Za-z_]\w*", re.ASCII)
 PATHS = r"crates/[^/]+/.*\.(rt|antt|edit)|tools/in-turn-wrong/.*\.edit|crates\.txt|README\.md|docs/[^/]+\.md|(share|examples)/.*\.md|Makefile|(tools|bench)/[^/]+"
+# Words that the languages themselves have.
+KEYWORDS = {"Type", "Self", "self", "where", "data", "record", "module", "mod", "use", "pub", "abbrev", "let", "in", "as", "elim", "rw", "simp", "cc", "omega", "grind", "search", "match", "move"}
+# Words of the protocol and of the program, which stand in backquotes for themselves.
+SPOKEN = set(
+    "actions boot cancel cat check create ctl disable enable end executed help link logs mask memory query remove reset restart run serve show start status stop sync tick unmask verify wait units jobs put".split()
+)
 APART = ("file", "module", "clause", "crate", "variant")
 
 
@@ -41,7 +48,8 @@ def read_table(path):
 def kit_words():
     """The names of functions in the kit, which a call in this repository may mean."""
     found = set()
-    for top, _, names in os.walk("/opt/rattle/rattle"):
+    kit = os.path.dirname(os.path.dirname(os.path.realpath(shutil.which("rt") or "/opt/rattle/bin/rt")))
+    for top, _, names in os.walk(f"{kit}/rattle"):
         for name in names:
             if name.endswith(".rt"):
                 with open(f"{top}/{name}", encoding="utf-8", errors="replace") as file:
@@ -204,7 +212,7 @@ class Naming:
         self.rows, self.uses_of, self.unsure, self.mixed, self.by_hand = rows, collections.Counter(), [], [], []
         self.all = files
         self.everywhere = {it.old: it for it in rows if not it.crate and it.kind not in APART and it.kind != "crate"}
-        self.clauses = {it.old: it for it in rows if it.kind == "clause"}
+        self.clauses = {(it.crate, it.old): it for it in rows if it.kind == "clause"}
         self.crates = {it.old: it for it in rows if it.kind == "crate"}
         self.of_file = {(it.crate, it.old): it for it in rows if it.kind == "file"}
         self.of_module = {(it.crate, it.old): it for it in rows if it.kind == "module"}
@@ -237,7 +245,7 @@ class Naming:
         kit = kit_words()
         for key, row in list(self.by_crate.items()):
             crate, is_definition, old = key
-            if "::" in old or "/" in crate or old in kit or row.new in said or sum(it.old.split("::")[-1] == old for it in self.by_crate.values()) > 1:
+            if "::" in old or "/" in crate or old in KEYWORDS or old in kit or row.new in said or sum(it.old.split("::")[-1] == old for it in self.by_crate.values()) > 1:
                 continue
             if stands[old] == {(crate, is_definition)} or (old[:1].isupper() and stands[old] == {(crate, False)}):
                 self.everywhere[old] = row
@@ -245,7 +253,7 @@ class Naming:
 
     def index(self):
         self.declared, self.methods, self.reexports, self.spec_names, self.fields = {}, collections.defaultdict(set), {}, {}, {}
-        self.folders, self.labels, self.traits = {}, collections.defaultdict(set), collections.defaultdict(set)
+        self.folders, self.labels, self.traits = {}, collections.defaultdict(dict), collections.defaultdict(set)
         self.stems = {(it.crate, it.stem) for it in self.texts.values() if it.room == "src"}
         self.modules = {(it.crate, it.room, it.stem) for it in self.texts.values() if it.is_antt}
         for it in self.texts.values():
@@ -264,7 +272,7 @@ class Naming:
                         self.declared.setdefault((it.crate, name), it.path)
                     self.folders[(it.crate, it.stem, folder, name)] = (it, begin)
                     for m in re.finditer(r"\b(?:requires|ensures)\s+(\w+)\s*\{", it.shape[begin:opens]):
-                        self.labels[name].add(m[1])
+                        self.labels[name].setdefault(m[1], set()).add((it.crate, it.stem))
                 for ghost, is_pub, path, name, _ in it.uses:
                     if is_pub and not ghost:
                         self.reexports[(it.crate, name)] = [word for word, _ in path]
@@ -276,7 +284,11 @@ class Naming:
             home = self.declared.get((crate, owner), file.path) if owner and folder == owner else file.path
             stem = self.texts[home].stem
             placed[(crate, "/".join(filter(None, [stem if stem not in ("lib", "main") else "", folder, name])))] = (file, begin)
-        self.folders = placed
+        self.folders, self.proofs = placed, collections.defaultdict(list)
+        for it in self.texts.values():
+            place = it.room == "proofs" and placed.get((it.crate, it.stem.rpartition("/")[0].replace("/+", "/")))
+            if place:
+                self.proofs[(place[0].path, place[1])].append(it)
         self.spec_reexports = {}
         for it in self.texts.values():
             if it.is_antt:
@@ -305,13 +317,15 @@ class Naming:
         return self.owner_of(first, path[-1], hops + 1) if (first, path[-1]) != (crate, name) else (crate, name)
 
     def ghost_owner(self, path, hops=0):
-        """The row for what a path `Rattle.um_x...name` leads to, through what is handed on."""
+        """The row for what a path `Rattle.um_x...name` leads to, through re-exports."""
         crate, room, name = path[1], path[2] if len(path) > 2 else "", path[-1]
         other = self.spec_reexports.get((crate, room, "/".join(path[3:-1]), name))
         if other and hops < 8 and other[0] == "Rattle":
             return self.ghost_owner(other, hops + 1)
         if "TheVariants" in path[:-1]:
             return self.variants.get((crate, name))
+        if len(path) > 4 and path[3] == "contracts":
+            return self.row_for(crate, name, stem=path[4]) if (crate, name) in self.declared else self.derived_row(crate, name)
         if len(path) > 4 and path[3] == "declared":
             return self.row_for(crate, name, stem=path[4]) if name[:1].isupper() else None
         stem = "/".join(path[3:-1])
@@ -348,7 +362,10 @@ class Naming:
             elif row.kind == "module":
                 is_taken = any(it[0] == row.crate and it[2] == new for it in self.modules) and any(it[0] == row.crate and it[2] == row.old for it in self.modules if (it[0], it[1], new) in self.modules) and (row.crate, new) not in self.of_module
             elif row.kind == "clause":
-                is_taken = any({row.old, new} <= labels for labels in self.labels.values()) and new not in self.clauses
+                is_taken = any(
+                    {row.old, new} <= {*labels} and any(not row.crate or f"{crate}/{stem}".startswith(row.crate) for crate, stem in labels[row.old] & labels[new])
+                    for labels in self.labels.values()
+                )
             elif row.crate and "/" not in row.crate and row.kind not in APART:
                 is_taken = self.is_taken(row, new, kind)
             else:
@@ -380,7 +397,7 @@ class Naming:
             return
         if is_ghost:
             crate, start = words[1][0], 3
-            if len(words) > 2 and words[2][0] == "specs" and len(words) > 3 and words[3][0] == "declared":
+            if len(words) > 3 and words[2][0] == "specs" and words[3][0] in ("declared", "contracts"):
                 start = 4
         else:
             crate, start = (file.crate, 0) if words[0][0] in file.mods else (file.crate, 1) if words[0][0] in ("crate", "self", "super") else (words[0][0], 1)
@@ -402,7 +419,9 @@ class Naming:
             elif is_ghost:
                 so = [it for it, _ in words[: k + 1]]
                 row = None
-                if is_code and words[2][0] == "proofs" and (word in self.words or word[:1].isupper()):
+                if words[3][0] == "contracts" and word[:1].isupper():
+                    row = self.ghost_owner(so)
+                elif is_code and words[2][0] == "proofs" and (word in self.words or word[:1].isupper()):
                     row = self.folder_row(crate, [it for it, _ in words[3:k]], word)
                 elif word in self.words:
                     row = self.ghost_owner(so)
@@ -468,7 +487,7 @@ class Naming:
                 continue
             before, after = file.shape[max(0, at - 200) : at].rstrip(), file.shape[it.end() : it.end() + 40].lstrip()
             if is_in(file.ghosts, at):
-                row = self.ghost_row(file, word, at, before, ghosts, aliases)
+                row = self.ghost_row(file, word, at, file.shape[max(0, at - 200) : at], ghosts, aliases)
             else:
                 row = self.rust_row(file, word, at, before, after, brought)
             if row:
@@ -521,19 +540,21 @@ class Naming:
             return self.row_for(file.crate, word, stem=file.stem)
         is_call = bool(re.match(r"\(|::<", after))
         is_value = bool(re.search(r"[(,=]$", before) and re.match(r"[),;]", after)) and not self.is_local(file, word, at)
-        if not (is_call or is_value):
+        if not (is_call or is_value) or (not is_call and self.is_local(file, word, at)):
             return None
         if word in brought:
             return brought[word]
         is_free = self.declared.get((file.crate, word)) == file.path or any(b[2] == word and not b[3] for b in file.bodies)
-        if is_free and not self.is_local(file, word, at):
+        if is_free:
             return self.row_for(file.crate, word, stem=file.stem)
         return None
 
     def is_local(self, file, word, at):
+        """Whether the function around this place binds the word: a parameter, or in a pattern."""
         body = file.body_at(at)
         said = file.shape[body[0] : body[1]] if body else ""
-        return bool(re.search(rf"(?:\b(?:let|mut|ref|in|for)\s+(?:mut\s+)?\(?|[|(,&]\s*)(?<!\.){word}\s*(?::(?!:)|=(?!=)|\||\bin\b|,[^;]*\)\s*=|,[^|]*\|)", said))
+        forms = (rf"\b{word}\s*:(?!:)", rf"\b(?:let|for)\b[^=;{{}}]*\b{word}\b", rf"\|[^|;{{}}()]*\b{word}\b[^|;{{}}()]*\|", rf"[({{,|&]\s*(?:ref\s+|mut\s+)*{word}\b[^=;{{}}\n]*\}}?\s*(?:if\b[^\n]*)?=>")
+        return any(re.search(form, said) for form in forms)
 
     def type_owner(self, file, name):
         for ghost, _, path, here, _ in file.uses:
@@ -547,14 +568,14 @@ class Naming:
         """The row for a method that is called, by the type of what it is called on."""
         seen = self.below(file.crate)
         among = {(crate, kind) for crate, kind in self.methods[word] if crate in seen}
-        rows = [self.row_for(crate, word, kind) for crate, kind in among]
+        rows = [self.row_for(crate, word, kind) for crate, kind in sorted(among)]
         news = {row and row.new.split("::")[-1] for row in rows}
         if news <= {None} or (len(news) == 1 and word not in kit_words()):
             return next((row for row in rows if row), None)
         kinds = self.receiver(file, at) if not is_path else set()
         those = {(crate, kind) for crate, kind in among if kind in kinds}
         those = those or {(crate, kind) for crate, kind in among if kind in {trait for it in kinds for trait in self.traits[it]}}
-        rows = [self.row_for(crate, word, kind) for crate, kind in those]
+        rows = [self.row_for(crate, word, kind) for crate, kind in sorted(those)]
         if len({row and row.new.split("::")[-1] for row in rows}) == 1:
             return rows[0]
         if word in kit_words() and not those:
@@ -701,7 +722,7 @@ class Naming:
             for word, ats in places.items():
                 news = {file.edits[at][1] for at in ats if at in file.edits and not is_in(file.ghosts, at)}
                 rest = [at for at in ats if at not in file.edits]
-                if len(news) != 1 or not rest:
+                if len(news) != 1 or not rest or not any(re.search(rf"(?<!\w){word}(?!\w)", it.shape) for it in self.proofs[(file.path, begin)]):
                     continue
                 is_field = any(re.search(r"\.$", file.shape[begin:at]) and not is_in(file.ghosts, at) or re.match(rf"{word}\s*:[^:]", file.shape[at:]) and re.search(r"[{{,]\s*$", file.shape[begin:at]) for at in rest)
                 if is_field or (all(is_in(file.ghosts, at) for at in rest)):
@@ -718,7 +739,7 @@ class Naming:
             return
         steps, body = self.steps_of(*place)
         calls = set(re.findall(r"\b([a-z_]\w*)(?=\s*(?:\(|::<))", place[0].shape[body[0] : body[1]])) | {body[2]}
-        labels = {label: row for label, row in self.clauses.items() if any(label in self.labels[it] for it in calls)}
+        labels = {label for _, label in self.clauses if any(label in self.labels[it] for it in calls)}
         if not steps and not labels:
             return
         goals = set(re.findall(r"\bgoal\.([\w-]+)", file.shape)) | set(re.findall(r"^(?:pub\s+|abbrev\s+)*([a-z][\w-]*)\s*:\s*goal\.", file.shape, re.MULTILINE))
@@ -733,18 +754,19 @@ class Naming:
             is_step = it[0] in goals or bool(after) or (front and front[1] in ("c", "l", "goal"))
             offset, words = it.start(), it[0].split("-")
             for k, word in enumerate(words):
-                if word in steps and offset not in file.edits and not (k and words[k - 1] == "clause"):
+                is_label = (k and words[k - 1] == "clause") or (len(words) == 1 and front and re.search(r"(^|\.)(ensures|requires)$", front[1]))
+                if is_label:
+                    if word in labels and offset not in file.edits:
+                        self.rename_label(file, offset, word, words[:k], front[1] if front else "", calls, place[0])
+                elif word in steps and offset not in file.edits and is_step:
                     news = steps[word]
-                    if len(news) == 1 and is_step:
+                    if len(news) == 1:
                         self.edit_word(file, offset, word, next(iter(news)))
-                    elif is_step:
+                    else:
                         row = next(it for it in news if it)
                         self.mixed.append((file.path, file.shape.count("\n", 0, offset) + 1, it[0], word, row))
                         if k == 0 or (k == 1 and words[0].startswith(("in_ok", "in_err", "if", "returns", "decreases"))):
                             self.edit_word(file, offset, word, row)
-                elif word in labels and offset not in file.edits:
-                    if (k and words[k - 1] == "clause") or (len(words) == 1 and front and re.search(r"\.(ensures|requires)$|^c\.requires$", front[1])):
-                        self.put(file, offset, labels[word])
                 offset += len(word) + 1
 
     def edit_word(self, file, at, old, new):
@@ -754,9 +776,36 @@ class Naming:
                 self.uses_of[row] += 1
                 return
 
+    def label_row(self, crate, stem, label):
+        """The row for the name of a clause of a function in this file."""
+        return self.clauses.get((f"{crate}/{stem}", label)) or self.clauses.get((crate, label)) or self.clauses.get(("", label))
+
+    def rename_label(self, file, at, label, before, front, calls, code):
+        """The name of a clause in a proof: of the function itself in its goals, or of one that it calls."""
+        own = before and "requires" not in before
+        step = re.search(r"([\w'-]+)\.(?:ensures|requires)$", front)
+        first = before[0] if before else step[1].split("-")[0] if step else ""
+        names = {first} if first in calls and label in self.labels[first] else {it for it in calls if label in self.labels[it]}
+        seen = self.below(file.crate)
+        places = {(file.crate, code.stem)} if own or front in ("c.requires", "requires") else {it for name in names for it in self.labels[name][label] if it[0] in seen}
+        for name in names:
+            path = next((path for ghost, _, path, here, _ in code.uses if not ghost and here == name), None)
+            owner = file.crate if (file.crate, name) in self.declared else path and self.owner_of(path[0][0] if path[0][0] in self.needs else file.crate, path[-1][0])[0]
+            if owner and any(crate == owner for crate, _ in self.labels[name][label]):
+                places -= {it for it in self.labels[name][label] if it[0] != owner}
+        rows = {self.label_row(crate, stem, label) for crate, stem in places}
+        if len({row and row.new for row in rows}) == 1:
+            row = rows.pop()
+            if row:
+                self.put(file, at, row)
+        elif rows:
+            line = file.shape.count("\n", 0, at) + 1
+            self.unsure.append((file.path, line, label, sorted(places), file.text.split("\n")[line - 1].strip()))
+
     def rename_labels(self, file):
+        """The names of clauses where they stand."""
         for it in re.finditer(r"\b(?:requires|ensures)\s+(\w+)\s*\{", file.shape):
-            if row := self.clauses.get(it[1]):
+            if row := self.label_row(file.crate, file.stem, it[1]):
                 self.put(file, it.start(1), row)
 
     # ---- all of it
@@ -817,6 +866,15 @@ class Naming:
                 return new[1] if new else None
         return self.row_for(crate, word, kind)
 
+    def derived_row(self, crate, word):
+        """`TypeTrait`, what a type derives, as a row."""
+        for k in range(2, len(word)):
+            if word[k].isupper() and (crate, word[:k]) in self.declared:
+                row = self.everywhere.get(word[:k]) or self.row_for(crate, word[:k])
+                if row:
+                    return Row(word, row.new + word[k:], row.kind, row.crate)
+        return None
+
     def joined_types(self, crate, word):
         """`TypeTrait`, the folder of what a type does for a trait; None where neither is renamed."""
         for k in range(2, len(word)):
@@ -835,9 +893,20 @@ class Naming:
         def within(it):
             def word(m):
                 said, name = it[0], m[0]
+                front = re.search(r"(\w+)(?:::|\.)$", said[: m.start()])
                 row = self.everywhere.get(name)
+                if re.fullmatch("[a-z]+", name) and not front and not said[m.end() :].startswith("(") and (not crate or name in SPOKEN or (row and row.crate != crate)):
+                    return name
+                behind = re.match(r"::(\w+)", said[m.end() :])
+                owners = {owner for owner, kind in self.methods[behind[1]] if kind == name} if behind else set()
+                holders = {owner for owner, kind in self.methods[name] if kind == front[1]} if front else set()
+                if not row and name in self.words and (len(owners) == 1 or holders):
+                    known = {self.row_for(owner, name) for owner in owners} if owners else {self.row_for(owner, name, front[1]) for owner in holders}
+                    if len(known) == 1:
+                        row = known.pop()
+                        if not row:
+                            return name
                 if not row and name in self.words:
-                    front = re.search(r"(\w+)(?:::|\.)$", said[: m.start()])
                     rows = [row for row in self.by_crate.values() if row.old.split("::")[-1] == name]
                     named = [row for row in rows if front and (row.crate == front[1] or row.old.startswith(front[1] + "::"))]
                     own = [row for row in rows if row.crate == crate]
@@ -949,7 +1018,11 @@ class Naming:
             if not file.is_rust:
                 continue
             for begin, end, name, *_ in file.bodies:
-                here = {(file.text[at:to], new) for at, (to, new) in file.edits.items() if begin <= at < end and re.fullmatch(r"[a-z_]\w*", new)}
+                here = {
+                    (file.text[at:to], new)
+                    for at, (to, new) in file.edits.items()
+                    if begin <= at < end and re.fullmatch(r"[a-z_]\w*", new) and not re.search(r"\b(?:ensures|requires)\s+$", file.shape[max(0, at - 12) : at])
+                }
                 for old, new in sorted(here):
                     if re.search(rf"\b{new}\b", file.shape[begin:end]):
                         found.append(f"{file.path}:{file.shape.count(chr(10), 0, begin) + 1}: {name}: {new} stands there beside {old}")

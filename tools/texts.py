@@ -92,7 +92,7 @@ def python_comment_lines(text):
 
 
 def document_lines(text):
-    """The prose of a document as pairs of a number of a line and the line: without fenced and indented blocks, which quote what is typed or printed."""
+    """The prose of a document as pairs of a number of a line and the line: without fenced and indented blocks, which quote programs."""
     fence, was_empty, in_block = None, True, False
     for number, line in enumerate(text.split("\n"), 1):
         begins = re.match(r"\s*(```+|~~~+)", line)
