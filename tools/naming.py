@@ -255,6 +255,7 @@ class Naming:
     def index(self):
         self.declared, self.methods, self.reexports, self.spec_names, self.fields = {}, collections.defaultdict(set), {}, {}, {}
         self.folders, self.labels, self.traits, self.homes = {}, collections.defaultdict(dict), collections.defaultdict(set), collections.defaultdict(set)
+        self.synonyms, self.trait_names, self.renamed_locals = {}, set(), collections.defaultdict(set)
         self.stems = {(it.crate, it.stem) for it in self.texts.values() if it.room == "src"}
         self.modules = {(it.crate, it.room, it.stem) for it in self.texts.values() if it.is_antt}
         for it in self.texts.values():
@@ -262,6 +263,10 @@ class Naming:
                 for m in re.finditer(r"\b(?:struct|enum|trait|type|const|static)\s+(\w+)", it.shape):
                     if not is_in(it.inner, m.start()):
                         self.declared.setdefault((it.crate, m[1]), it.path)
+                        if m[0].startswith("type"):
+                            self.synonyms[(it.crate, m[1])] = it.shape[m.end() : it.shape.find(";", m.end())]
+                        if m[0].startswith("trait"):
+                            self.trait_names.add(m[1])
                 for m in re.finditer(r"\bstruct\s+(\w+)[^{;]*\{", it.shape):
                     for f in re.finditer(r"(\w+)\s*:\s*([^,}]+)", it.shape[m.end() : close_of(it.shape, m.end() - 1)]):
                         self.fields[(it.crate, m[1], f[1])] = f[2]
@@ -617,12 +622,14 @@ class Naming:
                 return self.kinds_of(file, body, said[opens + 1 : -1], hops + 1)
             if called[1] and called[1] not in ("Some", "Ok", "Err"):
                 return {called[1]} | ({body[3]} if called[1] == "Self" else set())
-            if called[2] in ("as_mut", "as_ref", "borrow", "borrow_mut", "try_borrow", "try_borrow_mut", "take", "unwrap", "clone"):
+            if called[2] in ("expect", "as_mut", "as_ref", "borrow", "borrow_mut", "try_borrow", "try_borrow_mut", "take", "unwrap", "clone"):
                 return self.kinds_of(file, body, re.sub(r"\.\s*$", "", said[: called.start()]), hops + 1)
             found = self.results(file, body, called[2])
-            if said[: called.start(2)].rstrip().endswith(".") and any(len(it) <= 2 for it in found):
-                # a type parameter of what it is called on
-                found |= self.kinds_of(file, body, re.sub(r"\.\s*$", "", said[: called.start(2)].rstrip()), hops + 1)
+            if any(len(it) <= 2 for it in found):
+                # a type parameter: of what it is called on, or of what it is given
+                front = said[: called.start(2)].rstrip()
+                for it in [front[:-1]] if front.endswith(".") else said[opens + 1 : -1].split(","):
+                    found |= self.kinds_of(file, body, it.strip(), hops + 1)
             return found
         chain = re.search(r"((?:[A-Za-z_]\w*)(?:\s*\.\s*[A-Za-z_]\w*|\[[^\[\]]*\])*)$", said)
         if not chain:
@@ -647,6 +654,8 @@ class Naming:
     def names_in(self, said, body, file):
         """The names of types in a text; of a type parameter the traits that bound it."""
         names = set(re.findall(r"\b[A-Z]\w*", said))
+        for it in list(names):
+            names |= set(re.findall(r"\b[A-Z]\w*", self.synonyms.get((file.crate, it), "")))
         heads = f"{body[5]} {file.shape[body[0] : body[6]]} " + " ".join(re.findall(r"\bstruct\s+\w+\s*<[^{;]*\{", file.shape))
         for it in list(names):
             if len(it) <= 2:
@@ -684,6 +693,8 @@ class Naming:
         if before.endswith(".") and before[-2:-1].isascii() and re.search(r"\w\.$", before):
             chain = re.search(r"([A-Za-z_][\w']*)\.$", before)
             path = aliases.get(chain[1]) if chain else None
+            if not path and chain and word in self.trait_names and re.fullmatch(r"[A-Z]\w?|Self", chain[1]):
+                return self.bound_row(file, word)
             if not path or re.search(r"[\w']\.$", before[: chain.start()]):
                 return None
             return self.ghost_owner([*path, word]) if path[1] in self.needs else None
@@ -699,6 +710,11 @@ class Naming:
         if file.is_antt and file.room == "specs" and word in file.declares:
             return self.row_for(file.crate, word, is_definition=True, stem=file.stem)
         return None
+
+    def bound_row(self, code, word):
+        """The row for a trait that a bound of this file's code names, as in `T.Trait.member`."""
+        brought = self.brought_in(code, False)
+        return brought[word] if word in brought else self.everywhere.get(word) or self.row_for(code.crate, word, stem=code.stem)
 
     def rename_antt(self, file):
         ghosts, aliases = self.brought_in(file, True), self.aliases(file)
@@ -746,6 +762,7 @@ class Naming:
                     continue
                 new = next(iter(news))
                 for at in rest:
+                    self.renamed_locals[(file.path, begin)].add(word)
                     if not re.search(r"\.$", file.shape[begin:at]):
                         file.edit(at, word, f"{word}: {new}" if self.is_short_field(file, begin, at, word) else new)
 
@@ -770,21 +787,30 @@ class Naming:
         place = self.folders.get((file.crate, "/".join(parts).replace("/+", "/")))
         if not place:
             return
+        for it in re.finditer(r"(?<![\w'])(?:[A-Z]\w?|Self)\.([A-Z]\w*)", file.shape):
+            if it[1] in self.trait_names and it.start(1) not in file.edits and (row := self.bound_row(place[0], it[1])):
+                self.put(file, it.start(1), row)
         steps, body = self.steps_of(*place)
+        variables = self.renamed_locals[(place[0].path, place[1])]
         calls = set(re.findall(r"\b([a-z_]\w*)(?=\s*(?:\(|::<))", place[0].shape[body[0] : body[1]])) | {body[2]}
         labels = {label for _, label in self.clauses if any(label in self.labels[it] for it in calls)}
         if not steps and not labels:
             return
         goals = set(re.findall(r"\bgoal\.([\w-]+)", file.shape)) | set(re.findall(r"^(?:pub\s+|abbrev\s+)*([a-z][\w-]*)\s*:\s*goal\.", file.shape, re.MULTILINE))
+        brought = [it for it in file.spans if re.search(r"\.(?:Goals|Given)\.", file.shape[it[0] : it[1]])]
+        for begin, end in brought:
+            goals.update(re.findall(r"[A-Za-z_][\w'-]*", file.shape[begin:end].rpartition("{")[2]))
         for it in re.finditer(r"[A-Za-z_][\w'-]*", file.shape, re.ASCII):
-            if is_in(file.spans, it.start()):
+            if is_in(file.spans, it.start()) and not (is_in(brought, it.start()) and it[0] in goals and re.search(r"[{,+.]\s*$", file.shape[: it.start()][-3:])):
                 continue
             is_member = file.shape[it.start() - 1 : it.start()] == "." and re.match(r"[\w')]", file.shape[it.start() - 2 : it.start() - 1])
             if not is_member and it[0] not in goals:
                 continue
             front = re.search(r"([\w'.-]+)\.$", file.shape[max(0, it.start() - 120) : it.start()])
             after = re.match(r"\.(result|ensures|new|requires|old|true|false|is|was)\b", file.shape[it.end() : it.end() + 12])
-            is_step = it[0] in goals or bool(after) or (front and front[1] in ("c", "l", "goal"))
+            is_step = it[0] in goals or bool(after) or (front and front[1] in ("c", "l", "goal")) or (is_member and "-" in it[0])
+            if it[0] in variables and front and re.search(r"(?:^|\.)(?:args|initial|fn|(?:in|in_ok|in_err|loop|if|match|then|else)[-\w]*)$", front[1]):
+                is_step = True
             offset, words = it.start(), it[0].split("-")
             for k, word in enumerate(words):
                 is_label = (k and words[k - 1] == "clause") or (len(words) == 1 and front and re.search(r"(^|\.)(ensures|requires)$", front[1]))
