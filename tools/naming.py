@@ -113,7 +113,7 @@ class File:
         self.is_rust, self.is_antt = path.endswith(".rt"), path.endswith(".antt")
         form = texts.RUST if self.is_rust else texts.ANTT
         self.shape = texts.blanked(text, ("comment", "block", "string"), form) if self.is_rust or self.is_antt else text
-        self.uses, self.spans, self.ghosts, self.bodies, self.enums, self.mods = [], [], [], [], [], set()
+        self.uses, self.spans, self.ghosts, self.bodies, self.enums, self.inner, self.mods = [], [], [], [], [], [], set()
         if self.is_rust:
             self.read_rust()
         elif self.is_antt:
@@ -141,6 +141,7 @@ class File:
             if it["block"]:
                 opens = self.first_of(at, "{;")
                 closes = close_of(self.shape, opens)
+                self.inner.append((opens, closes))
                 said = self.shape[it.start() : opens]
                 plain = re.sub(r"<[^<>]*>", "", re.sub(r"<[^<>]*>", "", re.sub(r"<[^<>]*>", "", said)))
                 made = re.match(r"(?:impl|trait)\s+(?:(?P<trait>[\w:]+)\s+for\s+)?&?(?:mut\s+)?(?P<type>[\w:]+)", plain)
@@ -253,19 +254,26 @@ class Naming:
 
     def index(self):
         self.declared, self.methods, self.reexports, self.spec_names, self.fields = {}, collections.defaultdict(set), {}, {}, {}
-        self.folders, self.labels, self.traits = {}, collections.defaultdict(dict), collections.defaultdict(set)
+        self.folders, self.labels, self.traits, self.homes = {}, collections.defaultdict(dict), collections.defaultdict(set), collections.defaultdict(set)
+        self.synonyms, self.trait_names, self.renamed_locals = {}, set(), collections.defaultdict(set)
         self.stems = {(it.crate, it.stem) for it in self.texts.values() if it.room == "src"}
         self.modules = {(it.crate, it.room, it.stem) for it in self.texts.values() if it.is_antt}
         for it in self.texts.values():
             if it.is_rust and it.room == "src":
                 for m in re.finditer(r"\b(?:struct|enum|trait|type|const|static)\s+(\w+)", it.shape):
-                    self.declared.setdefault((it.crate, m[1]), it.path)
+                    if not is_in(it.inner, m.start()):
+                        self.declared.setdefault((it.crate, m[1]), it.path)
+                        if m[0].startswith("type"):
+                            self.synonyms[(it.crate, m[1])] = it.shape[m.end() : it.shape.find(";", m.end())]
+                        if m[0].startswith("trait"):
+                            self.trait_names.add(m[1])
                 for m in re.finditer(r"\bstruct\s+(\w+)[^{;]*\{", it.shape):
                     for f in re.finditer(r"(\w+)\s*:\s*([^,}]+)", it.shape[m.end() : close_of(it.shape, m.end() - 1)]):
                         self.fields[(it.crate, m[1], f[1])] = f[2]
                 for begin, _, name, owner, folder, _, opens in it.bodies:
                     if owner and folder == owner:
                         self.methods[name].add((it.crate, owner))
+                        self.homes[(it.crate, owner, name)].add(it.stem)
                     elif owner:
                         self.traits[owner].add(folder[len(owner) :])
                     else:
@@ -336,7 +344,8 @@ class Naming:
     def row_for(self, crate, name, kind="", is_definition=False, stem=""):
         """The row for what a crate declares: of a method with its type, of a file that is named beside the crate."""
         for old in ([f"{kind}::{name}"] if kind else []) + [name]:
-            for place in ([f"{crate}/{stem}"] if stem else []) + [crate]:
+            homes = sorted(self.homes.get((crate, kind, name), ())) if kind else []
+            for place in ([f"{crate}/{stem}"] if stem else []) + [f"{crate}/{home}" for home in homes] + [crate]:
                 if (place, is_definition, old) in self.by_crate:
                     row = self.by_crate[(place, is_definition, old)]
                     if "::" in old or not name[:1].islower() or row.kind not in ("function", "method") or (row.kind == "method") == ((crate, kind) in self.methods[name]):
@@ -521,6 +530,8 @@ class Naming:
             return None
         if before.endswith(".") and not before.endswith(".."):
             return self.member_row(file, word, at, before, False) if re.match(r"\(|::<", after) else None
+        if word[:1].isupper() and self.is_associated(file, at, before, after):
+            return None
         if word[:1].isupper():
             inside = [it for it in file.enums if it[0] <= at < it[1]]
             if inside and re.search(r"[{,\]]$", before) and re.match(r"[,({}]|$", after):
@@ -539,7 +550,7 @@ class Naming:
                 return self.row_for(file.crate, word, body[3], stem=file.stem)
             return self.row_for(file.crate, word, stem=file.stem)
         is_call = bool(re.match(r"\(|::<", after))
-        is_value = bool(re.search(r"[(,=]$", before) and re.match(r"[),;]", after)) and not self.is_local(file, word, at)
+        is_value = bool(re.search(r"[(,=]$", before) and re.match(r"[),;]", after)) and not self.is_local(file, word, at) and not self.is_short_field(file, max(0, at - 600), at, word)
         if not (is_call or is_value) or (not is_call and self.is_local(file, word, at)):
             return None
         if word in brought:
@@ -549,11 +560,15 @@ class Naming:
             return self.row_for(file.crate, word, stem=file.stem)
         return None
 
+    def is_associated(self, file, at, before, after):
+        """Whether a type's name belongs to a trait: `type Item = ..` in its block, `Iterator<Item = ..>`."""
+        return (bool(re.search(r"\btype$", before)) and is_in(file.inner, at)) or (bool(re.search(r"[<,]$", before)) and bool(re.match(r"=[^=]", after)))
+
     def is_local(self, file, word, at):
         """Whether the function around this place binds the word: a parameter, or in a pattern."""
         body = file.body_at(at)
         said = file.shape[body[0] : body[1]] if body else ""
-        forms = (rf"\b{word}\s*:(?!:)", rf"\b(?:let|for)\b[^=;{{}}]*\b{word}\b", rf"\|[^|;{{}}()]*\b{word}\b[^|;{{}}()]*\|", rf"[({{,|&]\s*(?:ref\s+|mut\s+)*{word}\b[^=;{{}}\n]*\}}?\s*(?:if\b[^\n]*)?=>")
+        forms = (rf"\b{word}\s*:(?!:)", rf"\b(?:let|for)\b[^=;{{}}]*\b{word}\b", rf"\blet\b[^=;]*\b{word}\b[^=;]*=", rf"\|[^|;{{}}()]*\b{word}\b[^|;{{}}()]*\|", rf"[({{,|&]\s*(?:ref\s+|mut\s+)*{word}\b[^=;{{}}\n]*\}}?\s*(?:if\b[^\n]*)?=>")
         return any(re.search(form, said) for form in forms)
 
     def type_owner(self, file, name):
@@ -592,7 +607,7 @@ class Naming:
 
     def kinds_of(self, file, body, said, hops):
         """The names of types of the expression that a text ends with."""
-        said = re.sub(r"[?\s]+$", "", said)
+        said = re.sub(r"[?\s]+$", "", re.sub(r"\selse\s*$", "", said))
         if hops > 6:
             return set()
         if said.endswith(")"):
@@ -607,9 +622,15 @@ class Naming:
                 return self.kinds_of(file, body, said[opens + 1 : -1], hops + 1)
             if called[1] and called[1] not in ("Some", "Ok", "Err"):
                 return {called[1]} | ({body[3]} if called[1] == "Self" else set())
-            if called[2] in ("as_mut", "as_ref", "borrow", "borrow_mut", "try_borrow", "try_borrow_mut", "take", "unwrap", "clone"):
+            if called[2] in ("expect", "as_mut", "as_ref", "borrow", "borrow_mut", "try_borrow", "try_borrow_mut", "take", "unwrap", "clone"):
                 return self.kinds_of(file, body, re.sub(r"\.\s*$", "", said[: called.start()]), hops + 1)
-            return self.results(file, body, called[2])
+            found = self.results(file, body, called[2])
+            if any(len(it) <= 2 for it in found):
+                # a type parameter: of what it is called on, or of what it is given
+                front = said[: called.start(2)].rstrip()
+                for it in [front[:-1]] if front.endswith(".") else said[opens + 1 : -1].split(","):
+                    found |= self.kinds_of(file, body, it.strip(), hops + 1)
+            return found
         chain = re.search(r"((?:[A-Za-z_]\w*)(?:\s*\.\s*[A-Za-z_]\w*|\[[^\[\]]*\])*)$", said)
         if not chain:
             return set()
@@ -633,6 +654,8 @@ class Naming:
     def names_in(self, said, body, file):
         """The names of types in a text; of a type parameter the traits that bound it."""
         names = set(re.findall(r"\b[A-Z]\w*", said))
+        for it in list(names):
+            names |= set(re.findall(r"\b[A-Z]\w*", self.synonyms.get((file.crate, it), "")))
         heads = f"{body[5]} {file.shape[body[0] : body[6]]} " + " ".join(re.findall(r"\bstruct\s+\w+\s*<[^{;]*\{", file.shape))
         for it in list(names):
             if len(it) <= 2:
@@ -670,6 +693,8 @@ class Naming:
         if before.endswith(".") and before[-2:-1].isascii() and re.search(r"\w\.$", before):
             chain = re.search(r"([A-Za-z_][\w']*)\.$", before)
             path = aliases.get(chain[1]) if chain else None
+            if not path and chain and word in self.trait_names and re.fullmatch(r"[A-Z]\w?|Self", chain[1]):
+                return self.bound_row(file, word)
             if not path or re.search(r"[\w']\.$", before[: chain.start()]):
                 return None
             return self.ghost_owner([*path, word]) if path[1] in self.needs else None
@@ -685,6 +710,11 @@ class Naming:
         if file.is_antt and file.room == "specs" and word in file.declares:
             return self.row_for(file.crate, word, is_definition=True, stem=file.stem)
         return None
+
+    def bound_row(self, code, word):
+        """The row for a trait that a bound of this file's code names, as in `T.Trait.member`."""
+        brought = self.brought_in(code, False)
+        return brought[word] if word in brought else self.everywhere.get(word) or self.row_for(code.crate, word, stem=code.stem)
 
     def rename_antt(self, file):
         ghosts, aliases = self.brought_in(file, True), self.aliases(file)
@@ -708,28 +738,48 @@ class Naming:
         found = collections.defaultdict(set)
         for it in WORD.finditer(file.shape, body[0], body[1]):
             if it[0] in self.words and not is_in(file.ghosts, it.start()) and not re.search(r"\b(?:ensures|requires)\s+$", file.shape[: it.start()][-12:]):
+                if self.is_declared_at(file, it.start()):
+                    continue
                 new = file.edits.get(it.start())
-                found[it[0]].add(new[1] if new else None)
+                found[it[0]].add(new[1].split(": ")[-1] if new else None)
         return {word: news for word, news in found.items() if news != {None}}, body
 
     def rename_locals(self, file):
-        """Variables that have the name of a function that their own function calls: they are renamed with it, since a proof names both alike."""
+        """Variables that have the name of a function that their own function calls: they are renamed with it, since a proof names both alike. A field
+        keeps its name, so one that is written short gets it: `field: variable`."""
         for begin, end, *_ in file.bodies:
             places = collections.defaultdict(list)
             for it in WORD.finditer(file.shape, begin, end):
                 if it[0] in self.words and it[0][:1].islower() and not re.search(r"\b(?:ensures|requires)\s+$", file.shape[: it.start()][-12:]):
                     places[it[0]].append(it.start())
             for word, ats in places.items():
-                news = {file.edits[at][1] for at in ats if at in file.edits and not is_in(file.ghosts, at)}
-                rest = [at for at in ats if at not in file.edits]
+                news = {file.edits[at][1] for at in ats if at in file.edits and not is_in(file.ghosts, at) and not self.is_declared_at(file, at)}
+                rest = [at for at in ats if at not in file.edits and not self.is_declared_at(file, at) and not re.search(r"::\s*$", file.shape[begin:at])]
                 if len(news) != 1 or not rest or not any(re.search(rf"(?<!\w){word}(?!\w)", it.shape) for it in self.proofs[(file.path, begin)]):
                     continue
                 is_field = any(re.search(r"\.$", file.shape[begin:at]) and not is_in(file.ghosts, at) or re.match(rf"{word}\s*:[^:]", file.shape[at:]) and re.search(r"[{{,]\s*$", file.shape[begin:at]) for at in rest)
                 if is_field or (all(is_in(file.ghosts, at) for at in rest)):
                     continue
+                new = next(iter(news))
                 for at in rest:
+                    self.renamed_locals[(file.path, begin)].add(word)
                     if not re.search(r"\.$", file.shape[begin:at]):
-                        file.edit(at, word, next(iter(news)))
+                        file.edit(at, word, f"{word}: {new}" if self.is_short_field(file, begin, at, word) else new)
+
+    def is_declared_at(self, file, at):
+        """Whether the word is the name of the function that is declared here."""
+        return bool(re.search(r"\bfn\s+$", file.shape[max(0, at - 20) : at]))
+
+    def is_short_field(self, file, begin, at, word):
+        """Whether the word is a field and its value in one, in the braces of a struct's value or pattern."""
+        if not re.search(r"[{,]\s*(?:(?:ref|mut)\s+)*$", file.shape[begin:at]) or not re.match(r"\s*[,}]", file.shape[at + len(word) :]):
+            return False
+        depth = 0
+        for k in range(at - 1, begin, -1):
+            depth += {")": 1, "]": 1, "}": 1, "(": -1, "[": -1, "{": -1}.get(file.shape[k], 0)
+            if depth < 0:
+                return file.shape[k] == "{" and bool(re.search(r"(?:^|[^\w])(?:\w+\s*::\s*)*[A-Z]\w*\s*$", file.shape[begin:k]))
+        return False
 
     def rename_proofs(self, file):
         """What a function's own proof says of its calls, by the names of its goals and steps."""
@@ -737,21 +787,30 @@ class Naming:
         place = self.folders.get((file.crate, "/".join(parts).replace("/+", "/")))
         if not place:
             return
+        for it in re.finditer(r"(?<![\w'])(?:[A-Z]\w?|Self)\.([A-Z]\w*)", file.shape):
+            if it[1] in self.trait_names and it.start(1) not in file.edits and (row := self.bound_row(place[0], it[1])):
+                self.put(file, it.start(1), row)
         steps, body = self.steps_of(*place)
+        variables = self.renamed_locals[(place[0].path, place[1])]
         calls = set(re.findall(r"\b([a-z_]\w*)(?=\s*(?:\(|::<))", place[0].shape[body[0] : body[1]])) | {body[2]}
         labels = {label for _, label in self.clauses if any(label in self.labels[it] for it in calls)}
         if not steps and not labels:
             return
         goals = set(re.findall(r"\bgoal\.([\w-]+)", file.shape)) | set(re.findall(r"^(?:pub\s+|abbrev\s+)*([a-z][\w-]*)\s*:\s*goal\.", file.shape, re.MULTILINE))
+        brought = [it for it in file.spans if re.search(r"\.(?:Goals|Given)\.", file.shape[it[0] : it[1]])]
+        for begin, end in brought:
+            goals.update(re.findall(r"[A-Za-z_][\w'-]*", file.shape[begin:end].rpartition("{")[2]))
         for it in re.finditer(r"[A-Za-z_][\w'-]*", file.shape, re.ASCII):
-            if is_in(file.spans, it.start()):
+            if is_in(file.spans, it.start()) and not (is_in(brought, it.start()) and it[0] in goals and re.search(r"[{,+.]\s*$", file.shape[: it.start()][-3:])):
                 continue
             is_member = file.shape[it.start() - 1 : it.start()] == "." and re.match(r"[\w')]", file.shape[it.start() - 2 : it.start() - 1])
             if not is_member and it[0] not in goals:
                 continue
             front = re.search(r"([\w'.-]+)\.$", file.shape[max(0, it.start() - 120) : it.start()])
             after = re.match(r"\.(result|ensures|new|requires|old|true|false|is|was)\b", file.shape[it.end() : it.end() + 12])
-            is_step = it[0] in goals or bool(after) or (front and front[1] in ("c", "l", "goal"))
+            is_step = it[0] in goals or bool(after) or (front and front[1] in ("c", "l", "goal")) or (is_member and "-" in it[0])
+            if it[0] in variables and front and re.search(r"(?:^|\.)(?:args|initial|fn|(?:in|in_ok|in_err|loop|if|match|then|else)[-\w]*)$", front[1]):
+                is_step = True
             offset, words = it.start(), it[0].split("-")
             for k, word in enumerate(words):
                 is_label = (k and words[k - 1] == "clause") or (len(words) == 1 and front and re.search(r"(^|\.)(ensures|requires)$", front[1]))
