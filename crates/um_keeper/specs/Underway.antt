@@ -72,7 +72,7 @@ pub record IsUnderway (layout : Layout) (s : State) (taken : List Input) (past :
 abbrev pub UnderwayIn : State → List Input → Past → Ahead → State → Type 0
 UnderwayIn s taken past a state =
     IsUnderway a.log.layout s taken past a.home.slot a.home.generation a.aside.body.items a.aside.written
-        a.log.generation a.log.number a.log.next a.unsynced state
+    a.log.generation a.log.number a.log.next a.unsynced state
 
 -- and where nothing is to be synced
 abbrev pub SettledIn : State → List Input → Past → Ahead → State → Type 0
@@ -137,7 +137,7 @@ pub record Takes (size : ℕ) (old new : Ahead) (before now : ℕ) (s : State) (
   pub stays : rises ≡ 0 → is_renewing new ≡ is_renewing old
   pub begins : is_renewing old ≡ false → rises ≤ 1 → now ≤ before + sectors + rises
   pub fits : old.log.next + sectors ≤ log_end old.log.layout old.log.generation
-    → (rises ≡ 0) × (new.log.next ≤ old.log.next + sectors) × (now ≤ before + sectors)
+      → (rises ≡ 0) × (new.log.next ≤ old.log.next + sectors) × (now ≤ before + sectors)
   pub free : (from : ℕ) → IsFreeAt old.log from → IsFreeAt new.log (from + sectors)
   pub spent : (generation from : ℕ) → new.log.generation ≤ generation → IsFreeAt old.log from → (more : List Input) (rest : List Answer)
       → AreSpentAt old.log.layout generation size (from + sectors) t more rest
